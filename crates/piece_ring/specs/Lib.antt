@@ -1,0 +1,5 @@
+pub mod Flat
+pub mod Look
+pub mod Nodes
+pub mod Ownership
+pub mod Text
