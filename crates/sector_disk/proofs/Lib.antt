@@ -1,0 +1,3 @@
+pub mod Replay
+pub mod Touching
+pub mod Confinement

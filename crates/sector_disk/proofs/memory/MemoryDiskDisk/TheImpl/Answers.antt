@@ -1,0 +1,20 @@
+use Rattle.sector_disk.specs.declared.memory.Call.TheVariants.{Write, Sync}
+use Rattle.sector_disk.specs.Trail.{Nowhere, Only}
+use Rattle.sector_disk.proofs.Replay.{confined, happened, nothing_happened, write_stays, sync_stays}
+use Rattle.sector_disk.proofs.memory.MemoryDiskDisk.TheImpl.Goals as goal
+
+pub write-tells : goal.write-tells
+write-tells c =
+    let call = Write c.args.n c.args.bytes.now in record {
+      kept = confined c.result (Only c.args.n) c.args.self.now c.new.self.now call c.ensures.size c.ensures.recorded c.ensures.refused (λ m. write_stays m c.args.n c.args.bytes.now);
+      cause = c.ensures.cause;
+      written = happened c.result c.args.self.now.calls c.new.self.now.calls call c.ensures.recorded;
+    }
+
+pub sync-tells : goal.sync-tells
+sync-tells c = record {
+  kept = confined c.result Nowhere c.args.self.now c.new.self.now Sync c.ensures.size c.ensures.recorded c.ensures.refused sync_stays;
+  cause = c.ensures.cause;
+  settled = happened c.result c.args.self.now.calls c.new.self.now.calls Sync c.ensures.recorded;
+  unsettled = nothing_happened c.result c.args.self.now.calls c.new.self.now.calls c.ensures.refused;
+}
