@@ -1,0 +1,67 @@
+//! What an event can put into a file.
+ghost use Rattle.std.specs.Prelude.{◌≡◌, Some, None, IsTrue, if◌then◌else◌};
+ghost use Rattle.std.specs.List.{list_all};
+ghost use Rattle.event_bytes.specs.Bytes.{is_text_byte as text_byte, is_file_bytes as file_bytes};
+
+use arrayvec::ArrayVec;
+use std::marker::Model;
+
+/// The bytes that one event puts into a file: 0 to 900, each a tabulator (9), a carriage return (13) or from the space to the tilde (32 to 126).
+///
+/// A clause sees the list of them.
+#[derive(Clone, Debug, PartialEq, Eq, Drop)]
+pub struct FileBytes {
+    bytes: ArrayVec<u8, 900>,
+}
+
+impl Model for FileBytes {
+    ghost use Rattle.std.specs.Prelude.{ℕ, List, IsTrue};
+    ghost use Rattle.event_bytes.specs.Bytes.{is_file_bytes};
+
+    ghost Value = { List ℕ };
+
+    ghost view = { λ f. f.bytes.items };
+
+    ghost invariant = { λ f. IsTrue (is_file_bytes f.bytes.items) };
+
+    ghost inverse = { λ bytes. record { bytes = record { items = bytes } } };
+}
+
+impl FileBytes {
+    /// These bytes, where a file can have them and they are at most 900; else None.
+    pub fn new(bytes: &[u8]) -> Option<FileBytes>
+        ensures { result ≡ (if file_bytes bytes.now then Some bytes.now else None) }
+    {
+        if !is_file_bytes(bytes) {
+            return None;
+        }
+        let bytes = ArrayVec::try_from(bytes).ok()?;
+        Some(FileBytes { bytes })
+    }
+
+    /// The bytes.
+    pub fn as_bytes(&self) -> &[u8]
+        ensures value { result.now ≡ self.now }
+        ensures valid { IsTrue (file_bytes self.now) }
+    {
+        self.bytes.as_slice()
+    }
+}
+
+fn is_file_bytes(bytes: &[u8]) -> bool
+    ensures { result ≡ file_bytes bytes.now }
+{
+    bytes.len() <= 900 && are_text_bytes(bytes)
+}
+
+fn are_text_bytes(bytes: &[u8]) -> bool
+    ensures { result ≡ list_all text_byte bytes.now }
+{
+    bytes.iter().all(|byte| is_text_byte(*byte))
+}
+
+fn is_text_byte(byte: u8) -> bool
+    ensures { result ≡ text_byte byte }
+{
+    matches!(byte, 9 | 13 | 32..=126)
+}

@@ -1,0 +1,57 @@
+//! The bytes of an event.
+ghost use Rattle.std.specs.Prelude.{◌≡◌, ◌+◌, ◌<◌, ◌≤◌, ◌^◌, ◌++◌, length};
+ghost use Rattle.arrayvec.specs.ArrayVec.{array_vec_len};
+ghost use Rattle.event_bytes.specs.Parts.{byte, word, counted};
+ghost use Rattle.event_bytes.specs.Spelling.{IsEvent, spelling};
+
+use crate::event::Event;
+use arrayvec::ArrayVec;
+
+/// An event's bytes, or as many of them as are written.
+type Written = ArrayVec<u8, 935>;
+
+impl Event {
+    /// The bytes that spell the event.
+    #[tactic(auto, unfolding(crate::specs::Spelling::spelling))]
+    pub fn encode(&self) -> ArrayVec<u8, 935>
+        ensures spelled { result.items ≡ spelling self.now }
+        ensures valid { IsEvent self.now }
+    {
+        let mut written = Written::new();
+        match self {
+            Event::File { name, bytes } => {
+                written.push(5);
+                put_name(&mut written, name.as_bytes());
+                put_long(&mut written, bytes.as_bytes());
+            }
+        }
+        written
+    }
+}
+
+/// Adds a name, behind its length in one byte.
+fn put_name(written: &mut Written, name: &[u8])
+    requires short { length name.now < 2 ^ 8 }
+    requires room { array_vec_len written.old + 1 + length name.now ≤ 935 }
+    ensures { written.new.items ≡ written.old.items ++ counted byte name.now }
+{
+    written.push(name.len() as u8);
+    put(written, name);
+}
+
+/// Adds bytes, behind their number in two bytes.
+fn put_long(written: &mut Written, bytes: &[u8])
+    requires short { length bytes.now < 2 ^ 16 }
+    requires room { array_vec_len written.old + 2 + length bytes.now ≤ 935 }
+    ensures { written.new.items ≡ written.old.items ++ counted word bytes.now }
+{
+    put(written, &(bytes.len() as u16).to_be_bytes());
+    put(written, bytes);
+}
+
+fn put(written: &mut Written, bytes: &[u8])
+    requires { array_vec_len written.old + length bytes.now ≤ 935 }
+    ensures { written.new.items ≡ written.old.items ++ bytes.now }
+{
+    written.try_extend_from_slice(bytes).unwrap();
+}

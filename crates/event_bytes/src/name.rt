@@ -1,0 +1,82 @@
+//! Names of files.
+ghost use Rattle.std.specs.Prelude.{◌≡◌, Some, None, IsTrue, if◌then◌else◌};
+ghost use Rattle.std.specs.List.{list_all};
+ghost use Rattle.event_bytes.specs.Bytes.{is_letter as letter, is_name_byte as name_byte, begins_with_letter as letter_first, is_name as names};
+
+use arrayvec::ArrayVec;
+use std::marker::Model;
+
+/// A file's name: a letter, and then letters, digits and periods, 1 to 31 bytes in all. A letter is A to Z or a to z.
+///
+/// A clause sees the list of its bytes. Names are ordered byte by byte, a name before its longer ones.
+#[derive(Clone, Debug, PartialEq, Eq, PartialOrd, Ord, Drop)]
+pub struct Name {
+    bytes: ArrayVec<u8, 31>,
+}
+
+impl Model for Name {
+    ghost use Rattle.std.specs.Prelude.{ℕ, List, IsTrue};
+    ghost use Rattle.event_bytes.specs.Bytes.{is_name};
+
+    ghost Value = { List ℕ };
+
+    ghost view = { λ n. n.bytes.items };
+
+    ghost invariant = { λ n. IsTrue (is_name n.bytes.items) };
+
+    ghost inverse = { λ bytes. record { bytes = record { items = bytes } } };
+}
+
+impl Name {
+    /// The name of these bytes, where they are one; else None.
+    pub fn new(bytes: &[u8]) -> Option<Name>
+        ensures { result ≡ (if names bytes.now then Some bytes.now else None) }
+    {
+        if !is_name(bytes) {
+            return None;
+        }
+        let bytes = ArrayVec::try_from(bytes).ok()?;
+        Some(Name { bytes })
+    }
+
+    /// Its bytes.
+    pub fn as_bytes(&self) -> &[u8]
+        ensures value { result.now ≡ self.now }
+        ensures valid { IsTrue (names self.now) }
+    {
+        self.bytes.as_slice()
+    }
+}
+
+fn is_name(bytes: &[u8]) -> bool
+    ensures { result ≡ names bytes.now }
+{
+    bytes.len() <= 31 && begins_with_letter(bytes) && are_name_bytes(bytes)
+}
+
+fn are_name_bytes(bytes: &[u8]) -> bool
+    ensures { result ≡ list_all name_byte bytes.now }
+{
+    bytes.iter().all(|byte| is_name_byte(*byte))
+}
+
+fn begins_with_letter(bytes: &[u8]) -> bool
+    ensures { result ≡ letter_first bytes.now }
+{
+    match bytes.first() {
+        None => false,
+        Some(first) => is_letter(*first),
+    }
+}
+
+fn is_letter(byte: u8) -> bool
+    ensures { result ≡ letter byte }
+{
+    byte.is_ascii_alphabetic()
+}
+
+fn is_name_byte(byte: u8) -> bool
+    ensures { result ≡ name_byte byte }
+{
+    byte.is_ascii_alphanumeric() || byte == b'.'
+}
