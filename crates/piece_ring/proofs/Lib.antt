@@ -1,5 +1,9 @@
 pub mod Blocks
+pub mod Dividing
+pub mod Joins
 pub mod Memory
 pub mod Places
+pub mod Runs
+pub mod Seams
 pub mod Sharing
 pub mod Steps

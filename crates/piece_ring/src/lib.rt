@@ -2,7 +2,9 @@
 #![tactic(auto)]
 
 mod chain;
+mod list;
 mod piece;
+mod place;
 
 pub use piece::{Look, Piece};
 pub use std::alloc::AllocError as NoMemory;

@@ -1,0 +1,232 @@
+//! A list of pieces in a chain of nodes: first the trailer, a node without characters, then a node for each piece.
+//! This layer has no raw pointer: it names nodes by their spots and indexes, and goes through the calls of `Chain`.
+ghost use Rattle.std.specs.Prelude.{◌≡◌, ◌+◌, ◌-◌, ◌<◌, ◌≤◌, ◌∷◌, [], ◌++◌, length, Some, slice_get, IfOk, OnErr, MatchOption};
+ghost use Rattle.piece_ring.specs.declared.place.Seam.{Seam as ASeam};
+ghost use Rattle.piece_ring.specs.Flat.{flat, IsWhole};
+ghost use Rattle.piece_ring.specs.Nodes.{places, pieces};
+ghost use Rattle.piece_ring.specs.Place.{pieces_of, text_of, IsSeam, IsFound, IsPlace};
+ghost use Rattle.piece_ring.specs.PieceList.{IsPieceList, IsStretch};
+ghost use Rattle.piece_ring.specs.Text.{inserted, deleted, stretch};
+
+use crate::chain::{Chain, Spot};
+use crate::piece::{Look, Piece};
+use crate::place::{Found, Place, Seam};
+use std::alloc::{AllocError, Global};
+
+/// A node that belongs to no list yet: memory that was taken before anything is changed.
+pub(crate) struct Spare {
+    pub(crate) chain: Chain,
+    pub(crate) at: Spot,
+    pub(crate) alloc: Global,
+    ghost only: { length chain.nodes ≡ 1 },
+    ghost lies: { slice_get (places chain.nodes) 0 ≡ Some at.ptr },
+}
+
+/// Pieces on their way between lists: at least one, without a trailer.
+pub(crate) struct Stretch {
+    pub(crate) chain: Chain,
+    pub(crate) first: Spot,
+    pub(crate) count: usize,
+    pub(crate) len: u32,
+    ghost sound: { IsStretch chain.nodes first.ptr count len },
+}
+
+/// The trailer and the nodes of the pieces, with the number of the pieces and of their characters.
+pub(crate) struct PieceList {
+    pub(crate) chain: Chain,
+    pub(crate) trailer: Spot,
+    pub(crate) count: usize,
+    pub(crate) len: u32,
+    ghost sound: { IsPieceList chain.nodes trailer.ptr count len },
+}
+
+impl Spare {
+    pub(crate) fn new(alloc: Global) -> Result<Spare, AllocError> {
+        let none = Piece {
+            off: 0,
+            len: 0,
+            look: Look {
+                font: 0,
+                colour: 0,
+                voff: 0,
+            },
+        };
+        let (chain, at) = Chain::single(&alloc, none)?;
+        Ok(Spare { chain, at, alloc })
+    }
+
+    /// The node, and where it lies.
+    pub(crate) fn into_node(self) -> (Chain, Spot)
+        ensures only { length result.0.nodes ≡ 1 }
+        ensures lies { slice_get (places result.0.nodes) 0 ≡ Some result.1.ptr }
+    {
+        let Spare {
+            chain,
+            at,
+            alloc: _,
+        } = self;
+        (chain, at)
+    }
+}
+
+impl Drop for Spare {
+    fn drop(self) {
+        let Spare { chain, at, alloc } = self;
+        chain.free(&alloc, at);
+    }
+}
+
+impl PieceList {
+    /// A list without pieces, whose trailer is the spare node.
+    pub(crate) fn new(spare: Spare) -> PieceList
+        ensures { pieces_of result.chain.nodes ≡ [] }
+    {
+        let (chain, trailer) = spare.into_node();
+        PieceList {
+            chain,
+            trailer,
+            count: 0,
+            len: 0,
+        }
+    }
+
+    /// The seam before the first piece.
+    pub(crate) fn start(&self) -> Seam
+        ensures seam { IsSeam self.now.chain.nodes result }
+        ensures first { result.pos ≡ 0 }
+    {
+        Seam {
+            at: self.trailer,
+            index: 0,
+            pos: 0,
+        }
+    }
+
+    /// The seam behind the last piece.
+    pub(crate) fn end(&self) -> Seam
+        ensures seam { IsSeam self.now.chain.nodes result }
+        ensures last { result.pos ≡ self.now.len }
+    {
+        Seam {
+            at: self.chain.prev(self.trailer, 0),
+            index: self.count,
+            pos: self.len,
+        }
+    }
+
+    /// The seam behind the piece that follows `seam`.
+    pub(crate) fn step(&self, seam: Seam) -> Seam
+        requires seam { IsSeam self.now.chain.nodes seam }
+        requires more { seam.pos < self.now.len }
+        ensures behind { IsSeam self.now.chain.nodes result }
+        ensures next { result.index ≡ seam.index + 1 }
+    {
+        let at = self.chain.next(seam.at, seam.index);
+        let index = seam.index + 1;
+        let piece = self.chain.piece(at, index);
+        Seam {
+            at,
+            index,
+            pos: seam.pos + piece.len,
+        }
+    }
+
+    /// The piece that has the character at `pos`.
+    pub(crate) fn find(&self, pos: u32) -> Found
+        requires { pos < self.now.len }
+        ensures { IsFound self.now.chain.nodes pos result }
+    {
+        let mut before = self.start();
+        let mut behind = self.step(before);
+        while behind.pos <= pos {
+            before = behind;
+            behind = self.step(before);
+        }
+        Found { before, behind }
+    }
+
+    /// The seam at `pos`, or the piece that has it inside.
+    pub(crate) fn place(&self, pos: u32) -> Place
+        requires { pos ≤ self.now.len }
+        ensures { IsPlace self.now.chain.nodes pos result }
+    {
+        if pos == self.len {
+            return Place::Between(self.end());
+        }
+        let found = self.find(pos);
+        if found.before.pos == pos {
+            return Place::Between(found.before);
+        }
+        Place::Inside(found)
+    }
+
+    /// Cuts a piece in two at `pos`, inside it. The spare node takes the second part.
+    fn divide(&mut self, pos: u32, found: Found, spare: Spare) -> Seam
+        requires found { IsFound self.old.chain.nodes pos found }
+        requires inside { found.before.pos < pos }
+        ensures same { text_of self.new.chain.nodes ≡ text_of self.old.chain.nodes }
+        ensures long { self.new.len ≡ self.old.len }
+        ensures seam { IsSeam self.new.chain.nodes result }
+        ensures at { result.pos ≡ pos }
+        ensures kept { (s : ASeam) → s.pos ≤ pos → IsSeam self.old.chain.nodes s → IsSeam self.new.chain.nodes s }
+    {
+        let Seam { at, index, pos: _ } = found.behind;
+        let keep = pos - found.before.pos;
+        let Piece { off, len, look } = self.chain.piece(at, index);
+        let (mut node, second) = spare.into_node();
+        node.set_piece(
+            second,
+            0,
+            Piece {
+                off: off + keep,
+                len: len - keep,
+                look,
+            },
+        );
+        self.chain.set_piece(
+            at,
+            index,
+            Piece {
+                off,
+                len: keep,
+                look,
+            },
+        );
+        self.chain.join(at, index, node, second);
+        self.count += 1;
+        Seam { at, index, pos }
+    }
+
+    /// The seam at `pos`. Where it takes a node to cut a piece there, the node is taken before anything is changed.
+    pub(crate) fn seam_at(&mut self, alloc: Global, pos: u32) -> Result<Seam, AllocError>
+        requires { pos ≤ self.old.len }
+        ensures same { text_of self.new.chain.nodes ≡ text_of self.old.chain.nodes }
+        ensures long { self.new.len ≡ self.old.len }
+        ensures seam { IfOk result (IsSeam self.new.chain.nodes) }
+        ensures at { IfOk result (λ s. s.pos ≡ pos) }
+        ensures refused { OnErr result (self.new.chain.nodes ≡ self.old.chain.nodes) }
+    {
+        match self.place(pos) {
+            Place::Between(seam) => Ok(seam),
+            Place::Inside(found) => {
+                let spare = Spare::new(alloc)?;
+                Ok(self.divide(pos, found, spare))
+            }
+        }
+    }
+
+    /// The seam at `pos`, with the spare node to cut a piece there.
+    pub(crate) fn seam_with(&mut self, pos: u32, spare: Spare) -> Seam
+        requires { pos ≤ self.old.len }
+        ensures same { text_of self.new.chain.nodes ≡ text_of self.old.chain.nodes }
+        ensures long { self.new.len ≡ self.old.len }
+        ensures seam { IsSeam self.new.chain.nodes result }
+        ensures at { result.pos ≡ pos }
+        ensures kept { (s : ASeam) → s.pos ≤ pos → IsSeam self.old.chain.nodes s → IsSeam self.new.chain.nodes s }
+    {
+        match self.place(pos) {
+            Place::Between(seam) => seam,
+            Place::Inside(found) => self.divide(pos, found, spare),
+        }
+    }
+}
