@@ -1,0 +1,6 @@
+pub mod Limits
+pub mod Desktop
+pub mod Step
+pub mod Sound
+pub mod Listing
+pub mod Flat

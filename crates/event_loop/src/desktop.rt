@@ -1,0 +1,120 @@
+//! The desktop.
+ghost use Rattle.std.specs.Prelude.{◌≡◌, ℕ, List, ◌+◌, ◌-◌, ◌≤◌, ◌&&◌, ◌++◌, [], ◌∷◌, nat_le, length, map, IfOk, OnOk, OnErr, IsErrOf, option_map};
+ghost use Rattle.std.specs.Option.{option_map_or};
+ghost use Rattle.event_bytes.specs.declared.event.Event.TheVariants.{File};
+ghost use Rattle.event_loop.specs.Desktop.{empty_desktop, file_of, has_file_room as room_for_file, with_file, more_written, held};
+ghost use Rattle.event_loop.specs.Limits.{most_written, most_held};
+ghost use Rattle.event_loop.specs.Step.{step, fits};
+ghost use Rattle.event_loop.specs.Sound.{IsSound};
+ghost use Rattle.event_loop.specs.Listing.{entries_of, file_entry};
+
+use crate::entry::Entry;
+use crate::files::{Files, bytes_of, entries, has_room, held, put};
+use crate::reply::{Reply, codes};
+use crate::stop::{NoMemory, Stop};
+use event_bytes::{Event, FileBytes, Name};
+use std::alloc::Global;
+use std::collections::BTreeMap;
+use std::marker::Model;
+
+const MOST_WRITTEN: usize = 4_194_304;
+
+const MOST_HELD: usize = 262_144;
+
+/// A desktop: files by name, and how many characters were ever written.
+///
+/// A clause sees the record of the same name in `specs/Desktop.antt`.
+#[derive(Drop)]
+pub struct Desktop {
+    files: Files,
+    written: u32,
+}
+
+impl Model for Desktop {
+    ghost use Rattle.event_loop.specs.Desktop.{Desktop as Value_of};
+
+    ghost Value = { Value_of };
+
+    ghost use Rattle.event_loop.specs.Sound.{IsSound};
+    ghost use Rattle.event_loop.specs.Flat.{flat};
+
+    ghost view = { λ d. flat d.files.entries d.written };
+
+    ghost invariant = { λ d. IsSound (flat d.files.entries d.written) };
+}
+
+impl Desktop {
+    /// The empty desktop: no file, nothing written.
+    pub fn empty(alloc: Global) -> Result<Desktop, NoMemory>
+        ensures { IfOk result (λ d. d ≡ empty_desktop) }
+    {
+        Ok(Desktop {
+            files: BTreeMap::new(alloc),
+            written: 0,
+        })
+    }
+
+    /// What the event does. After an error the desktop is as it was.
+    pub fn step(&mut self, alloc: Global, event: &Event) -> Result<Reply, Stop>
+        ensures done { IfOk result (λ reply. (self.new, reply) ≡ step self.old event.now) }
+        ensures refused { OnErr result (self.new ≡ self.old) }
+        ensures never_fault { ¬ IsErrOf result Stop.Fault }
+    {
+        match event {
+            Event::File { name, bytes } => self.put_file(alloc, name, bytes),
+        }
+    }
+
+    /// The file of that name becomes these bytes.
+    fn put_file(&mut self, alloc: Global, name: &Name, bytes: &FileBytes) -> Result<Reply, Stop>
+        ensures done { IfOk result (λ reply. (self.new, reply) ≡ step self.old (File name.now bytes.now)) }
+        ensures refused { OnErr result (self.new ≡ self.old) }
+        ensures never_fault { ¬ IsErrOf result Stop.Fault }
+    {
+        let bytes = bytes.as_bytes();
+        if !has_room(&self.files, name) {
+            return Ok(Reply::No(codes::TOO_MANY_FILES));
+        }
+        if !self.fits_with(name, bytes.len()) {
+            return Ok(Reply::No(codes::FULL));
+        }
+        put(&mut self.files, alloc, name, bytes)?;
+        self.written += bytes.len() as u32;
+        Ok(Reply::Done)
+    }
+
+    /// Whether the limits on characters hold once the file of that name has that length.
+    fn fits_with(&self, name: &Name, len: usize) -> bool
+        requires { len ≤ 900 }
+        ensures { (bytes : List ℕ) → length bytes ≡ len → result ≡ fits (more_written (with_file self.now name.now bytes) len) }
+    {
+        let old = bytes_of(&self.files, name).map_or(0, |bytes| bytes.len());
+        self.written as usize + len <= MOST_WRITTEN && held(&self.files) + len <= MOST_HELD + old
+    }
+
+    /// The bytes of the file of that name; None where there is no file of that name.
+    pub fn file(&self, name: &Name) -> Option<&[u8]>
+        ensures { option_map (λ bytes. bytes.now) result ≡ file_of self.now name.now }
+    {
+        bytes_of(&self.files, name)
+    }
+
+    /// An entry for each file, by rising names, and at last one for how much was written.
+    pub fn list(&mut self, alloc: Global) -> Result<Vec<Entry>, Stop>
+        ensures entries { IfOk result (λ entries. entries.items ≡ entries_of self.old) }
+        ensures unchanged { self.new ≡ self.old }
+        ensures never_fault { ¬ IsErrOf result Stop.Fault }
+    {
+        let mut entries = entries(alloc, &self.files)?;
+        entries.push(Entry::Written(self.written))?;
+        Ok(entries)
+    }
+
+    /// How many characters were ever written, at most 4,194,304.
+    pub fn written(&self) -> u32
+        ensures value { result ≡ self.now.written }
+        ensures sound { IsSound self.now }
+    {
+        self.written
+    }
+}

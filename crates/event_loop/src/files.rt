@@ -1,0 +1,64 @@
+//! Files by name, as a desktop keeps them.
+ghost use Rattle.std.specs.Prelude.{◌≡◌, ◌+◌, ◌≤◌, ◌||◌, ◌++◌, length, map, nat_lt, is_some, option_map, sum_by, OnOk, OnErr, IfOk, IsErrOf};
+ghost use Rattle.std.specs.Map.{lookup};
+ghost use Rattle.std.specs.BTreeMap.{is_at, insert_entry};
+ghost use Rattle.event_loop.specs.Desktop.{name_cmp};
+ghost use Rattle.event_loop.specs.Flat.{files_in};
+ghost use Rattle.event_loop.specs.Listing.{file_entry};
+ghost use Rattle.event_loop.specs.declared.stop.Stop.TheVariants as stops;
+
+use crate::entry::Entry;
+use crate::stop::Stop;
+use event_bytes::Name;
+use std::alloc::Global;
+use std::collections::BTreeMap;
+
+pub type Files = BTreeMap<Name, Vec<u8>>;
+
+/// The bytes of the file of that name.
+pub fn bytes_of<'a>(files: &'a Files, name: &Name) -> Option<&'a [u8]>
+    ensures { option_map (λ bytes. bytes.now) result ≡ lookup (is_at (name_cmp name.now)) (files_in files.now.entries) }
+{
+    Some(files.get(name)?.as_slice())
+}
+
+/// Whether there is a file of that name, or room for one more.
+pub fn has_room(files: &Files, name: &Name) -> bool
+    ensures { result ≡ (is_some (lookup (is_at (name_cmp name.now)) (files_in files.now.entries)) || nat_lt (length (files_in files.now.entries)) 256) }
+{
+    files.contains_key(name) || files.len() < 256
+}
+
+/// How many characters the files hold.
+pub fn held(files: &Files) -> usize
+    requires { sum_by (λ file. length file.1) (files_in files.now.entries) ≤ 262144 }
+    ensures { result ≡ sum_by (λ file. length file.1) (files_in files.now.entries) }
+{
+    files.values().map(|bytes| bytes.len()).sum()
+}
+
+/// The file of that name becomes these bytes. After an error the files are as they were.
+pub fn put(files: &mut Files, alloc: Global, name: &Name, bytes: &[u8]) -> Result<(), Stop>
+    ensures put { OnOk result (files_in files.new.entries ≡ insert_entry name_cmp (files_in files.old.entries) name.now bytes.now) }
+    ensures refused { OnErr result (files.new.entries ≡ files.old.entries) }
+    ensures never_fault { ¬ IsErrOf result stops.Fault }
+{
+    let bytes = bytes.to_vec(alloc)?;
+    files.insert(name.clone()?, bytes)?;
+    Ok(())
+}
+
+/// An entry for each file, by rising names.
+pub fn entries(alloc: Global, files: &Files) -> Result<Vec<Entry>, Stop>
+    ensures entries { IfOk result (λ entries. entries.items ≡ map file_entry (files_in files.now.entries)) }
+    ensures never_fault { ¬ IsErrOf result stops.Fault }
+{
+    let mut entries = Vec::new(alloc);
+    for (name, bytes) in files {
+        entries.push(Entry::File {
+            name: name.clone()?,
+            len: bytes.len() as u32,
+        })?;
+    }
+    Ok(entries)
+}

@@ -1,0 +1,17 @@
+//! The desktop, and what events do to it.
+//!
+//! A desktop is a fold over events. It is told here as files by name; `step` is what one event does to it, and what it answers.
+#![tactic(auto)]
+
+mod desktop;
+mod entry;
+mod files;
+mod laws;
+mod reply;
+mod stop;
+
+pub use desktop::Desktop;
+pub use entry::Entry;
+pub use laws::{empty_is_sound, step_keeps_sound, steps_of_more};
+pub use reply::{Reply, codes};
+pub use stop::{NoMemory, Stop};
