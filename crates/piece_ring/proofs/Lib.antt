@@ -2,6 +2,7 @@ pub mod Blocks
 pub mod Dividing
 pub mod Joins
 pub mod Memory
+pub mod Moving
 pub mod Places
 pub mod Runs
 pub mod Seams

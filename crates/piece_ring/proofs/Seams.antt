@@ -7,7 +7,7 @@ use Rattle.piece_ring.specs.declared.place.Seam.{Seam}
 use Rattle.piece_ring.specs.Flat.{flat, IsWhole}
 use Rattle.piece_ring.specs.Nodes.{places, pieces}
 use Rattle.piece_ring.specs.Place.{pieces_of, text_of, IsSeam, IsFound}
-use Rattle.piece_ring.specs.PieceList.{IsPieceList}
+use Rattle.piece_ring.specs.PieceList.{IsPieceList, IsStretch}
 use Rattle.piece_ring.proofs.Runs.{length-flat-cons, length-flat-cut, take-flat, drop-flat, length-flat-next, index_below}
 
 pub seam-take : (ns : List (Ptr × Piece)) (s : Seam) → IsSeam ns s → take s.pos (text_of ns) ≡ flat (take s.index (pieces_of ns))
@@ -56,3 +56,6 @@ count_fits (p ∷ ps) h =
 
 pub few_pieces : (ns : List (Ptr × Piece)) (trailer : Ptr) (count len : ℕ) → IsPieceList ns trailer count len → count ≤ len
 few_pieces ns trailer count len v = let r = count_fits (pieces_of ns) v.whole in let n = piece_count ns trailer count len v in let long = v.measured in omega arith
+
+pub few_taken : (ns : List (Ptr × Piece)) (first : Ptr) (count len : ℕ) → IsStretch ns first count len → count ≤ len
+few_taken ns first count len v = let r = count_fits (pieces ns) v.whole in let n = length-map ns (λ (m : Ptr × Piece). m.1) in let long = v.measured in let c = v.counted in omega arith

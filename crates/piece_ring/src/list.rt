@@ -1,6 +1,6 @@
 //! A list of pieces in a chain of nodes: first the trailer, a node without characters, then a node for each piece.
 //! This layer has no raw pointer: it names nodes by their spots and indexes, and goes through the calls of `Chain`.
-ghost use Rattle.std.specs.Prelude.{◌≡◌, ◌+◌, ◌-◌, ◌<◌, ◌≤◌, ◌∷◌, [], ◌++◌, length, Some, slice_get, IfOk, OnErr, MatchOption};
+ghost use Rattle.std.specs.Prelude.{◌≡◌, ◌+◌, ◌-◌, ◌<◌, ◌≤◌, ◌∷◌, [], ◌++◌, ◌^◌, length, Some, slice_get, IfOk, OnErr, MatchOption};
 ghost use Rattle.piece_ring.specs.declared.place.Seam.{Seam as ASeam};
 ghost use Rattle.piece_ring.specs.Flat.{flat, IsWhole};
 ghost use Rattle.piece_ring.specs.Nodes.{places, pieces};
@@ -228,5 +228,77 @@ impl PieceList {
             Place::Between(seam) => seam,
             Place::Inside(found) => self.divide(pos, found, spare),
         }
+    }
+
+    /// Puts pieces in at `seam`.
+    pub(crate) fn insert(&mut self, seam: Seam, other: Stretch)
+        requires seam { IsSeam self.old.chain.nodes seam }
+        requires fits { self.old.len + other.len < 2 ^ 32 }
+        ensures text { text_of self.new.chain.nodes ≡ inserted seam.pos (flat (pieces other.chain.nodes)) (text_of self.old.chain.nodes) }
+    {
+        let Stretch {
+            chain,
+            first,
+            count,
+            len,
+        } = other;
+        self.chain.join(seam.at, seam.index, chain, first);
+        self.count += count;
+        self.len += len;
+    }
+
+    /// Takes the pieces between two seams out.
+    pub(crate) fn take_out(&mut self, from: Seam, upto: Seam) -> Stretch
+        requires from { IsSeam self.old.chain.nodes from }
+        requires upto { IsSeam self.old.chain.nodes upto }
+        requires order { from.pos < upto.pos }
+        ensures text { text_of self.new.chain.nodes ≡ deleted from.pos upto.pos (text_of self.old.chain.nodes) }
+        ensures taken { flat (pieces result.chain.nodes) ≡ stretch from.pos upto.pos (text_of self.old.chain.nodes) }
+    {
+        let first = self.chain.next(from.at, from.index);
+        let chain = self.chain.split(from.at, from.index, upto.at, upto.index);
+        let count = upto.index - from.index;
+        let len = upto.pos - from.pos;
+        self.count -= count;
+        self.len -= len;
+        Stretch {
+            chain,
+            first,
+            count,
+            len,
+        }
+    }
+
+    /// The pieces, or None if there are none. The trailer is freed.
+    pub(crate) fn into_stretch(mut self, alloc: &Global) -> Option<Stretch>
+        ensures { MatchOption result (text_of self.chain.nodes ≡ []) (λ s. flat (pieces s.chain.nodes) ≡ text_of self.chain.nodes) }
+    {
+        if self.len == 0 {
+            self.destroy(alloc);
+            return None;
+        }
+        let from = self.start();
+        let upto = self.end();
+        let all = self.take_out(from, upto);
+        self.destroy(alloc);
+        Some(all)
+    }
+
+    /// Frees all nodes, and says how many there were.
+    pub(crate) fn destroy(self, alloc: &Global) -> usize
+        ensures { result ≡ length self.chain.nodes }
+    {
+        let PieceList {
+            mut chain,
+            trailer,
+            count,
+            len: _,
+        } = self;
+        for _ in 0..count {
+            let first = chain.next(trailer, 0);
+            chain.split(trailer, 0, first, 1).free(alloc, first);
+        }
+        chain.free(alloc, trailer);
+        count + 1
     }
 }
