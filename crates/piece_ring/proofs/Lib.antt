@@ -1,6 +1,7 @@
 pub mod Blocks
 pub mod Dividing
 pub mod Joins
+pub mod Looks
 pub mod Memory
 pub mod Moving
 pub mod Places

@@ -1,5 +1,5 @@
 -- The nodes of a chain as proofs see them: where each lies, and what it holds.
-use Rattle.std.specs.Prelude.{ℕ, zero, suc, List, [], ◌∷◌, map}
+use Rattle.std.specs.Prelude.{ℕ, zero, suc, List, [], ◌∷◌, ◌++◌, map, take, drop, slice_range}
 use denote.RawPtr.{Ptr}
 
 module _ {X : Type 0} where
@@ -14,3 +14,7 @@ module _ {X : Type 0} where
   with_piece [] i x = []
   with_piece (n ∷ ns) zero x = (n.0, x) ∷ ns
   with_piece (n ∷ ns) (suc i) x = n ∷ with_piece ns i x
+
+  -- a list with f of the elements from the index a up to before b
+  abbrev pub with_range : ℕ → ℕ → (X → X) → List X → List X
+  with_range a b f xs = take a xs ++ (map f (slice_range xs a b) ++ drop b xs)

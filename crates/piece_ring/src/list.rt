@@ -2,8 +2,8 @@
 //! This layer has no raw pointer: it names nodes by their spots and indexes, and goes through the calls of `Chain`.
 ghost use Rattle.std.specs.Prelude.{◌≡◌, ◌+◌, ◌-◌, ◌<◌, ◌≤◌, ◌∷◌, [], ◌++◌, ◌^◌, length, Some, slice_get, IfOk, OnErr, MatchOption};
 ghost use Rattle.piece_ring.specs.declared.place.Seam.{Seam as ASeam};
-ghost use Rattle.piece_ring.specs.Flat.{flat, IsWhole};
-ghost use Rattle.piece_ring.specs.Nodes.{places, pieces};
+ghost use Rattle.piece_ring.specs.Flat.{flat, relooked_piece};
+ghost use Rattle.piece_ring.specs.Nodes.{places, pieces, with_range};
 ghost use Rattle.piece_ring.specs.Place.{pieces_of, text_of, IsSeam, IsFound, IsPlace};
 ghost use Rattle.piece_ring.specs.PieceList.{IsPieceList, IsStretch};
 ghost use Rattle.piece_ring.specs.Text.{inserted, deleted, stretch};
@@ -38,6 +38,26 @@ pub(crate) struct PieceList {
     pub(crate) count: usize,
     pub(crate) len: u32,
     ghost sound: { IsPieceList chain.nodes trailer.ptr count len },
+}
+
+/// Changes the looks of the pieces behind the node of index `i` up to that of index `j`.
+fn relook(chain: &mut Chain, at: Spot, i: usize, j: usize, sel: u8, look: Look)
+    requires at { slice_get (places chain.old.nodes) i ≡ Some at.ptr }
+    requires order { i ≤ j }
+    requires within { j < length chain.old.nodes }
+    ensures lie { places chain.new.nodes ≡ places chain.old.nodes }
+    ensures relooked { pieces chain.new.nodes ≡ with_range (i + 1) (j + 1) (relooked_piece sel look) (pieces chain.old.nodes) }
+{
+    let mut node = at;
+    for index in i..j {
+        node = chain.next(node, index);
+        let piece = chain.piece(node, index + 1);
+        let changed = Piece {
+            look: piece.look.relooked(sel, look),
+            ..piece
+        };
+        chain.set_piece(node, index + 1, changed);
+    }
 }
 
 impl Spare {

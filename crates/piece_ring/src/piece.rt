@@ -1,4 +1,6 @@
 //! Looks, and stretches of the file in one look. Plain data.
+ghost use Rattle.std.specs.Prelude.{◌≡◌, ◌<◌};
+ghost use Rattle.piece_ring.specs.Look.{has_bit, relooked as relooked_look};
 
 /// How a character looks.
 #[derive(Clone, Copy, PartialEq, Eq, Debug)]
@@ -20,4 +22,29 @@ pub struct Piece {
     pub len: u32,
     /// The look of each of them.
     pub look: Look,
+}
+
+/// Whether the selector has the bit.
+fn has_bit(sel: u8, bit: u32) -> bool
+    requires { bit < 8 }
+    ensures { result ≡ has_bit sel bit }
+{
+    (sel >> bit) & 1 == 1
+}
+
+impl Look {
+    /// This look with those fields of `new` that the selector names: bit 0 the font, bit 1 the colour, bit 2 the offset.
+    pub(crate) fn relooked(self, sel: u8, new: Look) -> Look
+        ensures { result ≡ relooked_look sel new self }
+    {
+        Look {
+            font: if has_bit(sel, 0) { new.font } else { self.font },
+            colour: if has_bit(sel, 1) {
+                new.colour
+            } else {
+                self.colour
+            },
+            voff: if has_bit(sel, 2) { new.voff } else { self.voff },
+        }
+    }
 }
