@@ -1,10 +1,9 @@
 -- One call more.
-use Rattle.std.proofs.Common.{◌≡◌, ◌⊎◌, inl, inr, ℕ, ◌+◌, ◌≤◌, ◌==◌, List, [], ◌∷◌, ◌++◌, length, take, Result, Ok, Err, OnOk, OnErr, refl, sym, ◌∙◌, ap, subst, arith, false, if◌then◌else◌}
+use Rattle.std.proofs.Common.{◌≡◌, ◌⊎◌, inl, inr, ℕ, ◌+◌, ◌≤◌, List, [], ◌∷◌, ◌++◌, length, take, Result, Ok, Err, OnOk, OnErr, refl, sym, ◌∙◌, ap, subst, arith, false}
 use Rattle.std.proofs.lemmas.List.{length-append, take-append-le}
 use Rattle.std.proofs.Math.Seq.{take-length}
 use Rattle.std.proofs.lemmas.Bool.Decides.{nat_tests}
-use Rattle.sector_disk.specs.declared.memory.Call.{Call}
-use Rattle.sector_disk.specs.declared.memory.Call.TheVariants.{Write, Sync}
+use Rattle.sector_disk.specs.declared.call.Call.{Call}
 use Rattle.sector_disk.specs.Trail.{Moment, now, Touches, Nowhere, Only, written, settled}
 use Rattle.sector_disk.specs.Confined.{IsConfined}
 use Rattle.sector_disk.specs.Memory.{Recorded, blank, after, replayed, trail_of}
@@ -23,29 +22,29 @@ pub record Stays (area : ℕ → Type 0) (old new : Moment) : Type 0 where
   pub settled : (n : ℕ) → ¬ area n → old.pending n ≡ false → new.pending n ≡ false
 
 module _ (calls new : List Call) (call : Call) (is : new ≡ calls ++ call ∷ []) where
-  long : length new ≡ length calls + 1
+  pub long : length new ≡ length calls + 1
   long = ap length is ∙ length-append calls (call ∷ [])
 
   pub now_after : now (trail_of new) ≡ after call (now (trail_of calls))
   now_after = now-trail new ∙ ap (λ l. replayed l blank) is ∙ replayed-append calls call blank ∙ ap (after call) (sym (now-trail calls))
 
+  pub past : (t : ℕ) → t ≤ length calls → (trail_of new).at t ≡ (trail_of calls).at t
+  past t le = ap (λ l. replayed l blank) (ap (take t) is ∙ take-append-le t calls (call ∷ []) le)
+
   pub goes_on : (area : ℕ → Type 0) → Stays area (now (trail_of calls)) (after call (now (trail_of calls))) → Touches area (trail_of calls) (trail_of new)
   goes_on area step = record {
     later = omega (arith, long);
-    kept = same;
+    kept = past;
     reads = λ t above below n out. elim (near t above below) [
-      | inl first ↦ ap (λ m. m.reads n) (ap (trail_of new).at first ∙ same (length calls) (omega arith))
+      | inl first ↦ ap (λ m. m.reads n) (ap (trail_of new).at first ∙ past (length calls) (omega arith))
       | inr last ↦ ap (λ m. m.reads n) (ap (trail_of new).at last ∙ now_after) ∙ step.reads n out
     ];
     settled = λ t above below n out was. elim (near t above below) [
-      | inl first ↦ ap (λ m. m.pending n) (ap (trail_of new).at first ∙ same (length calls) (omega arith)) ∙ was
+      | inl first ↦ ap (λ m. m.pending n) (ap (trail_of new).at first ∙ past (length calls) (omega arith)) ∙ was
       | inr last ↦ ap (λ m. m.pending n) (ap (trail_of new).at last ∙ now_after) ∙ step.settled n out was
     ];
   }
     where
-      same : (t : ℕ) → t ≤ length calls → (trail_of new).at t ≡ (trail_of calls).at t
-      same t le = ap (λ l. replayed l blank) (ap (take t) is ∙ take-append-le t calls (call ∷ []) le)
-
       near : (t : ℕ) → length calls ≤ t → t ≤ length new → (t ≡ length calls) ⊎ (t ≡ length new)
       near t above below = grind (arith, long)
 
@@ -54,12 +53,6 @@ write_stays m n bytes = record { reads = λ k other. grind (arith, nat_tests); s
 
 pub sync_stays : (m : Moment) → Stays Nowhere m (settled m)
 sync_stays m = record { reads = λ k other. refl; settled = λ k other was. refl }
-
--- a sector's bytes come from that sector alone
-pub same_reads : (calls : List Call) (m m' : Moment) (n : ℕ) → m.reads n ≡ m'.reads n → (replayed calls m).reads n ≡ (replayed calls m').reads n
-same_reads [] m m' n same = same
-same_reads (Write k bytes ∷ calls) m m' n same = same_reads calls _ _ n (ap (λ (l : List ℕ). if n == k then bytes else l) same)
-same_reads (Sync ∷ calls) m m' n same = same_reads calls _ _ n same
 
 -- a disk in memory that recorded a call where it answered Ok, and nothing where it answered an error, is confined to the sectors that the call writes
 pub confined : {E : Type 0} (result : Result (Unit {0}) E) (area : ℕ → Type 0) (old new : Recorded) (call : Call) → new.size ≡ old.size

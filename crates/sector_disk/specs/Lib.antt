@@ -1,5 +1,6 @@
 pub mod Trail
 pub mod Confined
 pub mod Memory
+pub mod Index
 pub mod File
 pub mod Fuse

@@ -5,14 +5,18 @@
 //! all the contents that the moments of a trail allow (`specs/Trail.antt`), and no disk can hide one of them.
 #![tactic(auto)]
 
+mod call;
 mod count;
 mod disk;
 mod file;
 mod fuse;
+mod history;
+mod index;
 mod memory;
 
+pub use call::Call;
 pub use disk::{Disk, Fault};
 pub use file::FileDisk;
 pub use fuse::{Fuse, OneFault};
-pub use memory::{Call, MemoryDisk};
+pub use memory::MemoryDisk;
 pub use std::alloc::AllocError as NoMemory;

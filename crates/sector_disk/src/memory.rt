@@ -2,36 +2,36 @@
 //!
 //! A clause sees it as a `Recorded`: its size, the calls that succeeded, and how many failed. Its trail is the replay of
 //! those calls (`specs/Memory.antt`), so what it held at every moment is exact.
-ghost use Rattle.std.specs.Prelude.{◌≡◌, ◌+◌, ◌<◌, [], ◌∷◌, ◌++◌, OnOk, OnErr, IfOk};
-ghost use Rattle.sector_disk.specs.Trail.{Moment, now, Nowhere, Only, written, settled, CountsFault};
-ghost use Rattle.sector_disk.specs.Confined.{IsConfined};
-ghost use Rattle.sector_disk.specs.Memory.{trail_of, replayed, blank, after};
+ghost use Rattle.std.specs.Prelude.{◌≡◌, ◌<◌, ℕ, [], ◌∷◌, ◌++◌, false, nat_eq, OnOk, OnErr, IfOk, IsErr, MatchResult};
+ghost use Rattle.std.specs.Ordering.{nat_cmp};
+ghost use Rattle.std.specs.Set.{is_member};
+ghost use Rattle.std.specs.List.{All};
+ghost use Rattle.std.specs.List.Sorted.{IsStrictlySortedBy};
+ghost use Rattle.sector_disk.specs.Trail.{now, IsImage, CountsFault};
+ghost use Rattle.sector_disk.specs.Memory.{trail_of, HeldAtSync, crashed};
 
+use crate::call::Call;
 use crate::count::FaultCount;
+use crate::history::History;
 use crate::{Disk, Fault, NoMemory};
 use std::alloc::Global;
 use std::marker::Model;
 
-/// A call that changed a disk: a sector's number with the bytes written to it, or a sync.
-#[derive(Drop)]
-pub enum Call {
-    Write(u32, [u8; 1024]),
-    Sync,
-}
-
 #[derive(Drop)]
 pub struct MemoryDisk {
     sectors: u32,
-    calls: Vec<Call>,
+    history: History,
     refused: FaultCount,
 }
 
 impl Model for MemoryDisk {
-    ghost use Rattle.sector_disk.specs.Memory.{Recorded};
+    ghost use Rattle.sector_disk.specs.Memory.{Recorded, PendsBelow};
 
     ghost Value = { Recorded };
 
-    ghost view = { λ d. record { size = d.sectors; calls = d.calls.items; failures = d.refused.count } };
+    ghost view = { λ d. record { size = d.sectors; calls = d.history; failures = d.refused.count } };
+
+    ghost invariant = { λ d. PendsBelow d.sectors d.history };
 }
 
 impl MemoryDisk {
@@ -41,24 +41,69 @@ impl MemoryDisk {
     {
         Ok(MemoryDisk {
             sectors,
-            calls: Vec::new(alloc),
+            history: History::new(alloc),
+            refused: FaultCount::new(),
+        })
+    }
+
+    /// Copies sector `n` to the buffer as it was at the last sync.
+    pub fn synced(&self, n: u32, buffer: &mut [u8; 1024])
+        requires { n < self.now.size }
+        ensures { HeldAtSync (trail_of self.now.calls) n buffer.new }
+    {
+        self.history.settled(n, buffer);
+    }
+
+    /// Whether sector `n` was written after the last sync.
+    pub fn is_pending(&self, n: u32) -> bool
+        ensures { result ≡ (now (trail_of self.now.calls)).pending n }
+    {
+        self.history.is_pending(n)
+    }
+
+    /// The pending sectors, in rising order.
+    pub fn pending_sectors(&self, alloc: Global) -> Result<Vec<u32>, NoMemory>
+        ensures rising { IfOk result (λ v. IsStrictlySortedBy nat_cmp v.items) }
+        ensures which { IfOk result (λ v. (n : ℕ) → is_member nat_eq v.items n ≡ (now (trail_of self.now.calls)).pending n) }
+        ensures within { IfOk result (λ v. All (λ n. n < self.now.size) v.items) }
+    {
+        self.history.pending_sectors(alloc)
+    }
+
+    /// A disk as a crash at this moment may leave it: a pending sector holds the bytes that the last pair for it
+    /// gives, and each other sector, as one that no pair names, what a read of it gives. A pair for a sector that
+    /// isn't pending is ignored. The new disk has nothing pending and no failures.
+    pub fn crash(
+        &self,
+        alloc: Global,
+        sectors: &[(u32, [u8; 1024])],
+    ) -> Result<MemoryDisk, NoMemory>
+        ensures size { IfOk result (λ d. d.size ≡ self.now.size) }
+        ensures failures { IfOk result (λ d. d.failures ≡ 0) }
+        ensures reads { IfOk result (λ d. (now (trail_of d.calls)).reads ≡ crashed (now (trail_of self.now.calls)) sectors.now) }
+        ensures settled { IfOk result (λ d. (n : ℕ) → (now (trail_of d.calls)).pending n ≡ false) }
+        ensures image { IfOk result (λ d. IsImage (now (trail_of self.now.calls)) (now (trail_of d.calls)).reads) }
+    {
+        let mut history = self.history.shortened(alloc)?;
+        self.history.spoil(sectors, &mut history)?;
+        history.sync()?;
+        Ok(MemoryDisk {
+            sectors: self.sectors,
+            history,
             refused: FaultCount::new(),
         })
     }
 }
 
-fn note(calls: &mut Vec<Call>, refused: &mut FaultCount, call: Call) -> Result<(), Fault>
-    ensures ok { OnOk result (calls.new.items ≡ calls.old.items ++ call ∷ []) }
-    ensures err { OnErr result (calls.new.items ≡ calls.old.items) }
-    ensures cause { CountsFault result refused.old.count refused.new.count }
+// A refusal of the record is a fault of the disk.
+fn told(recorded: Result<(), NoMemory>, refused: &mut FaultCount) -> Result<(), Fault>
+    ensures { MatchResult result (λ _. recorded ≡ Ok tt × (refused.new.count ≡ refused.old.count)) (λ _. IsErr recorded × (refused.old.count < refused.new.count)) }
 {
-    match calls.push(call) {
-        Ok(()) => Ok(()),
-        Err(_) => {
-            refused.rise();
-            Err(Fault)
-        }
+    if recorded.is_err() {
+        refused.rise();
+        return Err(Fault);
     }
+    Ok(())
 }
 
 impl Disk for MemoryDisk {
@@ -75,7 +120,7 @@ impl Disk for MemoryDisk {
     }
 
     fn read(&mut self, n: u32, buffer: &mut [u8; 1024]) -> Result<(), Fault> {
-        copy_last(&self.calls, n, buffer);
+        self.history.latest(n, buffer);
         Ok(())
     }
 
@@ -87,8 +132,8 @@ impl Disk for MemoryDisk {
         ensures recorded { OnOk result (self.new.calls ≡ self.old.calls ++ Call.Write n bytes.now ∷ []) }
         ensures refused { OnErr result (self.new.calls ≡ self.old.calls) }
     {
-        note(&mut self.calls, &mut self.refused, Call::Write(n, *bytes))?;
-        Ok(())
+        let recorded = self.history.write(n, bytes);
+        told(recorded, &mut self.refused)
     }
 
     /// Records the sync. Where no memory is left for it the call answers `Fault` and changes nothing.
@@ -98,28 +143,7 @@ impl Disk for MemoryDisk {
         ensures recorded { OnOk result (self.new.calls ≡ self.old.calls ++ Call.Sync ∷ []) }
         ensures refused { OnErr result (self.new.calls ≡ self.old.calls) }
     {
-        note(&mut self.calls, &mut self.refused, Call::Sync)?;
-        Ok(())
-    }
-}
-
-// What the last write of this sector wrote, or zeros.
-fn copy_last(calls: &[Call], n: u32, buffer: &mut [u8; 1024])
-    ensures { buffer.new ≡ (replayed calls.now blank).reads n }
-{
-    *buffer = [0; 1024];
-    for call in calls {
-        replay(call, n, buffer);
-    }
-}
-
-// The sector's bytes after one call more.
-fn replay(call: &Call, n: u32, buffer: &mut [u8; 1024])
-    ensures { (m : Moment) → m.reads n ≡ buffer.old → (after call.now m).reads n ≡ buffer.new }
-{
-    if let Call::Write(at, bytes) = call
-        && *at == n
-    {
-        *buffer = *bytes;
+        let recorded = self.history.sync();
+        told(recorded, &mut self.refused)
     }
 }

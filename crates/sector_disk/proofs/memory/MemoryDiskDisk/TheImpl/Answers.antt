@@ -1,4 +1,4 @@
-use Rattle.sector_disk.specs.declared.memory.Call.TheVariants.{Write, Sync}
+use Rattle.sector_disk.specs.declared.call.Call.TheVariants.{Write, Sync}
 use Rattle.sector_disk.specs.Trail.{Nowhere, Only}
 use Rattle.sector_disk.proofs.Replay.{confined, happened, nothing_happened, write_stays, sync_stays}
 use Rattle.sector_disk.proofs.memory.MemoryDiskDisk.TheImpl.Goals as goal
