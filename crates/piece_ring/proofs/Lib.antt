@@ -5,7 +5,9 @@ pub mod Looks
 pub mod Memory
 pub mod Moving
 pub mod Places
+pub mod Relooking
 pub mod Runs
 pub mod Seams
 pub mod Sharing
 pub mod Steps
+pub mod Walking

@@ -74,6 +74,15 @@ module _ (ns : List (Ptr × Piece)) (trailer : Ptr) (count len : ℕ) (v : IsPie
   pub seam-order : s.index < t.index
   seam-order = let a = h.upto in let b = g.upto in index_order ps s.index t.index (omega arith)
 
+  low : length (flat (take s.index (take t.index ps))) ≡ s.pos
+  low = let lt = seam-order in ap (λ l. length (flat l)) (take-take s.index t.index ps (omega arith)) ∙ h.upto
+
+  -- the characters between the seams
+  pub between-text : flat (drop s.index (take t.index ps)) ≡ stretch s.pos t.pos (text_of ns)
+  between-text =
+      let span : t.pos ≡ s.pos + (t.pos - s.pos) = omega arith in
+      sym (drop-flat (take t.index ps) s.index) ∙ (λ k. drop (low k) (sym (seam-take ns t g) k)) ∙ ap (λ n. drop s.pos (take n (text_of ns))) span ∙ drop-take s.pos (t.pos - s.pos) (text_of ns)
+
   module _ (ms : List (Ptr × Piece)) (rest : ms ≡ take (s.index + 1) ns ++ drop (t.index + 1) ns) where
     pieces_rest : pieces_of ms ≡ take s.index ps ++ drop t.index ps
     pieces_rest = let w = seam_inside ns s h in ap pieces_of rest ∙ pieces_of-split ns s.index t.index (omega arith)
@@ -100,14 +109,8 @@ module _ (ns : List (Ptr × Piece)) (trailer : Ptr) (count len : ℕ) (v : IsPie
     pieces_taken : pieces bs ≡ drop s.index (take t.index ps)
     pieces_taken = let w = seam_inside ns s h in ap pieces taken ∙ pieces-taken ns s.index t.index (omega arith)
 
-    low : length (flat (take s.index (take t.index ps))) ≡ s.pos
-    low = let lt = seam-order in ap (λ l. length (flat l)) (take-take s.index t.index ps (omega arith)) ∙ h.upto
-
     pub taken-text : flat (pieces bs) ≡ stretch s.pos t.pos (text_of ns)
-    taken-text =
-        let span : t.pos ≡ s.pos + (t.pos - s.pos) = omega arith in
-        ap flat pieces_taken ∙ sym (drop-flat (take t.index ps) s.index) ∙ (λ k. drop (low k) (sym (seam-take ns t g) k)) ∙ ap (λ n. drop s.pos (take n (text_of ns))) span
-        ∙ drop-take s.pos (t.pos - s.pos) (text_of ns)
+    taken-text = ap flat pieces_taken ∙ between-text
 
     pub taken-pieces : (first : Ptr) → (s.index + 1 < length ns → slice_get (places ns) (s.index + 1) ≡ Some first) → IsStretch bs first (t.index - s.index) (t.pos - s.pos)
     taken-pieces first next =

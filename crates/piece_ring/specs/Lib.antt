@@ -1,3 +1,4 @@
+pub mod Cursor
 pub mod Flat
 pub mod Look
 pub mod Nodes

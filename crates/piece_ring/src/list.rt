@@ -6,7 +6,7 @@ ghost use Rattle.piece_ring.specs.Flat.{flat, relooked_piece};
 ghost use Rattle.piece_ring.specs.Nodes.{places, pieces, with_range};
 ghost use Rattle.piece_ring.specs.Place.{pieces_of, text_of, IsSeam, IsFound, IsPlace};
 ghost use Rattle.piece_ring.specs.PieceList.{IsPieceList, IsStretch};
-ghost use Rattle.piece_ring.specs.Text.{inserted, deleted, stretch};
+ghost use Rattle.piece_ring.specs.Text.{inserted, deleted, stretch, looks_changed};
 
 use crate::chain::{Chain, Spot};
 use crate::piece::{Look, Piece};
@@ -41,7 +41,7 @@ pub(crate) struct PieceList {
 }
 
 /// Changes the looks of the pieces behind the node of index `i` up to that of index `j`.
-fn relook(chain: &mut Chain, at: Spot, i: usize, j: usize, sel: u8, look: Look)
+fn relook_nodes(chain: &mut Chain, at: Spot, i: usize, j: usize, sel: u8, look: Look)
     requires at { slice_get (places chain.old.nodes) i ≡ Some at.ptr }
     requires order { i ≤ j }
     requires within { j < length chain.old.nodes }
@@ -287,6 +287,16 @@ impl PieceList {
             count,
             len,
         }
+    }
+
+    /// Changes the looks between two seams, in the fields that the selector names.
+    pub(crate) fn relook(&mut self, from: Seam, upto: Seam, sel: u8, look: Look)
+        requires from { IsSeam self.old.chain.nodes from }
+        requires upto { IsSeam self.old.chain.nodes upto }
+        requires order { from.pos < upto.pos }
+        ensures { text_of self.new.chain.nodes ≡ looks_changed from.pos upto.pos sel look (text_of self.old.chain.nodes) }
+    {
+        relook_nodes(&mut self.chain, from.at, from.index, upto.index, sel, look);
     }
 
     /// The pieces, or None if there are none. The trailer is freed.

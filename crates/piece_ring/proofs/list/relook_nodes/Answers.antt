@@ -4,7 +4,7 @@ use Rattle.piece_ring.specs.Flat.{relooked_piece}
 use Rattle.piece_ring.specs.Nodes.{places, pieces}
 use Rattle.piece_ring.proofs.Joins.{places-with}
 use Rattle.piece_ring.proofs.Looks.{changed, changed-none, changed-step, changed-range, pieces-with, same_length}
-use Rattle.piece_ring.proofs.list.relook.Goals as goal
+use Rattle.piece_ring.proofs.list.relook_nodes.Goals as goal
 
 pub loop-index-init : goal.loop-index-init
 loop-index-init c =

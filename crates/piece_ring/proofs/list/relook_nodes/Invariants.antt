@@ -2,7 +2,7 @@ use Rattle.std.proofs.Common.{◌≡◌, ◌+◌, ◌-◌, slice_get, Some}
 use Rattle.piece_ring.specs.Flat.{relooked_piece}
 use Rattle.piece_ring.specs.Nodes.{places, pieces}
 use Rattle.piece_ring.proofs.Looks.{changed}
-use Rattle.piece_ring.proofs.list.relook.Given as goal
+use Rattle.piece_ring.proofs.list.relook_nodes.Given as goal
 
 -- the nodes lie where they lay, and the pieces that were passed are changed
 abbrev pub invariant-loop-index : goal.invariant-loop-index

@@ -1,0 +1,91 @@
+//! A walk along the characters of a ring.
+//!
+//! A clause sees a cursor as the list of pieces that are left to it, of which the first may be the rest of one.
+ghost use Rattle.std.specs.Prelude.{◌≡◌, ◌+◌, ◌-◌, ◌<◌, ◌≤◌, ◌∷◌, [], ◌++◌, ◌≢◌, length, drop, Some, slice_get, MatchOption, IfSome, IsSomeAnd};
+ghost use Rattle.piece_ring.specs.Flat.{flat, characters_of, IsWhole};
+
+use crate::chain::Spot;
+use crate::list::PieceList;
+use crate::piece::{Look, Piece};
+use std::marker::Model;
+
+/// Stands before a character of a ring, or at its end. It borrows the ring.
+#[derive(Drop)]
+pub struct Cursor<'a> {
+    pub(crate) list: &'a PieceList,
+    pub(crate) at: Spot,
+    // The index of the node at `at`; behind the last piece it is one more than the number of pieces.
+    pub(crate) index: usize,
+    // The number of the piece's characters that were passed.
+    pub(crate) within: u32,
+    pub(crate) links: u32,
+}
+
+impl<'a> Model for Cursor<'a> {
+    ghost use Rattle.std.specs.Prelude.{List, drop};
+    ghost use Rattle.piece_ring.specs.declared.piece.Piece.{Piece as APiece};
+    ghost use Rattle.piece_ring.specs.Cursor.{shortened, IsCursor};
+    ghost use Rattle.piece_ring.specs.Nodes.{pieces};
+
+    ghost Value = { List APiece };
+
+    ghost view = { λ c. shortened c.within (drop c.index (pieces c.list.now.chain.nodes)) };
+
+    ghost invariant = { λ c. IsCursor c.list.now.chain.nodes c.at.ptr c.index c.within c.links };
+}
+
+impl<'a> Cursor<'a> {
+    /// The number of links between pieces that the last `next` followed. 0 before the first `next`.
+    pub fn links(&self) -> u32
+        ensures { result ≤ 1 }
+    {
+        self.links
+    }
+
+    /// The offset and the look of the character that the cursor stands before, which it then passes.
+    /// None at the end of the ring, where it stays.
+    pub fn next(&mut self) -> Option<(u32, Look)>
+        ensures { MatchOption result ((flat self.old ≡ []) × (flat self.new ≡ [])) (λ c. flat self.old ≡ c ∷ flat self.new) }
+    {
+        let Some(rest) = self.rest() else {
+            self.links = 0;
+            return None;
+        };
+        self.pass(1);
+        Some((rest.off, rest.look))
+    }
+
+    /// The rest of the piece that the cursor stands in. None at the end.
+    pub(crate) fn rest(&self) -> Option<Piece>
+        ensures first { MatchOption result (self.now ≡ []) (λ p. slice_get self.now 0 ≡ Some p) }
+        ensures whole { IfSome result IsWhole }
+    {
+        if self.index > self.list.count {
+            return None;
+        }
+        let Piece { off, len, look } = self.list.chain.piece(self.at, self.index);
+        Some(Piece {
+            off: off + self.within,
+            len: len - self.within,
+            look,
+        })
+    }
+
+    /// Passes `n` characters of the piece that the cursor stands in.
+    fn pass(&mut self, n: u32)
+        requires some { 0 < n }
+        requires within { IsSomeAnd (slice_get self.old 0) (λ p. n ≤ p.len) }
+        ensures { flat self.new ≡ drop n (flat self.old) }
+    {
+        let len = self.list.chain.piece(self.at, self.index).len;
+        if n < len - self.within {
+            self.within += n;
+            self.links = 0;
+        } else {
+            self.at = self.list.chain.next(self.at, self.index);
+            self.index += 1;
+            self.within = 0;
+            self.links = 1;
+        }
+    }
+}
