@@ -14,14 +14,10 @@ use Rattle.piece_ring.specs.Place.{pieces_of, text_of, IsSeam, IsFound}
 use Rattle.piece_ring.specs.PieceList.{IsPieceList}
 use Rattle.piece_ring.proofs.Runs.{run-append, length-flat-next, length-flat-cons, flat-append, length-flat-append, index_order}
 use Rattle.piece_ring.proofs.Joins.{pieces_of-join, pieces_of-with, place-kept, places-with, length-with, length-join}
-use Rattle.piece_ring.proofs.Seams.{behind_trailer, piece_count}
+use Rattle.piece_ring.proofs.Seams.{behind_trailer, piece_count, whole_one}
 
 pub whole_at : (ps : List Piece) (k : ℕ) (x : Piece) → All IsWhole ps → slice_get ps k ≡ Some x → IsWhole x
 whole_at ps k x w e = subst IsWhole (sym (unwrap_or-slice_get ps k x) ∙ ap (λ o. unwrap_or o x) e) (w k x (slice_get_within ps k x e))
-
-pub whole_one : (x : Piece) → IsWhole x → All IsWhole (x ∷ [])
-whole_one x w zero d h = w
-whole_one x w (suc k) d h = absurd (omega (arith, h))
 
 pub drop_at : {X : Type 0} (xs : List X) (i : ℕ) (x : X) → slice_get xs i ≡ Some x → drop i xs ≡ x ∷ drop (i + 1) xs
 drop_at [] i x e = cc

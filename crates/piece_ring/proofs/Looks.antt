@@ -50,7 +50,7 @@ module _ {X : Type 0} where
   changed-is f zero (suc n) (x ∷ xs) = ap (λ l. f x ∷ l) (changed-is f zero n xs)
   changed-is f (suc k) n (x ∷ xs) = ap (λ l. x ∷ l) (changed-is f k n xs)
 
-drop-drop : {X : Type 0} (a b : ℕ) (xs : List X) → drop b (drop a xs) ≡ drop (a + b) xs
+pub drop-drop : {X : Type 0} (a b : ℕ) (xs : List X) → drop b (drop a xs) ≡ drop (a + b) xs
 drop-drop zero b xs = ap (λ n. drop n xs) (let e : b ≡ 0 + b = omega arith in e)
 drop-drop (suc a) zero [] = ap (λ n. drop n []) (let e : suc a ≡ suc a + 0 = omega arith in e)
 drop-drop (suc a) (suc b) [] = ap (λ n. drop n []) (let e : suc (suc (a + b)) ≡ suc a + suc b = omega arith in e)

@@ -1,5 +1,5 @@
 -- Seams: what they say of the text, and which stay.
-use Rattle.std.proofs.Common.{◌≡◌, ℕ, zero, suc, ◌+◌, ◌-◌, ◌<◌, ◌≤◌, List, [], ◌∷◌, ◌++◌, length, take, drop, slice_get, Some, All, refl, sym, ap, ◌∙◌, arith, add-one}
+use Rattle.std.proofs.Common.{◌≡◌, ℕ, zero, suc, ◌+◌, ◌-◌, ◌<◌, ◌≤◌, List, [], ◌∷◌, ◌++◌, length, take, drop, slice_get, Some, All, refl, sym, ap, subst, ◌∙◌, arith, add-one}
 use Rattle.std.proofs.lemmas.List.{length-map}
 use denote.RawPtr.{Ptr}
 use Rattle.piece_ring.specs.declared.piece.Piece.{Piece}
@@ -59,3 +59,13 @@ few_pieces ns trailer count len v = let r = count_fits (pieces_of ns) v.whole in
 
 pub few_taken : (ns : List (Ptr × Piece)) (first : Ptr) (count len : ℕ) → IsStretch ns first count len → count ≤ len
 few_taken ns first count len v = let r = count_fits (pieces ns) v.whole in let n = length-map ns (λ (m : Ptr × Piece). m.1) in let long = v.measured in let c = v.counted in omega arith
+
+pub whole_one : (x : Piece) → IsWhole x → All IsWhole (x ∷ [])
+whole_one x w zero d h = w
+whole_one x w (suc k) d h = absurd (omega (arith, h))
+
+-- one node with one piece
+pub single_stretch : (ns : List (Ptr × Piece)) (first : Ptr) (x : Piece) → IsWhole x → ns ≡ (first, x) ∷ [] → IsStretch ns first 1 x.len
+single_stretch ns first x w e =
+    let long = length-flat-cons x [] in let end = w.1 in
+    subst (λ l. IsStretch l first 1 x.len) (sym e) record { first_is = refl; counted = refl; measured = omega arith; small = omega arith; whole = whole_one x w }

@@ -1,14 +1,22 @@
 -- A cursor's steps along the characters.
-use Rattle.std.proofs.Common.{◌≡◌, ℕ, zero, suc, ◌+◌, ◌-◌, ◌<◌, ◌≤◌, List, [], ◌∷◌, ◌++◌, length, drop, slice_get, Some, All, IsSomeAnd, refl, sym, ap, subst, ◌∙◌, arith, add-zero}
+use Rattle.std.proofs.Common.{◌≡◌, ℕ, zero, suc, ◌+◌, ◌-◌, ◌<◌, ◌≤◌, List, [], ◌∷◌, ◌++◌, length, drop, slice_get, Some, All, IsSomeAnd, refl, sym, ap, subst, ◌∙◌, arith, add-zero, zero-add, append_assoc}
+use Rattle.std.proofs.lemmas.List.{length-map, drop_all}
+use Rattle.std.proofs.lemmas.Option.{slice_get_within}
 use denote.RawPtr.{Ptr}
 use Rattle.piece_ring.specs.declared.piece.Look.{Look}
 use Rattle.piece_ring.specs.declared.piece.Piece.{Piece}
-use Rattle.piece_ring.specs.Cursor.{piece_from, shortened}
+use Rattle.piece_ring.specs.Cursor.{piece_from, shortened, IsCursor}
+use Rattle.piece_ring.specs.declared.place.Found.{Found}
 use Rattle.piece_ring.specs.Flat.{run, flat, IsWhole}
 use Rattle.piece_ring.specs.Nodes.{pieces}
-use Rattle.piece_ring.specs.Place.{pieces_of}
+use Rattle.piece_ring.specs.Place.{pieces_of, text_of, IsSeam, IsFound}
+use Rattle.piece_ring.specs.PieceList.{IsPieceList}
 use Rattle.piece_ring.specs.Text.{Text}
-use Rattle.piece_ring.proofs.Dividing.{drop_at, whole_at}
+use Rattle.piece_ring.proofs.Dividing.{drop_at, whole_at, found_long}
+use Rattle.piece_ring.proofs.Looks.{drop-drop}
+use Rattle.piece_ring.proofs.Places.{Cut, cut_at, piece_is}
+use Rattle.piece_ring.proofs.Runs.{run-append}
+use Rattle.piece_ring.proofs.Seams.{seam-drop}
 
 pub run-drop : (off n w : ℕ) (l : Look) (rest : Text ℕ) → w ≤ n → drop w (run off n l ++ rest) ≡ run (off + w) (n - w) l ++ rest
 run-drop off n zero l rest h = let same : n ≡ n - 0 = omega arith in λ k. run (sym (add-zero off) k) (same k) l ++ rest
@@ -60,3 +68,55 @@ module _ (ps : List Piece) (i w : ℕ) (p : Piece) (is : slice_get ps i ≡ Some
   passed_whole n h g =
       let none : 0 ≡ p.len - w - n = omega arith in
       flat-shortened-none (drop (i + 1) ps) ∙ (λ k. run (p.off + w + n) (none k) p.look ++ flat (drop (i + 1) ps)) ∙ sym (flat_now n h)
+
+-- the first n characters of a list's first piece, and the others
+pub flat-front : (ps : List Piece) (p : Piece) (n : ℕ) → slice_get ps 0 ≡ Some p → n ≤ p.len → flat ps ≡ run p.off n p.look ++ drop n (flat ps)
+flat-front [] p n e h = cc
+flat-front (q ∷ ps) p n e h =
+    let is : q ≡ p = cc in let whole : n + (p.len - n) ≡ p.len = omega (arith, h) in
+    let here : flat (q ∷ ps) ≡ run p.off p.len p.look ++ flat ps = ap (λ (z : Piece). flat (z ∷ ps)) is in
+    let rest : drop n (flat (q ∷ ps)) ≡ run (p.off + n) (p.len - n) p.look ++ flat ps = ap (drop n) here ∙ run-drop p.off p.len n p.look (flat ps) h in
+    here ∙ ap (λ m. run p.off m p.look ++ flat ps) (sym whole) ∙ ap (λ l. l ++ flat ps) (run-append p.off n (p.len - n) p.look)
+    ∙ append_assoc (run p.off n p.look) (run (p.off + n) (p.len - n) p.look) (flat ps) ∙ ap (λ l. run p.off n p.look ++ l) (sym rest)
+
+-- where a cursor starts
+module _ (ns : List (Ptr × Piece)) (trailer : Ptr) (count len pos : ℕ) (v : IsPieceList ns trailer count len) where
+  pub at_end : IsCursor ns trailer (count + 1) 0 0
+  at_end = let counted = v.counted in let long = length-map ns (λ (m : Ptr × Piece). m.1) in record {
+    started = omega arith;
+    bounded = omega arith;
+    place = λ w. absurd (omega (arith, w));
+    inside = λ p e. let w = slice_get_within (pieces ns) (count + 1) p e in absurd (omega arith);
+    linked = omega arith;
+  }
+
+  pub end-text : pos ≡ len → flat (shortened 0 (drop (count + 1) (pieces ns))) ≡ drop pos (text_of ns)
+  end-text e =
+      let counted = v.counted in let long = length-map ns (λ (m : Ptr × Piece). m.1) in let measured = v.measured in
+      flat-shortened-none (drop (count + 1) (pieces ns)) ∙ ap flat (drop_all (count + 1) (pieces ns) (omega arith)) ∙ sym (drop_all pos (text_of ns) (omega (arith, e)))
+
+  module _ (f : Found) (h : IsFound ns pos f) where
+    abbrev cut : Cut ns f.behind.index f.behind.at.ptr
+    cut = cut_at ns f.behind.index f.behind.at.ptr h.behind.place
+
+    is : slice_get (pieces ns) f.behind.index ≡ Some cut.piece
+    is = piece_is ns f.behind.index f.behind.at.ptr cut
+
+    pub at_found : IsCursor ns f.behind.at.ptr f.behind.index (pos - f.before.pos) 0
+    at_found =
+        let next = h.next in let w = slice_get_within (pieces ns) f.behind.index cut.piece is in let long = length-map ns (λ (m : Ptr × Piece). m.1) in record {
+          started = omega arith;
+          bounded = omega arith;
+          place = λ _. h.behind.place;
+          inside = λ p e. let l = found_long ns trailer count len pos f p v h e in let low = h.from in let high = h.upto in omega arith;
+          linked = omega arith;
+        }
+
+    pub found-text : flat (shortened (pos - f.before.pos) (drop f.behind.index (pieces ns))) ≡ drop pos (text_of ns)
+    found-text =
+        let n : ℕ = pos - f.before.pos in let low = h.from in let high = h.upto in let span : f.before.pos + n ≡ pos = omega arith in
+        let long = found_long ns trailer count len pos f cut.piece v h is in
+        let rest = drop f.behind.index (pieces ns) in
+        let here : drop f.before.index (pieces_of ns) ≡ rest = drop-drop 1 f.before.index (pieces ns) ∙ ap (λ i. drop i (pieces ns)) (let next = h.next in let e : 1 + f.before.index ≡ f.behind.index = omega arith in e) in
+        ap (λ m. flat (shortened m rest)) (sym (zero-add n)) ∙ passed_within (pieces ns) f.behind.index 0 cut.piece is (shortened 0 rest) refl n (omega arith)
+        ∙ ap (drop n) (flat-shortened-none rest ∙ ap flat (sym here) ∙ sym (seam-drop ns f.before h.before)) ∙ drop-drop f.before.pos n (text_of ns) ∙ ap (λ m. drop m (text_of ns)) span

@@ -1,4 +1,5 @@
 pub mod Cursor
+pub mod Cut
 pub mod Flat
 pub mod Look
 pub mod Nodes

@@ -71,6 +71,22 @@ impl<'a> Cursor<'a> {
         })
     }
 
+    /// The next characters of one look that lie side by side in the file, at most `most`, which the cursor then passes.
+    pub(crate) fn next_run(&mut self, most: u32) -> Piece
+        requires some { 0 < most }
+        requires more { 0 < length (flat self.old) }
+        ensures taken { flat self.old ≡ characters_of result ++ flat self.new }
+        ensures whole { IsWhole result }
+        ensures at_most { result.len ≤ most }
+    {
+        let Some(Piece { off, len, look }) = self.rest() else {
+            unreachable!()
+        };
+        let len = len.min(most);
+        self.pass(len);
+        Piece { off, len, look }
+    }
+
     /// Passes `n` characters of the piece that the cursor stands in.
     fn pass(&mut self, n: u32)
         requires some { 0 < n }

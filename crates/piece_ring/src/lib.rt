@@ -6,7 +6,9 @@ mod cursor;
 mod list;
 mod piece;
 mod place;
+mod ring;
 
 pub use cursor::Cursor;
 pub use piece::{Look, Piece};
+pub use ring::Ring;
 pub use std::alloc::AllocError as NoMemory;

@@ -2,7 +2,7 @@
 //! This layer has no raw pointer: it names nodes by their spots and indexes, and goes through the calls of `Chain`.
 ghost use Rattle.std.specs.Prelude.{◌≡◌, ◌+◌, ◌-◌, ◌<◌, ◌≤◌, ◌∷◌, [], ◌++◌, ◌^◌, length, Some, slice_get, IfOk, OnErr, MatchOption};
 ghost use Rattle.piece_ring.specs.declared.place.Seam.{Seam as ASeam};
-ghost use Rattle.piece_ring.specs.Flat.{flat, relooked_piece};
+ghost use Rattle.piece_ring.specs.Flat.{flat, relooked_piece, IsWhole};
 ghost use Rattle.piece_ring.specs.Nodes.{places, pieces, with_range};
 ghost use Rattle.piece_ring.specs.Place.{pieces_of, text_of, IsSeam, IsFound, IsPlace};
 ghost use Rattle.piece_ring.specs.PieceList.{IsPieceList, IsStretch};
@@ -86,6 +86,23 @@ impl Spare {
             alloc: _,
         } = self;
         (chain, at)
+    }
+}
+
+impl Stretch {
+    /// The one piece of a new node.
+    pub(crate) fn of_piece(alloc: &Global, piece: Piece) -> Result<Stretch, AllocError>
+        requires { IsWhole piece }
+        ensures pieces { IfOk result (λ s. pieces s.chain.nodes ≡ piece ∷ []) }
+        ensures long { IfOk result (λ s. s.len ≡ piece.len) }
+    {
+        let (chain, first) = Chain::single(alloc, piece)?;
+        Ok(Stretch {
+            chain,
+            first,
+            count: 1,
+            len: piece.len,
+        })
     }
 }
 
@@ -248,6 +265,27 @@ impl PieceList {
             Place::Between(seam) => seam,
             Place::Inside(found) => self.divide(pos, found, spare),
         }
+    }
+
+    /// The seams at two positions. All nodes that it takes are taken before anything is changed.
+    pub(crate) fn seams(
+        &mut self,
+        alloc: Global,
+        beg: u32,
+        end: u32,
+    ) -> Result<(Seam, Seam), AllocError>
+        requires order { beg ≤ end }
+        requires within { end ≤ self.old.len }
+        ensures same { text_of self.new.chain.nodes ≡ text_of self.old.chain.nodes }
+        ensures long { self.new.len ≡ self.old.len }
+        ensures from { IfOk result (λ s. IsSeam self.new.chain.nodes s.0 × (s.0.pos ≡ beg)) }
+        ensures upto { IfOk result (λ s. IsSeam self.new.chain.nodes s.1 × (s.1.pos ≡ end)) }
+        ensures refused { OnErr result (self.new.chain.nodes ≡ self.old.chain.nodes) }
+    {
+        let spare = Spare::new(alloc)?;
+        let from = self.seam_at(alloc, beg)?;
+        let upto = self.seam_with(end, spare);
+        Ok((from, upto))
     }
 
     /// Puts pieces in at `seam`.

@@ -1,0 +1,20 @@
+use Rattle.std.proofs.Common.{◌+◌, drop, sym, ap, ◌∙◌, arith}
+use Rattle.piece_ring.specs.Flat.{flat}
+use Rattle.piece_ring.proofs.Seams.{few_pieces}
+use Rattle.piece_ring.proofs.Walking.{at_end, end-text, at_found, found-text}
+use Rattle.piece_ring.proofs.ring.Ring.cursor.Goals as goal
+
+pub overflow_add-result : goal.overflow_add-result
+overflow_add-result c =
+    let l = c.self.inside.list in let few = few_pieces l.chain.nodes l.trailer.ptr l.count l.len l.sound in let small = l.sound.small in record { fits = omega arith }
+
+pub invariant_of-result : goal.invariant_of-result
+invariant_of-result c = let l = c.self.inside.list in at_end l.chain.nodes l.trailer.ptr l.count l.len c.args.pos l.sound
+
+pub invariant_of-result-2 : goal.invariant_of-result-2
+invariant_of-result-2 c = let l = c.self.inside.list in at_found l.chain.nodes l.trailer.ptr l.count l.len c.args.pos l.sound c.find-found.result c.find-found.ensures
+
+pub returns : goal.returns
+returns c =
+    let l = c.self.inside.list in
+    found-text l.chain.nodes l.trailer.ptr l.count l.len c.args.pos l.sound c.find-found.result c.find-found.ensures ∙ ap (λ ps. drop c.args.pos (flat ps)) c.self.view_is
