@@ -9,7 +9,7 @@ use std::marker::Model;
 /// The bytes that one event puts into a file: 0 to 900, each a tabulator (9), a carriage return (13) or from the space to the tilde (32 to 126).
 ///
 /// A clause sees the list of them.
-#[derive(Clone, Debug, PartialEq, Eq, Drop)]
+#[derive(Debug, PartialEq, Eq, Drop)]
 pub struct FileBytes {
     bytes: ArrayVec<u8, 900>,
 }

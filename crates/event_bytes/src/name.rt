@@ -1,15 +1,16 @@
 //! Names of files.
-ghost use Rattle.std.specs.Prelude.{◌≡◌, Some, None, IsTrue, if◌then◌else◌};
+ghost use Rattle.std.specs.Prelude.{⊤, ◌≡◌, Ok, Some, None, IsTrue, if◌then◌else◌};
 ghost use Rattle.std.specs.List.{list_all};
 ghost use Rattle.event_bytes.specs.Bytes.{is_letter as letter, is_name_byte as name_byte, begins_with_letter as letter_first, is_name as names};
 
 use arrayvec::ArrayVec;
+use std::alloc::AllocError;
 use std::marker::Model;
 
 /// A file's name: a letter, and then letters, digits and periods, 1 to 31 bytes in all. A letter is A to Z or a to z.
 ///
 /// A clause sees the list of its bytes. Names are ordered byte by byte, a name before its longer ones.
-#[derive(Clone, Debug, PartialEq, Eq, PartialOrd, Ord, Drop)]
+#[derive(Debug, PartialEq, Eq, PartialOrd, Ord, Drop)]
 pub struct Name {
     bytes: ArrayVec<u8, 31>,
 }
@@ -25,6 +26,22 @@ impl Model for Name {
     ghost invariant = { λ n. IsTrue (is_name n.bytes.items) };
 
     ghost inverse = { λ bytes. record { bytes = record { items = bytes } } };
+}
+
+/// A copy, which takes no memory and so never fails.
+impl Clone for Name {
+    ghost is_clone = { λ name copy. copy ≡ name };
+
+    ghost is_infallible = { λ _. ⊤ };
+
+    fn clone(&self) -> Result<Name, AllocError>
+        ensures copy { result ≡ Ok self.now }
+        ensures valid { IsTrue (names self.now) }
+    {
+        Ok(Name {
+            bytes: self.bytes.clone()?,
+        })
+    }
 }
 
 impl Name {

@@ -1,5 +1,5 @@
 -- The desktop: files by name, and how many characters were ever written.
-use Rattle.std.specs.Prelude.{ℕ, ◌+◌, ◌||◌, nat_lt, Bool, List, [], length, sum_by, Option, is_some}
+use Rattle.std.specs.Prelude.{ℕ, ◌+◌, ◌||◌, nat_lt, Bool, List, [], length, map, sum_by, Option, is_some}
 use Rattle.std.specs.Map.{lookup}
 use Rattle.std.specs.Ordering.{nat_cmp}
 use Rattle.std.specs.declared.cmp.Ordering.{Ordering}
@@ -23,18 +23,17 @@ name_cmp = slice_cmp nat_cmp
 unfoldable pub file_of : Desktop → List ℕ → Option (List ℕ)
 file_of d name = lookup (is_at (name_cmp name)) d.files
 
--- the file of that name has these bytes
-abbrev pub with_file : Desktop → List ℕ → List ℕ → Desktop
-with_file d name bytes = record d { files = insert_entry name_cmp d.files name bytes }
-
--- n characters more have been written
-abbrev pub more_written : Desktop → ℕ → Desktop
-more_written d n = record d { written = d.written + n }
-
 -- there is a file of that name, or room for one more
 abbrev pub has_file_room : Desktop → List ℕ → Bool
 has_file_room d name = is_some (file_of d name) || nat_lt (length d.files) most_files
 
+-- the file of that name becomes these bytes, which were written anew
+unfoldable pub filed : Desktop → List ℕ → List ℕ → Desktop
+filed d name bytes = record {
+  files = insert_entry name_cmp d.files name bytes;
+  written = d.written + length bytes;
+}
+
 -- the characters in all files
 unfoldable pub held : Desktop → ℕ
-held d = sum_by (λ file. length file.1) d.files
+held d = sum_by length (map (λ file. file.1) d.files)

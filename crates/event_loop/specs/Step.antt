@@ -1,15 +1,15 @@
 -- What an event does to the desktop, and what it answers.
-use Rattle.std.specs.Prelude.{ℕ, ◌&&◌, nat_le, Bool, if◌then◌else◌, List, length, fold, Result, Ok, Err}
+use Rattle.std.specs.Prelude.{ℕ, ◌&&◌, nat_le, Bool, if◌then◌else◌, List, fold, Result, Ok, Err}
 use Rattle.event_bytes.specs.declared.event.Event.{Event}
 use Rattle.event_bytes.specs.declared.event.Event.TheVariants.{File}
 use Rattle.event_loop.specs.declared.reply.Reply.{Reply}
 use Rattle.event_loop.specs.declared.reply.Reply.TheVariants.{Done, No}
 use Rattle.event_loop.specs.Limits.{most_written, most_held, full, too_many_files}
-use Rattle.event_loop.specs.Desktop.{Desktop, with_file, more_written, has_file_room, held}
+use Rattle.event_loop.specs.Desktop.{Desktop, has_file_room, filed, held}
 
 -- What an event does but for the limits on characters, or the code of its refusal.
 unfoldable pub raw : Desktop → Event → Result Desktop ℕ
-raw d (File name bytes) = if has_file_room d name then Ok (more_written (with_file d name bytes) (length bytes)) else Err too_many_files
+raw d (File name bytes) = if has_file_room d name then Ok (filed d name bytes) else Err too_many_files
 
 -- within the limits on characters
 abbrev pub fits : Desktop → Bool

@@ -2,14 +2,14 @@
 ghost use Rattle.std.specs.Prelude.{◌≡◌, ℕ, List, ◌+◌, ◌-◌, ◌≤◌, ◌&&◌, ◌++◌, [], ◌∷◌, nat_le, length, map, IfOk, OnOk, OnErr, IsErrOf, option_map};
 ghost use Rattle.std.specs.Option.{option_map_or};
 ghost use Rattle.event_bytes.specs.declared.event.Event.TheVariants.{File};
-ghost use Rattle.event_loop.specs.Desktop.{empty_desktop, file_of, has_file_room as room_for_file, with_file, more_written, held};
+ghost use Rattle.event_loop.specs.Desktop.{empty_desktop, file_of, filed};
 ghost use Rattle.event_loop.specs.Limits.{most_written, most_held};
 ghost use Rattle.event_loop.specs.Step.{step, fits};
 ghost use Rattle.event_loop.specs.Sound.{IsSound};
 ghost use Rattle.event_loop.specs.Listing.{entries_of, file_entry};
 
 use crate::entry::Entry;
-use crate::files::{Files, bytes_of, entries, has_room, held, put};
+use crate::files::{Files, bytes_of, entries, has_room, held_with, put};
 use crate::reply::{Reply, codes};
 use crate::stop::{NoMemory, Stop};
 use event_bytes::{Event, FileBytes, Name};
@@ -75,7 +75,7 @@ impl Desktop {
         if !has_room(&self.files, name) {
             return Ok(Reply::No(codes::TOO_MANY_FILES));
         }
-        if !self.fits_with(name, bytes.len()) {
+        if !self.fits_with(name, bytes) {
             return Ok(Reply::No(codes::FULL));
         }
         put(&mut self.files, alloc, name, bytes)?;
@@ -83,13 +83,13 @@ impl Desktop {
         Ok(Reply::Done)
     }
 
-    /// Whether the limits on characters hold once the file of that name has that length.
-    fn fits_with(&self, name: &Name, len: usize) -> bool
-        requires { len ≤ 900 }
-        ensures { (bytes : List ℕ) → length bytes ≡ len → result ≡ fits (more_written (with_file self.now name.now bytes) len) }
+    /// Whether the limits on characters hold once the file of that name becomes these bytes.
+    fn fits_with(&self, name: &Name, bytes: &[u8]) -> bool
+        requires { length bytes.now ≤ 900 }
+        ensures { result ≡ fits (filed self.now name.now bytes.now) }
     {
-        let old = bytes_of(&self.files, name).map_or(0, |bytes| bytes.len());
-        self.written as usize + len <= MOST_WRITTEN && held(&self.files) + len <= MOST_HELD + old
+        self.written as usize + bytes.len() <= MOST_WRITTEN
+            && held_with(&self.files, name, bytes) <= MOST_HELD
     }
 
     /// The bytes of the file of that name; None where there is no file of that name.

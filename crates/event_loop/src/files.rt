@@ -1,9 +1,11 @@
 //! Files by name, as a desktop keeps them.
-ghost use Rattle.std.specs.Prelude.{◌≡◌, ◌+◌, ◌≤◌, ◌||◌, ◌++◌, length, map, nat_lt, is_some, option_map, sum_by, OnOk, OnErr, IfOk, IsErrOf};
+ghost use Rattle.std.specs.Prelude.{◌≡◌, ◌+◌, ◌≤◌, ◌||◌, ◌++◌, length, map, nat_lt, is_some, option_map, OnOk, OnErr, IfOk, IsErrOf, IsTrue};
+ghost use Rattle.std.specs.List.Sorted.{IsStrictlySortedBy};
 ghost use Rattle.std.specs.Map.{lookup};
 ghost use Rattle.std.specs.BTreeMap.{is_at, insert_entry};
+ghost use Rattle.event_bytes.specs.Bytes.{is_name};
 ghost use Rattle.event_loop.specs.Desktop.{name_cmp};
-ghost use Rattle.event_loop.specs.Flat.{files_in};
+ghost use Rattle.event_loop.specs.Flat.{files_in, held_in, length_or_none};
 ghost use Rattle.event_loop.specs.Listing.{file_entry};
 ghost use Rattle.event_loop.specs.declared.stop.Stop.TheVariants as stops;
 
@@ -31,15 +33,41 @@ pub fn has_room(files: &Files, name: &Name) -> bool
 
 /// How many characters the files hold.
 pub fn held(files: &Files) -> usize
-    requires { sum_by (λ file. length file.1) (files_in files.now.entries) ≤ 262144 }
-    ensures { result ≡ sum_by (λ file. length file.1) (files_in files.now.entries) }
+    requires { held_in (files_in files.now.entries) ≤ 262144 }
+    ensures value { result ≡ held_in (files_in files.now.entries) }
+    ensures rising { IsStrictlySortedBy name_cmp (map (λ file. file.0) (files_in files.now.entries)) }
 {
-    files.values().map(|bytes| bytes.len()).sum()
+    let mut held = 0;
+    for bytes in files.values() {
+        held += bytes.len();
+    }
+    held
+}
+
+/// How many characters the files hold once the file of that name becomes these bytes.
+pub fn held_with(files: &Files, name: &Name, bytes: &[u8]) -> usize
+    requires held { held_in (files_in files.now.entries) ≤ 262144 }
+    requires short { length bytes.now ≤ 900 }
+    ensures { result ≡ held_in (insert_entry name_cmp (files_in files.now.entries) name.now bytes.now) }
+{
+    let old = length_of(files, name);
+    held(files) + bytes.len() - old
+}
+
+/// How many characters the file of that name has, none where there is no such file.
+fn length_of(files: &Files, name: &Name) -> usize
+    ensures { result ≡ length_or_none (lookup (is_at (name_cmp name.now)) (files_in files.now.entries)) }
+{
+    match bytes_of(files, name) {
+        None => 0,
+        Some(bytes) => bytes.len(),
+    }
 }
 
 /// The file of that name becomes these bytes. After an error the files are as they were.
 pub fn put(files: &mut Files, alloc: Global, name: &Name, bytes: &[u8]) -> Result<(), Stop>
     ensures put { OnOk result (files_in files.new.entries ≡ insert_entry name_cmp (files_in files.old.entries) name.now bytes.now) }
+    ensures named { OnOk result (IsTrue (is_name name.now)) }
     ensures refused { OnErr result (files.new.entries ≡ files.old.entries) }
     ensures never_fault { ¬ IsErrOf result stops.Fault }
 {
@@ -50,6 +78,7 @@ pub fn put(files: &mut Files, alloc: Global, name: &Name, bytes: &[u8]) -> Resul
 
 /// An entry for each file, by rising names.
 pub fn entries(alloc: Global, files: &Files) -> Result<Vec<Entry>, Stop>
+    requires { held_in (files_in files.now.entries) ≤ 262144 }
     ensures entries { IfOk result (λ entries. entries.items ≡ map file_entry (files_in files.now.entries)) }
     ensures never_fault { ¬ IsErrOf result stops.Fault }
 {

@@ -1,0 +1,115 @@
+-- A sound desktop stays sound.
+use Rattle.std.proofs.Common.{◌≡◌, ℕ, ◌+◌, ◌≤◌, Bool, true, false, cond, List, [], ◌∷◌, map, length, sum_by, Option, Some, None, is_some, Ok, Err, rules, refl, ap, ◌∙◌, arith}
+use Rattle.std.specs.Prelude.{IsTrue, ◌&&◌, ◌||◌, nat_lt}
+use Rattle.std.specs.Option.{option_map, unwrap_or}
+use Rattle.std.specs.List.{AllByRecursion, list_all}
+use Rattle.std.specs.List.Sorted.{IsStrictlySortedBy}
+use Rattle.std.specs.Map.{lookup}
+use Rattle.std.specs.Cmp.{IsTotalOrder}
+use Rattle.std.specs.Ordering.{match_ordering, ordering_reverse}
+use Rattle.std.specs.declared.cmp.Ordering.{Ordering}
+use Rattle.std.specs.declared.cmp.Ordering.TheVariants.{Less, Equal, Greater}
+use Rattle.std.specs.BTreeMap.{is_at, insert_entry}
+use Rattle.std.proofs.lemmas.Bool.{leb-true, ltb-true}
+use Rattle.std.proofs.lemmas.Cmp.{nat_cmp_total, lists_total}
+use Rattle.std.proofs.lemmas.List.Sums.{sum_by-cons}
+use Rattle.std.proofs.lemmas.Map.Entries.{sum_by-insert_entry}
+use Rattle.std.proofs.lemmas.Map.Views.{All-keys-insert_entry, All-values-insert_entry}
+use Rattle.event_bytes.specs.declared.event.Event.{Event}
+use Rattle.event_bytes.specs.declared.event.Event.TheVariants.{File}
+use Rattle.event_bytes.specs.Bytes.{is_name, is_text_byte, is_file_bytes}
+use Rattle.event_bytes.specs.Spelling.{IsEvent}
+use Rattle.event_loop.specs.declared.reply.Reply.{Reply}
+use Rattle.event_loop.specs.declared.reply.Reply.TheVariants.{Done, No}
+use Rattle.event_loop.specs.Desktop.{Desktop, empty_desktop, name_cmp, file_of, has_file_room, filed, held}
+use Rattle.event_loop.specs.Step.{raw, fits, settled, step}
+use Rattle.event_loop.specs.Sound.{IsSound}
+
+-- ---- a put in order
+
+module _ {K X : Type 0} {R : K → K → Ordering} (o : IsTotalOrder R) (k : K) (v : X) where
+  -- what a list of keys is above is below none of the keys after a put
+  above_put : (low : K) (es : List (K × X)) → R low k ≡ Less → AllByRecursion (λ y. R low y ≡ Less) (map (λ e. e.0) es) → AllByRecursion (λ y. R low y ≡ Less) (map (λ e. e.0) (insert_entry R es k v))
+  above_put low [] less above = (less, tt)
+  above_put low (e ∷ es) less above = elim (R k e.0) as (λ r. AllByRecursion (λ y. R low y ≡ Less) (map (λ e. e.0) (match_ordering r ((k, v) ∷ e ∷ es) ((e.0, v) ∷ es) (e ∷ insert_entry R es k v)))) [
+    | Less ↦ (less, above)
+    | Equal ↦ above
+    | Greater ↦ (above.0, above_put low es less above.1)
+  ]
+
+  -- what is below the first key is below all
+  below_all : (low first : K) (ks : List K) → R low first ≡ Less → AllByRecursion (λ y. R first y ≡ Less) ks → AllByRecursion (λ y. R low y ≡ Less) ks
+  below_all low first [] less above = tt
+  below_all low first (x ∷ ks) less above = (o.trans low first x less above.0, below_all low first ks less above.1)
+
+  pub rising_put : (es : List (K × X)) → IsStrictlySortedBy R (map (λ e. e.0) es) → IsStrictlySortedBy R (map (λ e. e.0) (insert_entry R es k v))
+  unfolding IsStrictlySortedBy
+  rising_put [] rising = (tt, tt)
+  rising_put (e ∷ es) rising = (elim (R k e.0) as (λ r. R k e.0 ≡ r → IsStrictlySortedBy R (map (λ e. e.0) (match_ordering r ((k, v) ∷ e ∷ es) ((e.0, v) ∷ es) (e ∷ insert_entry R es k v)))) [
+    | Less ↦ λ less. ((less, below_all k e.0 (map (λ e. e.0) es) less rising.0), rising)
+    | Equal ↦ λ equal. rising
+    | Greater ↦ λ greater. (above_put e.0 es (o.antisymm e.0 k ∙ ap ordering_reverse greater) rising.0, rising_put es rising.1)
+  ]) refl
+
+-- ---- how many entries
+
+count_values : {K X : Type 0} (es : List (K × X)) → sum_by (λ x. 1) (map (λ e. e.1) es) ≡ length es
+count_values [] = refl
+count_values (e ∷ es) = sum_by-cons (λ x. 1) e.1 (map (λ e. e.1) es) ∙ ap (λ n. 1 + n) (count_values es) ∙ omega arith
+
+one_if : {X : Type 0} (found : Option X) → unwrap_or (option_map (λ x. 1) found) 0 ≡ (let n : ℕ = cond (is_some found) 1 0 in n)
+one_if None = refl
+one_if (Some x) = refl
+
+-- a put of a name adds one file where there was none
+count_put : (d : Desktop) (name bytes : List ℕ) → IsStrictlySortedBy name_cmp (map (λ file. file.0) d.files) → length (filed d name bytes).files + cond (is_some (file_of d name)) 1 0 ≡ length d.files + 1
+unfolding filed file_of
+count_put d name bytes rising =
+    omega (arith, sum_by-insert_entry {X = List ℕ} (λ bytes. 1) (lists_total nat_cmp_total) d.files name bytes rising, count_values d.files, count_values (insert_entry name_cmp d.files name bytes), one_if (lookup (is_at (name_cmp name)) d.files))
+
+-- ---- the step
+
+both : (a b : Bool) → a && b ≡ true → (a ≡ true) × (b ≡ true)
+both true b h = (refl, h)
+both false b h = absurd cc
+
+room_for : (found : Bool) (count after : ℕ) → after + cond found 1 0 ≡ count + 1 → count ≤ 256 → found || nat_lt count 256 ≡ true → after ≤ 256
+room_for true count after sum small room = omega arith
+room_for false count after sum small room = omega (arith, ltb-true count 256 room)
+
+filed_sound : (d : Desktop) (name bytes : List ℕ) → IsSound d → is_name name ≡ true → is_file_bytes bytes ≡ true → has_file_room d name ≡ true → fits (filed d name bytes) ≡ true → IsSound (filed d name bytes)
+unfolding filed
+filed_sound d name bytes sound is_one is_text room fit =
+    let (written, held) = both _ _ fit in
+    record {
+      named = All-keys-insert_entry name_cmp name bytes (λ name. IsTrue (is_name name)) d.files sound.named is_one;
+      rising = rising_put (lists_total nat_cmp_total) name bytes d.files sound.rising;
+      text = All-values-insert_entry name_cmp name bytes (λ bytes. IsTrue (list_all is_text_byte bytes)) d.files sound.text (both _ _ is_text).1;
+      count = room_for _ _ _ (count_put d name bytes sound.rising) sound.count room;
+      written_within = leb-true _ _ written;
+      held_within = leb-true _ _ held;
+    }
+
+pub empty_sound : IsSound empty_desktop
+unfolding empty_desktop IsStrictlySortedBy held
+empty_sound = record {
+  named = search rules;
+  rising = tt;
+  text = search rules;
+  count = omega arith;
+  written_within = omega arith;
+  held_within = omega arith;
+}
+
+abbrev both_of : Desktop × Reply → Desktop × Reply
+both_of x = x
+
+pub sound_step : (d : Desktop) (event : Event) → IsSound d → IsEvent event → IsSound (step d event).0
+unfolding step settled raw
+sound_step d (File name bytes) sound valid = (elim (has_file_room d name) as (λ room. has_file_room d name ≡ room → IsSound (settled d (cond room (Ok (filed d name bytes)) (Err 8))).0) [
+  | true ↦ λ room. (elim (fits (filed d name bytes)) as (λ fit. fits (filed d name bytes) ≡ fit → IsSound (both_of (cond fit (filed d name bytes, Done) (d, No 6))).0) [
+    | true ↦ λ fit. filed_sound d name bytes sound valid.0 valid.1 room fit
+    | false ↦ λ unfit. sound
+  ]) refl
+  | false ↦ λ full. sound
+]) refl
