@@ -13,10 +13,14 @@ mod fuse;
 mod history;
 mod index;
 mod memory;
+mod one_fault;
+#[cfg(test)]
+mod tests;
 
 pub use call::Call;
 pub use disk::{Disk, Fault};
 pub use file::FileDisk;
-pub use fuse::{Fuse, OneFault};
+pub use fuse::Fuse;
 pub use memory::MemoryDisk;
+pub use one_fault::OneFault;
 pub use std::alloc::AllocError as NoMemory;
