@@ -6,12 +6,14 @@ ghost use Rattle.event_bytes.specs.Bytes.{is_text_byte as text_byte, is_file_byt
 use arrayvec::ArrayVec;
 use std::marker::Model;
 
-/// The bytes that one event puts into a file: 0 to 900, each a tabulator (9), a carriage return (13) or from the space to the tilde (32 to 126).
+const MOST: usize = 900;
+
+/// The bytes that one event puts into a file, by this profile's rule: 0 to 900, each a tabulator (9), a carriage return (13) or from the space to the tilde (32 to 126).
 ///
 /// A clause sees the list of them.
 #[derive(Debug, PartialEq, Eq, Drop)]
 pub struct FileBytes {
-    bytes: ArrayVec<u8, 900>,
+    bytes: ArrayVec<u8, MOST>,
 }
 
 impl Model for FileBytes {
@@ -28,7 +30,7 @@ impl Model for FileBytes {
 }
 
 impl FileBytes {
-    /// These bytes, where a file can have them and they are at most 900; else None.
+    /// These bytes. None exactly where one of them can't stand in a file, or they are more than 900.
     pub fn new(bytes: &[u8]) -> Option<FileBytes>
         ensures { result ≡ (if file_bytes bytes.now then Some bytes.now else None) }
     {
@@ -39,7 +41,7 @@ impl FileBytes {
         Some(FileBytes { bytes })
     }
 
-    /// The bytes.
+    /// The bytes, 0 to 900.
     pub fn as_bytes(&self) -> &[u8]
         ensures value { result.now ≡ self.now }
         ensures valid { IsTrue (file_bytes self.now) }
@@ -51,7 +53,7 @@ impl FileBytes {
 fn is_file_bytes(bytes: &[u8]) -> bool
     ensures { result ≡ file_bytes bytes.now }
 {
-    bytes.len() <= 900 && are_text_bytes(bytes)
+    bytes.len() <= MOST && are_text_bytes(bytes)
 }
 
 fn are_text_bytes(bytes: &[u8]) -> bool

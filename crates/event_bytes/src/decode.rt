@@ -6,11 +6,11 @@ ghost use Rattle.event_bytes.specs.Spelling.{spelling, Begins};
 ghost use Rattle.event_bytes.specs.Reading.{name_at, file_bytes_at, file_at, body_at, event_at};
 
 use crate::bytes::FileBytes;
-use crate::event::Event;
+use crate::event::{Event, FILE};
 use crate::name::Name;
 
 impl Event {
-    /// The event that the bytes begin with, and how many bytes spell it; None where they begin with no event's spelling. What stands behind them doesn't matter.
+    /// The event that the bytes begin with, and how many bytes spell it. None exactly where they begin with no event's spelling, as where it is cut off. What stands behind the spelling doesn't matter.
     pub fn decode(bytes: &[u8]) -> Option<(Event, usize)>
         ensures found { IfSome result (λ x. Begins bytes.now x.0) }
         ensures count { IfSome result (λ x. x.1 ≡ length (spelling x.0)) }
@@ -35,7 +35,7 @@ fn body_from(number: u8, bytes: &[u8]) -> Option<(Event, &[u8])>
     ensures { answer result ≡ body_at number bytes.now }
 {
     match number {
-        5 => {
+        FILE => {
             let ((name, bytes), rest) = file_from(bytes)?;
             Some((Event::File { name, bytes }, rest))
         }

@@ -4,14 +4,14 @@ ghost use Rattle.arrayvec.specs.ArrayVec.{array_vec_len};
 ghost use Rattle.event_bytes.specs.Parts.{byte, word, counted};
 ghost use Rattle.event_bytes.specs.Spelling.{IsEvent, spelling};
 
-use crate::event::Event;
+use crate::event::{Event, FILE};
 use arrayvec::ArrayVec;
 
-/// An event's bytes, or as many of them as are written.
+/// As much of a spelling as is written; the longest has 935 bytes.
 type Written = ArrayVec<u8, 935>;
 
 impl Event {
-    /// The bytes that spell the event.
+    /// The bytes that spell the event, from 2 to 935 of them. The format is this profile's: the number of the event's kind in one byte, then what it holds.
     #[tactic(auto, unfolding(crate::specs::Spelling::spelling))]
     pub fn encode(&self) -> ArrayVec<u8, 935>
         ensures spelled { result.items ≡ spelling self.now }
@@ -20,7 +20,7 @@ impl Event {
         let mut written = Written::new();
         match self {
             Event::File { name, bytes } => {
-                written.push(5);
+                written.push(FILE);
                 put_name(&mut written, name.as_bytes());
                 put_long(&mut written, bytes.as_bytes());
             }

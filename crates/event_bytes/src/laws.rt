@@ -3,7 +3,7 @@ ghost use Rattle.std.specs.Prelude.{◌≡◌, ◌≤◌, ℕ, List, length};
 ghost use Rattle.event_bytes.specs.declared.event.Event.{Event};
 ghost use Rattle.event_bytes.specs.Spelling.{IsEvent, spelling, Begins};
 
-/// Bytes begin with at most one event: an event has one spelling, two events never the same, and no spelling is the beginning of another event's.
+/// Bytes begin with at most one event: two events never have one spelling, and no event's spelling is the beginning of another's.
 pub fn at_most_one_begins()
     ensures { (bytes : List ℕ) (e f : Event) → Begins bytes e → Begins bytes f → e ≡ f }
 {}

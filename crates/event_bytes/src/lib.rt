@@ -14,3 +14,6 @@ pub use bytes::FileBytes;
 pub use event::Event;
 pub use laws::{at_most_one_begins, spelling_fits};
 pub use name::Name;
+
+#[cfg(test)]
+mod tests;

@@ -7,12 +7,14 @@ use arrayvec::ArrayVec;
 use std::alloc::AllocError;
 use std::marker::Model;
 
-/// A file's name: a letter, and then letters, digits and periods, 1 to 31 bytes in all. A letter is A to Z or a to z.
+const LONGEST: usize = 31;
+
+/// A file's name, by this profile's rule: a letter, and then letters, digits and periods, 1 to 31 bytes in all. A letter is A to Z or a to z.
 ///
 /// A clause sees the list of its bytes. Names are ordered byte by byte, a name before its longer ones.
 #[derive(Debug, PartialEq, Eq, PartialOrd, Ord, Drop)]
 pub struct Name {
-    bytes: ArrayVec<u8, 31>,
+    bytes: ArrayVec<u8, LONGEST>,
 }
 
 impl Model for Name {
@@ -45,7 +47,7 @@ impl Clone for Name {
 }
 
 impl Name {
-    /// The name of these bytes, where they are one; else None.
+    /// The name of these bytes. None exactly where they are no name.
     pub fn new(bytes: &[u8]) -> Option<Name>
         ensures { result ≡ (if names bytes.now then Some bytes.now else None) }
     {
@@ -56,7 +58,7 @@ impl Name {
         Some(Name { bytes })
     }
 
-    /// Its bytes.
+    /// Its bytes, 1 to 31.
     pub fn as_bytes(&self) -> &[u8]
         ensures value { result.now ≡ self.now }
         ensures valid { IsTrue (names self.now) }
@@ -68,7 +70,7 @@ impl Name {
 fn is_name(bytes: &[u8]) -> bool
     ensures { result ≡ names bytes.now }
 {
-    bytes.len() <= 31 && begins_with_letter(bytes) && are_name_bytes(bytes)
+    bytes.len() <= LONGEST && begins_with_letter(bytes) && are_name_bytes(bytes)
 }
 
 fn are_name_bytes(bytes: &[u8]) -> bool

@@ -4,12 +4,11 @@ use Rattle.std.specs.Prelude.{IsTrue, ◌&&◌, ◌||◌, nat_lt}
 use Rattle.std.specs.Option.{option_map, unwrap_or}
 use Rattle.std.specs.List.{AllByRecursion, list_all}
 use Rattle.std.specs.List.Sorted.{IsStrictlySortedBy}
-use Rattle.std.specs.Map.{lookup}
 use Rattle.std.specs.Cmp.{IsTotalOrder}
 use Rattle.std.specs.Ordering.{match_ordering, ordering_reverse}
 use Rattle.std.specs.declared.cmp.Ordering.{Ordering}
 use Rattle.std.specs.declared.cmp.Ordering.TheVariants.{Less, Equal, Greater}
-use Rattle.std.specs.BTreeMap.{is_at, insert_entry}
+use Rattle.std.specs.BTreeMap.{insert_entry}
 use Rattle.std.proofs.lemmas.Bool.{leb-true, ltb-true}
 use Rattle.std.proofs.lemmas.Cmp.{nat_cmp_total, lists_total}
 use Rattle.std.proofs.lemmas.List.Sums.{sum_by-cons}
@@ -21,7 +20,8 @@ use Rattle.event_bytes.specs.Bytes.{is_name, is_text_byte, is_file_bytes}
 use Rattle.event_bytes.specs.Spelling.{IsEvent}
 use Rattle.event_loop.specs.declared.reply.Reply.{Reply}
 use Rattle.event_loop.specs.declared.reply.Reply.TheVariants.{Done, No}
-use Rattle.event_loop.specs.Desktop.{Desktop, empty_desktop, name_cmp, file_of, has_file_room, filed, held}
+use Rattle.event_loop.specs.Files.{name_cmp, bytes_of, has_room, put, names}
+use Rattle.event_loop.specs.Desktop.{Desktop, empty_desktop, filed, held}
 use Rattle.event_loop.specs.Step.{raw, fits, settled, step}
 use Rattle.event_loop.specs.Sound.{IsSound}
 
@@ -62,10 +62,10 @@ one_if None = refl
 one_if (Some x) = refl
 
 -- a put of a name adds one file where there was none
-count_put : (d : Desktop) (name bytes : List ℕ) → IsStrictlySortedBy name_cmp (map (λ file. file.0) d.files) → length (filed d name bytes).files + cond (is_some (file_of d name)) 1 0 ≡ length d.files + 1
-unfolding filed file_of
+count_put : (d : Desktop) (name bytes : List ℕ) → IsStrictlySortedBy name_cmp (names d.files) → length (filed d name bytes).files + cond (is_some (bytes_of d.files name)) 1 0 ≡ length d.files + 1
+unfolding filed
 count_put d name bytes rising =
-    omega (arith, sum_by-insert_entry {X = List ℕ} (λ bytes. 1) (lists_total nat_cmp_total) d.files name bytes rising, count_values d.files, count_values (insert_entry name_cmp d.files name bytes), one_if (lookup (is_at (name_cmp name)) d.files))
+    omega (arith, sum_by-insert_entry {X = List ℕ} (λ bytes. 1) (lists_total nat_cmp_total) d.files name bytes rising, count_values d.files, count_values (put d.files name bytes), one_if (bytes_of d.files name))
 
 -- ---- the step
 
@@ -77,7 +77,7 @@ room_for : (found : Bool) (count after : ℕ) → after + cond found 1 0 ≡ cou
 room_for true count after sum small room = omega arith
 room_for false count after sum small room = omega (arith, ltb-true count 256 room)
 
-filed_sound : (d : Desktop) (name bytes : List ℕ) → IsSound d → is_name name ≡ true → is_file_bytes bytes ≡ true → has_file_room d name ≡ true → fits (filed d name bytes) ≡ true → IsSound (filed d name bytes)
+filed_sound : (d : Desktop) (name bytes : List ℕ) → IsSound d → is_name name ≡ true → is_file_bytes bytes ≡ true → has_room d.files name ≡ true → fits (filed d name bytes) ≡ true → IsSound (filed d name bytes)
 unfolding filed
 filed_sound d name bytes sound is_one is_text room fit =
     let (written, held) = both _ _ fit in
@@ -106,7 +106,7 @@ both_of x = x
 
 pub sound_step : (d : Desktop) (event : Event) → IsSound d → IsEvent event → IsSound (step d event).0
 unfolding step settled raw
-sound_step d (File name bytes) sound valid = (elim (has_file_room d name) as (λ room. has_file_room d name ≡ room → IsSound (settled d (cond room (Ok (filed d name bytes)) (Err 8))).0) [
+sound_step d (File name bytes) sound valid = (elim (has_room d.files name) as (λ room. has_room d.files name ≡ room → IsSound (settled d (cond room (Ok (filed d name bytes)) (Err 8))).0) [
   | true ↦ λ room. (elim (fits (filed d name bytes)) as (λ fit. fits (filed d name bytes) ≡ fit → IsSound (both_of (cond fit (filed d name bytes, Done) (d, No 6))).0) [
     | true ↦ λ fit. filed_sound d name bytes sound valid.0 valid.1 room fit
     | false ↦ λ unfit. sound

@@ -1,4 +1,5 @@
 pub mod Limits
+pub mod Files
 pub mod Desktop
 pub mod Step
 pub mod Sound

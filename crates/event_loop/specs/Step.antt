@@ -5,11 +5,12 @@ use Rattle.event_bytes.specs.declared.event.Event.TheVariants.{File}
 use Rattle.event_loop.specs.declared.reply.Reply.{Reply}
 use Rattle.event_loop.specs.declared.reply.Reply.TheVariants.{Done, No}
 use Rattle.event_loop.specs.Limits.{most_written, most_held, full, too_many_files}
-use Rattle.event_loop.specs.Desktop.{Desktop, has_file_room, filed, held}
+use Rattle.event_loop.specs.Files.{has_room}
+use Rattle.event_loop.specs.Desktop.{Desktop, filed, held}
 
 -- What an event does but for the limits on characters, or the code of its refusal.
 unfoldable pub raw : Desktop → Event → Result Desktop ℕ
-raw d (File name bytes) = if has_file_room d name then Ok (filed d name bytes) else Err too_many_files
+raw d (File name bytes) = if has_room d.files name then Ok (filed d name bytes) else Err too_many_files
 
 -- within the limits on characters
 abbrev pub fits : Desktop → Bool

@@ -1,12 +1,10 @@
 //! The desktop.
-ghost use Rattle.std.specs.Prelude.{◌≡◌, ℕ, List, ◌+◌, ◌-◌, ◌≤◌, ◌&&◌, ◌++◌, [], ◌∷◌, nat_le, length, map, IfOk, OnOk, OnErr, IsErrOf, option_map};
-ghost use Rattle.std.specs.Option.{option_map_or};
+ghost use Rattle.std.specs.Prelude.{◌≡◌, ◌≤◌, length, IfOk, OnErr, IsErrOf, option_map};
 ghost use Rattle.event_bytes.specs.declared.event.Event.TheVariants.{File};
 ghost use Rattle.event_loop.specs.Desktop.{empty_desktop, file_of, filed};
-ghost use Rattle.event_loop.specs.Limits.{most_written, most_held};
 ghost use Rattle.event_loop.specs.Step.{step, fits};
 ghost use Rattle.event_loop.specs.Sound.{IsSound};
-ghost use Rattle.event_loop.specs.Listing.{entries_of, file_entry};
+ghost use Rattle.event_loop.specs.Listing.{entries_of};
 
 use crate::entry::Entry;
 use crate::files::{Files, bytes_of, entries, has_room, held_with, put};
@@ -31,9 +29,9 @@ pub struct Desktop {
 }
 
 impl Model for Desktop {
-    ghost use Rattle.event_loop.specs.Desktop.{Desktop as Value_of};
+    ghost use Rattle.event_loop.specs.Desktop.{Desktop};
 
-    ghost Value = { Value_of };
+    ghost Value = { Desktop };
 
     ghost use Rattle.event_loop.specs.Sound.{IsSound};
     ghost use Rattle.event_loop.specs.Flat.{flat};

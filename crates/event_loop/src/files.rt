@@ -1,11 +1,10 @@
 //! Files by name, as a desktop keeps them.
-ghost use Rattle.std.specs.Prelude.{◌≡◌, ◌+◌, ◌≤◌, ◌||◌, ◌++◌, length, map, nat_lt, is_some, option_map, OnOk, OnErr, IfOk, IsErrOf, IsTrue};
+ghost use Rattle.std.specs.Prelude.{◌≡◌, ◌≤◌, length, map, option_map, OnOk, OnErr, IfOk, IsErrOf, IsTrue};
 ghost use Rattle.std.specs.List.Sorted.{IsStrictlySortedBy};
-ghost use Rattle.std.specs.Map.{lookup};
-ghost use Rattle.std.specs.BTreeMap.{is_at, insert_entry};
 ghost use Rattle.event_bytes.specs.Bytes.{is_name};
-ghost use Rattle.event_loop.specs.Desktop.{name_cmp};
-ghost use Rattle.event_loop.specs.Flat.{files_in, held_in, length_or_none};
+ghost use Rattle.event_loop.specs.Limits.{most_held};
+ghost use Rattle.event_loop.specs.Files as spec;
+ghost use Rattle.event_loop.specs.Flat.{files_in, length_or_none};
 ghost use Rattle.event_loop.specs.Listing.{file_entry};
 ghost use Rattle.event_loop.specs.declared.stop.Stop.TheVariants as stops;
 
@@ -15,27 +14,29 @@ use event_bytes::Name;
 use std::alloc::Global;
 use std::collections::BTreeMap;
 
+const MOST_FILES: usize = 256;
+
 pub type Files = BTreeMap<Name, Vec<u8>>;
 
 /// The bytes of the file of that name.
 pub fn bytes_of<'a>(files: &'a Files, name: &Name) -> Option<&'a [u8]>
-    ensures { option_map (λ bytes. bytes.now) result ≡ lookup (is_at (name_cmp name.now)) (files_in files.now.entries) }
+    ensures { option_map (λ bytes. bytes.now) result ≡ spec.bytes_of (files_in files.now.entries) name.now }
 {
     Some(files.get(name)?.as_slice())
 }
 
 /// Whether there is a file of that name, or room for one more.
 pub fn has_room(files: &Files, name: &Name) -> bool
-    ensures { result ≡ (is_some (lookup (is_at (name_cmp name.now)) (files_in files.now.entries)) || nat_lt (length (files_in files.now.entries)) 256) }
+    ensures { result ≡ spec.has_room (files_in files.now.entries) name.now }
 {
-    files.contains_key(name) || files.len() < 256
+    files.contains_key(name) || files.len() < MOST_FILES
 }
 
 /// How many characters the files hold.
 pub fn held(files: &Files) -> usize
-    requires { held_in (files_in files.now.entries) ≤ 262144 }
-    ensures value { result ≡ held_in (files_in files.now.entries) }
-    ensures rising { IsStrictlySortedBy name_cmp (map (λ file. file.0) (files_in files.now.entries)) }
+    requires { spec.characters (files_in files.now.entries) ≤ most_held }
+    ensures value { result ≡ spec.characters (files_in files.now.entries) }
+    ensures rising { IsStrictlySortedBy spec.name_cmp (spec.names (files_in files.now.entries)) }
 {
     let mut held = 0;
     for bytes in files.values() {
@@ -46,9 +47,9 @@ pub fn held(files: &Files) -> usize
 
 /// How many characters the files hold once the file of that name becomes these bytes.
 pub fn held_with(files: &Files, name: &Name, bytes: &[u8]) -> usize
-    requires held { held_in (files_in files.now.entries) ≤ 262144 }
+    requires held { spec.characters (files_in files.now.entries) ≤ most_held }
     requires short { length bytes.now ≤ 900 }
-    ensures { result ≡ held_in (insert_entry name_cmp (files_in files.now.entries) name.now bytes.now) }
+    ensures { result ≡ spec.characters (spec.put (files_in files.now.entries) name.now bytes.now) }
 {
     let old = length_of(files, name);
     held(files) + bytes.len() - old
@@ -56,7 +57,7 @@ pub fn held_with(files: &Files, name: &Name, bytes: &[u8]) -> usize
 
 /// How many characters the file of that name has, none where there is no such file.
 fn length_of(files: &Files, name: &Name) -> usize
-    ensures { result ≡ length_or_none (lookup (is_at (name_cmp name.now)) (files_in files.now.entries)) }
+    ensures { result ≡ length_or_none (spec.bytes_of (files_in files.now.entries) name.now) }
 {
     match bytes_of(files, name) {
         None => 0,
@@ -66,7 +67,7 @@ fn length_of(files: &Files, name: &Name) -> usize
 
 /// The file of that name becomes these bytes. After an error the files are as they were.
 pub fn put(files: &mut Files, alloc: Global, name: &Name, bytes: &[u8]) -> Result<(), Stop>
-    ensures put { OnOk result (files_in files.new.entries ≡ insert_entry name_cmp (files_in files.old.entries) name.now bytes.now) }
+    ensures put { OnOk result (files_in files.new.entries ≡ spec.put (files_in files.old.entries) name.now bytes.now) }
     ensures named { OnOk result (IsTrue (is_name name.now)) }
     ensures refused { OnErr result (files.new.entries ≡ files.old.entries) }
     ensures never_fault { ¬ IsErrOf result stops.Fault }
@@ -78,7 +79,7 @@ pub fn put(files: &mut Files, alloc: Global, name: &Name, bytes: &[u8]) -> Resul
 
 /// An entry for each file, by rising names.
 pub fn entries(alloc: Global, files: &Files) -> Result<Vec<Entry>, Stop>
-    requires { held_in (files_in files.now.entries) ≤ 262144 }
+    requires { spec.characters (files_in files.now.entries) ≤ most_held }
     ensures entries { IfOk result (λ entries. entries.items ≡ map file_entry (files_in files.now.entries)) }
     ensures never_fault { ¬ IsErrOf result stops.Fault }
 {

@@ -15,3 +15,6 @@ pub use entry::Entry;
 pub use laws::{empty_is_sound, step_keeps_sound, steps_of_more};
 pub use reply::{Reply, codes};
 pub use stop::{NoMemory, Stop};
+
+#[cfg(test)]
+mod tests;

@@ -1,5 +1,6 @@
 use Rattle.std.proofs.Common.{◌≡◌, ◌++◌, ◌≤◌, map}
-use Rattle.event_loop.specs.Flat.{files_in, held_in}
+use Rattle.event_loop.specs.Files.{characters}
+use Rattle.event_loop.specs.Flat.{files_in}
 use Rattle.event_loop.specs.Listing.{file_entry}
 use Rattle.event_loop.proofs.files.entries.Given as goal
 
@@ -7,5 +8,5 @@ use Rattle.event_loop.proofs.files.entries.Given as goal
 abbrev pub invariant-loop-name : goal.invariant-loop-name
 invariant-loop-name l = record {
   listed : l.entries.items ++ map file_entry (files_in l.name-iterator) ≡ map file_entry (files_in l.files.entries);
-  short : held_in (files_in l.name-iterator) ≤ 262144;
+  short : characters (files_in l.name-iterator) ≤ 262144;
 }
