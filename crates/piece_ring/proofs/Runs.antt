@@ -5,10 +5,7 @@ use Rattle.std.proofs.lemmas.List.{take-append-drop, drop-take}
 use Rattle.piece_ring.specs.declared.piece.Look.{Look}
 use Rattle.piece_ring.specs.declared.piece.Piece.{Piece}
 use Rattle.piece_ring.specs.Flat.{run, characters_of, flat}
-
-pub length-run : (off n : ℕ) (k : Look) → length (run off n k) ≡ n
-length-run off zero k = refl
-length-run off (suc n) k = ap suc (length-run (suc off) n k)
+use Rattle.piece_ring.specs.Lengths.{length-run}
 
 pub run-append : (off k n : ℕ) (l : Look) → run off (k + n) l ≡ run off k l ++ run (off + k) n l
 run-append off zero n l = λ i. run (sym (add-zero off) i) (zero-add n i) l

@@ -1,8 +1,10 @@
 pub mod Cursor
 pub mod Cut
 pub mod Flat
+pub mod Lengths
 pub mod Look
 pub mod Nodes
+pub mod Offsets
 pub mod Ownership
 pub mod PieceList
 pub mod Place

@@ -10,7 +10,7 @@ ghost use Rattle.piece_ring.specs.declared.piece.Piece.{Piece as APiece};
 ghost use Rattle.piece_ring.specs.Ownership.{chain_owns, chain_lent};
 
 use crate::piece::Piece;
-use std::alloc::{AllocError, Allocator, Global};
+use std::alloc::{AllocError as NoMemory, Allocator, Global};
 use std::marker::{Model, PhantomData};
 use std::mem::{align_of, size_of};
 
@@ -41,7 +41,7 @@ impl Model for Chain {
 
 impl Chain {
     /// A new node, linked to itself.
-    pub(crate) fn single(alloc: &Global, piece: Piece) -> Result<(Chain, Spot), AllocError>
+    pub(crate) fn single(alloc: &Global, piece: Piece) -> Result<(Chain, Spot), NoMemory>
         ensures { IfOk result (λ r. r.0.nodes ≡ (r.1.ptr, piece) ∷ []) }
     {
         match alloc.allocate(size_of::<Node>(), align_of::<Node>()) {
@@ -54,7 +54,7 @@ impl Chain {
                 }
                 Ok((Chain { mark: PhantomData }, Spot { ptr }))
             }
-            Err(_) => Err(AllocError),
+            Err(_) => Err(NoMemory),
         }
     }
 

@@ -7,6 +7,8 @@ mod list;
 mod piece;
 mod place;
 mod ring;
+#[cfg(test)]
+mod tests;
 
 pub use cursor::Cursor;
 pub use piece::{Look, Piece};

@@ -11,7 +11,7 @@ ghost use Rattle.piece_ring.specs.Text.{inserted, deleted, stretch, looks_change
 use crate::chain::{Chain, Spot};
 use crate::piece::{Look, Piece};
 use crate::place::{Found, Place, Seam};
-use std::alloc::{AllocError, Global};
+use std::alloc::{AllocError as NoMemory, Global};
 
 /// A node that belongs to no list yet: memory that was taken before anything is changed.
 pub(crate) struct Spare {
@@ -61,7 +61,7 @@ fn relook_nodes(chain: &mut Chain, at: Spot, i: usize, j: usize, sel: u8, look: 
 }
 
 impl Spare {
-    pub(crate) fn new(alloc: Global) -> Result<Spare, AllocError> {
+    pub(crate) fn new(alloc: Global) -> Result<Spare, NoMemory> {
         let none = Piece {
             off: 0,
             len: 0,
@@ -91,7 +91,7 @@ impl Spare {
 
 impl Stretch {
     /// The one piece of a new node.
-    pub(crate) fn of_piece(alloc: &Global, piece: Piece) -> Result<Stretch, AllocError>
+    pub(crate) fn of_piece(alloc: &Global, piece: Piece) -> Result<Stretch, NoMemory>
         requires { IsWhole piece }
         ensures pieces { IfOk result (λ s. pieces s.chain.nodes ≡ piece ∷ []) }
         ensures long { IfOk result (λ s. s.len ≡ piece.len) }
@@ -235,7 +235,7 @@ impl PieceList {
     }
 
     /// The seam at `pos`. Where it takes a node to cut a piece there, the node is taken before anything is changed.
-    pub(crate) fn seam_at(&mut self, alloc: Global, pos: u32) -> Result<Seam, AllocError>
+    pub(crate) fn seam_at(&mut self, alloc: Global, pos: u32) -> Result<Seam, NoMemory>
         requires { pos ≤ self.old.len }
         ensures same { text_of self.new.chain.nodes ≡ text_of self.old.chain.nodes }
         ensures long { self.new.len ≡ self.old.len }
@@ -273,7 +273,7 @@ impl PieceList {
         alloc: Global,
         beg: u32,
         end: u32,
-    ) -> Result<(Seam, Seam), AllocError>
+    ) -> Result<(Seam, Seam), NoMemory>
         requires order { beg ≤ end }
         requires within { end ≤ self.old.len }
         ensures same { text_of self.new.chain.nodes ≡ text_of self.old.chain.nodes }
@@ -362,11 +362,13 @@ impl PieceList {
             count,
             len: _,
         } = self;
+        let mut freed = 0;
         for _ in 0..count {
             let first = chain.next(trailer, 0);
             chain.split(trailer, 0, first, 1).free(alloc, first);
+            freed += 1;
         }
         chain.free(alloc, trailer);
-        count + 1
+        freed + 1
     }
 }

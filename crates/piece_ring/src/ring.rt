@@ -10,7 +10,7 @@ ghost use Rattle.piece_ring.specs.Text.{stretch, inserted, deleted, looks_change
 use crate::cursor::Cursor;
 use crate::list::{PieceList, Spare, Stretch};
 use crate::piece::{Look, Piece};
-use std::alloc::{AllocError, Global};
+use std::alloc::{AllocError as NoMemory, Global};
 use std::marker::Model;
 
 /// A text, as a ring of pieces of the file.
@@ -31,7 +31,7 @@ impl Model for Ring {
 
 impl Ring {
     /// An empty ring. It takes memory for its trailer.
-    pub fn new(alloc: Global) -> Result<Ring, AllocError>
+    pub fn new(alloc: Global) -> Result<Ring, NoMemory>
         ensures { IfOk result (λ r. flat r ≡ []) }
     {
         let list = PieceList::new(Spare::new(alloc)?);
@@ -46,7 +46,7 @@ impl Ring {
     }
 
     /// Cuts the piece that has `pos` inside, so that a piece begins there. The text stays, also if memory was refused.
-    pub fn split_at(&mut self, alloc: Global, pos: u32) -> Result<(), AllocError>
+    pub fn split_at(&mut self, alloc: Global, pos: u32) -> Result<(), NoMemory>
         requires { pos ≤ length (flat self.old) }
         ensures same { flat self.new ≡ flat self.old }
         ensures cut { OnOk result (IsCutAt self.new pos) }
@@ -57,7 +57,7 @@ impl Ring {
 
     /// Takes the characters from `beg` up to before `end` out. Their pieces move, and no character is copied.
     /// If memory is refused the text stays.
-    pub fn cut(&mut self, alloc: Global, beg: u32, end: u32) -> Result<Ring, AllocError>
+    pub fn cut(&mut self, alloc: Global, beg: u32, end: u32) -> Result<Ring, NoMemory>
         requires order { beg ≤ end }
         requires within { end ≤ length (flat self.old) }
         ensures taken { IfOk result (λ r. flat r ≡ stretch beg end (flat self.old)) }
@@ -76,7 +76,7 @@ impl Ring {
 
     /// Puts the characters of `other` in at `pos`. Its pieces move, and no character is copied.
     /// If memory is refused both texts stay, and `other` comes back.
-    pub fn splice(&mut self, alloc: Global, pos: u32, other: Ring) -> Result<(), (AllocError, Ring)>
+    pub fn splice(&mut self, alloc: Global, pos: u32, other: Ring) -> Result<(), (NoMemory, Ring)>
         requires within { pos ≤ length (flat self.old) }
         requires fits { length (flat self.old) + length (flat other) < 2 ^ 32 }
         ensures text { OnOk result (flat self.new ≡ inserted pos (flat other) (flat self.old)) }
@@ -95,7 +95,7 @@ impl Ring {
     }
 
     /// A ring with the characters from `beg` up to before `end`, in their looks.
-    pub fn copy(&self, alloc: Global, beg: u32, end: u32) -> Result<Ring, AllocError>
+    pub fn copy(&self, alloc: Global, beg: u32, end: u32) -> Result<Ring, NoMemory>
         requires order { beg ≤ end }
         requires within { end ≤ length (flat self.now) }
         ensures { IfOk result (λ r. flat r ≡ stretch beg end (flat self.now)) }
@@ -112,7 +112,7 @@ impl Ring {
     }
 
     /// Puts a piece at the end. If memory is refused the text stays.
-    pub fn add(&mut self, alloc: Global, piece: Piece) -> Result<(), AllocError>
+    pub fn add(&mut self, alloc: Global, piece: Piece) -> Result<(), NoMemory>
         requires whole { IsWhole piece }
         requires fits { length (flat self.old) + piece.len < 2 ^ 32 }
         ensures text { OnOk result (flat self.new ≡ flat self.old ++ characters_of piece) }
@@ -133,7 +133,7 @@ impl Ring {
         end: u32,
         sel: u8,
         look: Look,
-    ) -> Result<(), AllocError>
+    ) -> Result<(), NoMemory>
         requires order { beg ≤ end }
         requires within { end ≤ length (flat self.old) }
         ensures text { OnOk result (flat self.new ≡ looks_changed beg end sel look (flat self.old)) }
@@ -181,7 +181,6 @@ impl Ring {
 
 impl Drop for Ring {
     fn drop(self) {
-        let Ring { list, alloc } = self;
-        list.destroy(&alloc);
+        self.destroy();
     }
 }

@@ -1,7 +1,7 @@
 use Rattle.std.proofs.Common.{◌≡◌, ◌+◌, ◌-◌, ◌<◌, ◌≤◌, ◌++◌, length, take, sym, ap, ◌∙◌, arith, append_assoc, length-append}
 use Rattle.std.proofs.Math.Seq.{take-append-add}
 use Rattle.piece_ring.specs.Flat.{flat, characters_of}
-use Rattle.piece_ring.proofs.Runs.{length-run}
+use Rattle.piece_ring.specs.Lengths.{length-run}
 use Rattle.piece_ring.proofs.ring.Ring.copy.Goals as goal
 
 pub loop-left-preserved : goal.loop-left-preserved
