@@ -7,6 +7,8 @@ mod list;
 mod piece;
 mod place;
 mod ring;
+mod spare;
+mod stretch;
 #[cfg(test)]
 mod tests;
 

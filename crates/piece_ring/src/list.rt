@@ -11,25 +11,9 @@ ghost use Rattle.piece_ring.specs.Text.{inserted, deleted, stretch, looks_change
 use crate::chain::{Chain, Spot};
 use crate::piece::{Look, Piece};
 use crate::place::{Found, Place, Seam};
+use crate::spare::Spare;
+use crate::stretch::Stretch;
 use std::alloc::{AllocError as NoMemory, Global};
-
-/// A node that belongs to no list yet: memory that was taken before anything is changed.
-pub(crate) struct Spare {
-    pub(crate) chain: Chain,
-    pub(crate) at: Spot,
-    pub(crate) alloc: Global,
-    ghost only: { length chain.nodes ≡ 1 },
-    ghost lies: { slice_get (places chain.nodes) 0 ≡ Some at.ptr },
-}
-
-/// Pieces on their way between lists: at least one, without a trailer.
-pub(crate) struct Stretch {
-    pub(crate) chain: Chain,
-    pub(crate) first: Spot,
-    pub(crate) count: usize,
-    pub(crate) len: u32,
-    ghost sound: { IsStretch chain.nodes first.ptr count len },
-}
 
 /// The trailer and the nodes of the pieces, with the number of the pieces and of their characters.
 pub(crate) struct PieceList {
@@ -38,79 +22,6 @@ pub(crate) struct PieceList {
     pub(crate) count: usize,
     pub(crate) len: u32,
     ghost sound: { IsPieceList chain.nodes trailer.ptr count len },
-}
-
-/// Changes the looks of the pieces behind the node of index `i` up to that of index `j`.
-fn relook_nodes(chain: &mut Chain, at: Spot, i: usize, j: usize, sel: u8, look: Look)
-    requires at { slice_get (places chain.old.nodes) i ≡ Some at.ptr }
-    requires order { i ≤ j }
-    requires within { j < length chain.old.nodes }
-    ensures lie { places chain.new.nodes ≡ places chain.old.nodes }
-    ensures relooked { pieces chain.new.nodes ≡ with_range (i + 1) (j + 1) (relooked_piece sel look) (pieces chain.old.nodes) }
-{
-    let mut node = at;
-    for index in i..j {
-        node = chain.next(node, index);
-        let piece = chain.piece(node, index + 1);
-        let changed = Piece {
-            look: piece.look.relooked(sel, look),
-            ..piece
-        };
-        chain.set_piece(node, index + 1, changed);
-    }
-}
-
-impl Spare {
-    pub(crate) fn new(alloc: Global) -> Result<Spare, NoMemory> {
-        let none = Piece {
-            off: 0,
-            len: 0,
-            look: Look {
-                font: 0,
-                colour: 0,
-                voff: 0,
-            },
-        };
-        let (chain, at) = Chain::single(&alloc, none)?;
-        Ok(Spare { chain, at, alloc })
-    }
-
-    /// The node, and where it lies.
-    pub(crate) fn into_node(self) -> (Chain, Spot)
-        ensures only { length result.0.nodes ≡ 1 }
-        ensures lies { slice_get (places result.0.nodes) 0 ≡ Some result.1.ptr }
-    {
-        let Spare {
-            chain,
-            at,
-            alloc: _,
-        } = self;
-        (chain, at)
-    }
-}
-
-impl Stretch {
-    /// The one piece of a new node.
-    pub(crate) fn of_piece(alloc: &Global, piece: Piece) -> Result<Stretch, NoMemory>
-        requires { IsWhole piece }
-        ensures pieces { IfOk result (λ s. pieces s.chain.nodes ≡ piece ∷ []) }
-        ensures long { IfOk result (λ s. s.len ≡ piece.len) }
-    {
-        let (chain, first) = Chain::single(alloc, piece)?;
-        Ok(Stretch {
-            chain,
-            first,
-            count: 1,
-            len: piece.len,
-        })
-    }
-}
-
-impl Drop for Spare {
-    fn drop(self) {
-        let Spare { chain, at, alloc } = self;
-        chain.free(&alloc, at);
-    }
 }
 
 impl PieceList {
@@ -370,5 +281,25 @@ impl PieceList {
         }
         chain.free(alloc, trailer);
         freed + 1
+    }
+}
+
+/// Changes the looks of the pieces behind the node of index `i` up to that of index `j`.
+fn relook_nodes(chain: &mut Chain, at: Spot, i: usize, j: usize, sel: u8, look: Look)
+    requires at { slice_get (places chain.old.nodes) i ≡ Some at.ptr }
+    requires order { i ≤ j }
+    requires within { j < length chain.old.nodes }
+    ensures lie { places chain.new.nodes ≡ places chain.old.nodes }
+    ensures relooked { pieces chain.new.nodes ≡ with_range (i + 1) (j + 1) (relooked_piece sel look) (pieces chain.old.nodes) }
+{
+    let mut node = at;
+    for index in i..j {
+        node = chain.next(node, index);
+        let piece = chain.piece(node, index + 1);
+        let changed = Piece {
+            look: piece.look.relooked(sel, look),
+            ..piece
+        };
+        chain.set_piece(node, index + 1, changed);
     }
 }

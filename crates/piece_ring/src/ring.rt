@@ -8,8 +8,10 @@ ghost use Rattle.piece_ring.specs.Flat.{flat, characters_of, IsWhole};
 ghost use Rattle.piece_ring.specs.Text.{stretch, inserted, deleted, looks_changed};
 
 use crate::cursor::Cursor;
-use crate::list::{PieceList, Spare, Stretch};
+use crate::list::PieceList;
 use crate::piece::{Look, Piece};
+use crate::spare::Spare;
+use crate::stretch::Stretch;
 use std::alloc::{AllocError as NoMemory, Global};
 use std::marker::Model;
 
