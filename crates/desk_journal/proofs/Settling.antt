@@ -1,0 +1,37 @@
+-- What stands on a settled disk, and what a crash leaves of it.
+use Rattle.std.proofs.Common.{◌≡◌, ℕ, refl, sym, ◌∙◌, ap, subst, false}
+use Rattle.sector_disk.specs.Trail.{Content, Moment, Trail, now, settled, IsImage, Leaves, LeavesOnly, Touches, Nowhere}
+use Rattle.sector_disk.proofs.Touching.{spared, stays_put, still_all, still_settled}
+use Rattle.event_loop.specs.Desktop.{Desktop}
+use Rattle.desk_journal.specs.Meaning.{Standing, Stands, Means, Shows}
+use Rattle.desk_journal.specs.View.{WritesNothing, IsSettled, IsKept}
+
+-- the only image of a settled disk is what it reads
+one_image : (m : Moment) (c : Content) → ((n : ℕ) → m.pending n ≡ false) → IsImage m c → c ≡ m.reads
+one_image m c quiet image = λ i n. image n (quiet n) i
+
+pub kept_shows : (size : ℕ) (disk : Trail) (number count : ℕ) (desktop : Desktop) → IsKept size disk number count desktop → Leaves (now disk) (Shows size number count desktop)
+kept_shows size disk number count desktop kept = λ c image. record {
+  standing = kept.standing;
+  stands = subst (λ content. Stands size content kept.standing) (sym (one_image (now disk) c kept.settled.quiet image)) kept.settled.stands;
+  epoch = kept.epoch;
+  events = kept.events;
+  is = kept.is;
+}
+
+pub kept_means : (size : ℕ) (disk : Trail) (number count : ℕ) (desktop : Desktop) → IsKept size disk number count desktop → LeavesOnly disk disk (Means size desktop)
+kept_means size disk number count desktop kept =
+    spared (Means size desktop) kept.settled.quiet (stays_put Nowhere disk) (λ c same.
+    (kept.standing, subst (λ content. Stands size content kept.standing) (sym (λ i n. same n (λ none. none) i)) kept.settled.stands, kept.is))
+
+-- calls that touch nothing
+pub unwritten : (old new : Trail) → Touches Nowhere old new → WritesNothing old new
+unwritten old new run = record {
+  later = run.later;
+  kept = run.kept;
+  each = λ t above below c image n was. image n (run.settled t above below n (λ none. none) was) ∙ run.reads t above below n (λ none. none);
+}
+
+-- what was read after a sync and a look
+pub still_quiet : (old synced new : Trail) → now synced ≡ settled (now old) → Touches Nowhere synced new → (n : ℕ) → (now new).pending n ≡ false
+still_quiet old synced new is run n = still_settled synced new run n (λ none. none) (ap (λ m. m.pending n) is)

@@ -1,0 +1,9 @@
+pub mod Layout
+pub mod Meaning
+pub mod Footprint
+pub mod Finding
+pub mod View
+pub mod Record
+pub mod Load
+pub mod Run
+pub mod Stops
