@@ -1,5 +1,5 @@
 -- A piece is cut in two, of which the second goes into a node behind the first's.
-use Rattle.std.proofs.Common.{◌≡◌, ℕ, zero, suc, ◌+◌, ◌-◌, ◌<◌, ◌≤◌, ◌^◌, List, [], ◌∷◌, ◌++◌, length, take, drop, slice_get, Some, unwrap_or, All, refl, sym, ap, subst, ◌∙◌, arith, add-one, append_assoc, length-append}
+use Rattle.std.proofs.Common.{◌≡◌, ℕ, zero, suc, ◌+◌, ◌-◌, ◌<◌, ◌≤◌, List, [], ◌∷◌, ◌++◌, length, take, drop, slice_get, Some, unwrap_or, All, refl, sym, ap, subst, ◌∙◌, arith, add-one, append_assoc, length-append}
 use Rattle.std.proofs.Math.Seq.{take-append_seam}
 use Rattle.std.proofs.lemmas.List.{take-append-drop, take-append-le, length-take-le, length-map}
 use Rattle.std.proofs.lemmas.List.Elements.{All-append, All-take, All-drop}
@@ -14,7 +14,7 @@ use Rattle.piece_ring.specs.Place.{pieces_of, text_of, IsSeam, IsFound}
 use Rattle.piece_ring.specs.PieceList.{IsPieceList}
 use Rattle.piece_ring.proofs.Runs.{run-append, length-flat-next, length-flat-cons, flat-append, length-flat-append, index_order}
 use Rattle.piece_ring.proofs.Joins.{pieces_of-join, pieces_of-with, place-kept, places-with, length-with, length-join}
-use Rattle.piece_ring.proofs.Seams.{behind_trailer, piece_count, whole_one}
+use Rattle.piece_ring.proofs.Seams.{behind_trailer, whole_one}
 
 pub whole_at : (ps : List Piece) (k : ℕ) (x : Piece) → All IsWhole ps → slice_get ps k ≡ Some x → IsWhole x
 whole_at ps k x w e = subst IsWhole (sym (unwrap_or-slice_get ps k x) ∙ ap (λ o. unwrap_or o x) e) (w k x (slice_get_within ps k x e))

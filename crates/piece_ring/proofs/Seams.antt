@@ -1,12 +1,12 @@
 -- Seams: what they say of the text, and which stay.
-use Rattle.std.proofs.Common.{◌≡◌, ℕ, zero, suc, ◌+◌, ◌-◌, ◌<◌, ◌≤◌, List, [], ◌∷◌, ◌++◌, length, take, drop, slice_get, Some, All, refl, sym, ap, subst, ◌∙◌, arith, add-one}
+use Rattle.std.proofs.Common.{◌≡◌, ℕ, zero, suc, ◌+◌, ◌<◌, ◌≤◌, List, [], ◌∷◌, length, take, drop, slice_get, Some, All, refl, sym, ap, subst, ◌∙◌, arith, add-one}
 use Rattle.std.proofs.lemmas.List.{length-map}
 use denote.RawPtr.{Ptr}
 use Rattle.piece_ring.specs.declared.piece.Piece.{Piece}
 use Rattle.piece_ring.specs.declared.place.Seam.{Seam}
 use Rattle.piece_ring.specs.Flat.{flat, IsWhole}
 use Rattle.piece_ring.specs.Nodes.{places, pieces}
-use Rattle.piece_ring.specs.Place.{pieces_of, text_of, IsSeam, IsFound}
+use Rattle.piece_ring.specs.Place.{pieces_of, text_of, IsSeam}
 use Rattle.piece_ring.specs.PieceList.{IsPieceList, IsStretch}
 use Rattle.piece_ring.proofs.Runs.{length-flat-cons, length-flat-cut, take-flat, drop-flat, length-flat-next, index_below}
 

@@ -1,5 +1,5 @@
 -- A cursor's steps along the characters.
-use Rattle.std.proofs.Common.{◌≡◌, ℕ, zero, suc, ◌+◌, ◌-◌, ◌<◌, ◌≤◌, List, [], ◌∷◌, ◌++◌, length, drop, slice_get, Some, All, IsSomeAnd, refl, sym, ap, subst, ◌∙◌, arith, add-zero, zero-add, append_assoc}
+use Rattle.std.proofs.Common.{◌≡◌, ℕ, zero, suc, ◌+◌, ◌-◌, ◌<◌, ◌≤◌, List, [], ◌∷◌, ◌++◌, drop, slice_get, Some, All, IsSomeAnd, refl, sym, ap, subst, ◌∙◌, arith, add-zero, zero-add, append_assoc}
 use Rattle.std.proofs.lemmas.List.{length-map, drop_all}
 use Rattle.std.proofs.lemmas.Option.{slice_get_within}
 use denote.RawPtr.{Ptr}
@@ -9,7 +9,7 @@ use Rattle.piece_ring.specs.Cursor.{piece_from, shortened, IsCursor}
 use Rattle.piece_ring.specs.declared.place.Found.{Found}
 use Rattle.piece_ring.specs.Flat.{run, flat, IsWhole}
 use Rattle.piece_ring.specs.Nodes.{pieces}
-use Rattle.piece_ring.specs.Place.{pieces_of, text_of, IsSeam, IsFound}
+use Rattle.piece_ring.specs.Place.{pieces_of, text_of, IsFound}
 use Rattle.piece_ring.specs.PieceList.{IsPieceList}
 use Rattle.piece_ring.specs.Text.{Text}
 use Rattle.piece_ring.proofs.Dividing.{drop_at, whole_at, found_long}

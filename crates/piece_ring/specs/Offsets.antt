@@ -1,10 +1,9 @@
 -- Texts whose characters all stand in the first n of the file.
-use Rattle.std.specs.Prelude.{ℕ, zero, suc, ◌+◌, ◌<◌, ◌≤◌, List, [], ◌∷◌, ◌++◌, All, take, drop, map}
+use Rattle.std.specs.Prelude.{ℕ, zero, suc, ◌+◌, ◌<◌, ◌≤◌, [], ◌∷◌, ◌++◌, All, take, drop}
 use Rattle.std.proofs.Common.{arith}
 use Rattle.std.proofs.lemmas.List.Elements.{All-append, All-take, All-drop}
 use Rattle.piece_ring.specs.declared.piece.Look.{Look}
 use Rattle.piece_ring.specs.Flat.{run}
-use Rattle.piece_ring.specs.Look.{relooked}
 use Rattle.piece_ring.specs.Text.{Text, stretch, inserted, deleted, all_relooked, looks_changed}
 
 abbrev pub AreWithin : ℕ → Text ℕ → Type 0

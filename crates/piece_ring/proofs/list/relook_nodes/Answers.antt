@@ -1,5 +1,4 @@
-use Rattle.std.proofs.Common.{◌≡◌, ◌+◌, ◌-◌, ◌<◌, length, slice_get, Some, refl, sym, ap, ◌∙◌, arith}
-use Rattle.std.proofs.lemmas.List.{length-map}
+use Rattle.std.proofs.Common.{◌≡◌, ◌+◌, ◌-◌, slice_get, refl, sym, ap, ◌∙◌, arith}
 use Rattle.piece_ring.specs.Flat.{relooked_piece}
 use Rattle.piece_ring.specs.Nodes.{places, pieces}
 use Rattle.piece_ring.proofs.Joins.{places-with}

@@ -1,4 +1,4 @@
-use Rattle.std.proofs.Common.{◌++◌, drop, sym, ap, ◌∙◌, arith}
+use Rattle.std.proofs.Common.{◌++◌, sym, ap, ◌∙◌, arith}
 use Rattle.piece_ring.specs.Flat.{run}
 use Rattle.piece_ring.proofs.Walking.{flat-front}
 use Rattle.piece_ring.proofs.cursor.Cursor.next_run.Goals as goal

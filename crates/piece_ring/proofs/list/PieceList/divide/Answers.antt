@@ -1,6 +1,6 @@
-use Rattle.std.proofs.Common.{◌≡◌, ◌+◌, ◌-◌, ◌<◌, ◌≤◌, ◌∷◌, [], ◌++◌, length, take, drop, Some, slice_get, refl, sym, ap, ◌∙◌, arith}
+use Rattle.std.proofs.Common.{slice_get, refl, ap, ◌∙◌, arith}
 use Rattle.piece_ring.specs.Nodes.{places}
-use Rattle.piece_ring.proofs.Joins.{places-with, length-with}
+use Rattle.piece_ring.proofs.Joins.{places-with}
 use Rattle.piece_ring.proofs.Seams.{few_pieces}
 use Rattle.piece_ring.proofs.Dividing.{found_whole, found_long, divided_by, divided-text, divided-list, divided-seam, divided-kept}
 use Rattle.piece_ring.proofs.list.PieceList.divide.Goals as goal

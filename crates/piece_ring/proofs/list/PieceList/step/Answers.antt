@@ -1,4 +1,4 @@
-use Rattle.std.proofs.Common.{◌≡◌, ◌+◌, ◌<◌, length, refl, arith}
+use Rattle.std.proofs.Common.{◌+◌, refl, arith}
 use Rattle.piece_ring.proofs.Seams.{seam_index, seam-next, seam_within}
 use Rattle.piece_ring.proofs.list.PieceList.step.Goals as goal
 

@@ -1,7 +1,7 @@
-use Rattle.std.proofs.Common.{◌+◌, drop, sym, ap, ◌∙◌, arith}
+use Rattle.std.proofs.Common.{drop, ap, ◌∙◌, arith}
 use Rattle.piece_ring.specs.Flat.{flat}
 use Rattle.piece_ring.proofs.Seams.{few_pieces}
-use Rattle.piece_ring.proofs.Walking.{at_end, end-text, at_found, found-text}
+use Rattle.piece_ring.proofs.Walking.{at_end, at_found, found-text}
 use Rattle.piece_ring.proofs.ring.Ring.cursor.Goals as goal
 
 pub overflow_add-result : goal.overflow_add-result
