@@ -1,0 +1,39 @@
+-- How lines come from a reader.
+use Rattle.std.specs.Prelude.{◌≡◌, ℕ, ◌+◌, ◌*◌, ◌<◌, List, [], ◌∷◌, ◌++◌, length, true, false, Option}
+use Rattle.std.specs.Io.KnownBytes.{Consumes}
+use Rattle.oberon_main.specs.Request.{longest_line}
+use Rattle.oberon_main.specs.Script.{ended, IsLine}
+use Rattle.oberon_main.specs.declared.line.Line.{Line}
+
+-- A line is held whole, or it is known that it is too long to be one of the language.
+pub record Holds (held : Line) (line : List ℕ) : Type 0 where
+  pub long : held.is_long ≡ true → longest_line < length line
+  pub short : held.is_long ≡ false → held.bytes.items ≡ line
+
+-- A script on its way: the bytes that were read and stand in no line yet, and how many reads may follow.
+pub record Unplayed : Type 0 where
+  pub pending : List ℕ
+  pub reads : ℕ
+
+-- A bound on the lines that can still come. A read gives at most 8,192 bytes.
+abbrev pub most_lines : Unplayed → ℕ
+most_lines u = u.reads * 8193 + length u.pending
+
+-- A line stood in front, in what was pending and what then was read; left is what the reader had left.
+pub record TakesLine (old new : Unplayed) (left left' : Option (List ℕ)) (held : Line) : Type 0 where
+  pub line : List ℕ
+  pub read : List ℕ
+  pub came : Consumes left left' read
+  pub plain : IsLine line
+  pub parts : old.pending ++ read ≡ ended line ++ new.pending
+  pub holds : Holds held line
+
+-- No line feed came any more: all that was pending and read is this rest.
+pub record TakesRest (old new : Unplayed) (left left' : Option (List ℕ)) (held : Line) : Type 0 where
+  pub rest : List ℕ
+  pub read : List ℕ
+  pub came : Consumes left left' read
+  pub plain : IsLine rest
+  pub parts : old.pending ++ read ≡ rest
+  pub none : new.pending ≡ []
+  pub holds : Holds held rest
