@@ -1,10 +1,10 @@
 -- One call more.
-use Rattle.std.proofs.Common.{◌≡◌, ◌⊎◌, inl, inr, ℕ, ◌+◌, ◌≤◌, List, [], ◌∷◌, ◌++◌, length, take, Result, Ok, Err, OnOk, OnErr, refl, sym, ◌∙◌, ap, subst, arith, false}
+use Rattle.std.proofs.Common.{◌≡◌, ◌⊎◌, inl, inr, ℕ, ◌+◌, ◌≤◌, List, [], ◌∷◌, ◌++◌, length, take, Result, Ok, Err, OnOk, OnErr, IsOk, refl, sym, ◌∙◌, ap, subst, arith, false}
 use Rattle.std.proofs.lemmas.List.{length-append, take-append-le}
 use Rattle.std.proofs.Math.Seq.{take-length}
 use Rattle.std.proofs.lemmas.Bool.Decides.{nat_tests}
 use Rattle.sector_disk.specs.declared.call.Call.{Call}
-use Rattle.sector_disk.specs.Trail.{Moment, now, Touches, Nowhere, Only, written, settled}
+use Rattle.sector_disk.specs.Trail.{Moment, now, Touches, Nowhere, Only, written, settled, CountsFault}
 use Rattle.sector_disk.specs.Confined.{IsConfined}
 use Rattle.sector_disk.specs.Memory.{Recorded, blank, after, replayed, trail_of}
 use Rattle.sector_disk.proofs.Touching.{stays_put}
@@ -74,3 +74,12 @@ happened (Err _) old new call none = none
 pub nothing_happened : {E : Type 0} (result : Result (Unit {0}) E) (old new : List Call) → OnErr result (new ≡ old) → OnErr result (Unit {0} → now (trail_of new) ≡ now (trail_of old))
 nothing_happened (Ok _) old new some = some
 nothing_happened (Err _) old new is = λ _. ap (λ calls. now (trail_of calls)) is
+
+-- a call that always succeeds counts no fault
+pub counts_none : {T E : Type 0} (result : Result T E) (old new : ℕ) → IsOk result → new ≡ old → CountsFault result old new
+counts_none (Ok _) old new done same = same
+counts_none (Err _) old new done same = absurd (cc)
+
+pub always : {T E : Type 0} (result : Result T E) (P : Type 0) → P → OnOk result P
+always (Ok _) P holds = holds
+always (Err _) P holds = tt

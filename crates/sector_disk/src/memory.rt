@@ -2,7 +2,7 @@
 //!
 //! A clause sees it as a `Recorded`: its size, the calls that succeeded, and how many failed. Its trail is the replay of
 //! those calls (`specs/Memory.antt`), so what it held at every moment is exact.
-ghost use Rattle.std.specs.Prelude.{◌≡◌, ◌<◌, ℕ, [], ◌∷◌, ◌++◌, false, nat_eq, OnOk, OnErr, IfOk, IsErr, MatchResult};
+ghost use Rattle.std.specs.Prelude.{◌≡◌, ◌<◌, ℕ, [], ◌∷◌, ◌++◌, false, nat_eq, OnOk, OnErr, IfOk, IsOk, IsErr, MatchResult};
 ghost use Rattle.std.specs.Ordering.{nat_cmp};
 ghost use Rattle.std.specs.Set.{is_member};
 ghost use Rattle.std.specs.List.{All};
@@ -119,7 +119,13 @@ impl Disk for MemoryDisk {
         self.sectors
     }
 
-    fn read(&mut self, n: u32, buffer: &mut [u8; 1024]) -> Result<(), Fault> {
+    /// Copies sector `n` to the buffer. It never fails.
+    fn read(&mut self, n: u32, buffer: &mut [u8; 1024]) -> Result<(), Fault>
+        requires { n < self.old.size }
+        ensures done { IsOk result }
+        ensures unchanged { self.new ≡ self.old }
+        ensures bytes { buffer.new ≡ (now (trail_of self.old.calls)).reads n }
+    {
         self.history.latest(n, buffer);
         Ok(())
     }

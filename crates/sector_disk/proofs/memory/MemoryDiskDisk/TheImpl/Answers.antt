@@ -1,7 +1,18 @@
+use Rattle.std.proofs.Common.{sym, ap, subst}
 use Rattle.sector_disk.specs.declared.call.Call.TheVariants.{Write, Sync}
 use Rattle.sector_disk.specs.Trail.{Nowhere, Only}
-use Rattle.sector_disk.proofs.Replay.{confined, happened, nothing_happened, write_stays, sync_stays}
+use Rattle.sector_disk.specs.Confined.{IsConfined}
+use Rattle.sector_disk.specs.Memory.{trail_of}
+use Rattle.sector_disk.proofs.Confinement.{stays_put}
+use Rattle.sector_disk.proofs.Replay.{counts_none, always, confined, happened, nothing_happened, write_stays, sync_stays}
 use Rattle.sector_disk.proofs.memory.MemoryDiskDisk.TheImpl.Goals as goal
+
+pub read-tells : goal.read-tells
+read-tells c = record {
+  kept = subst (IsConfined (λ d. d.size) (λ _. Unit {0}) (λ d. trail_of d.calls) Nowhere c.args.self.now) (sym c.ensures.unchanged) (stays_put (λ d. d.size) (λ _. Unit {0}) (λ d. trail_of d.calls) Nowhere c.args.self.now);
+  cause = counts_none c.result c.args.self.now.failures c.new.self.now.failures c.ensures.done (ap (λ d. d.failures) c.ensures.unchanged);
+  bytes = always c.result _ (λ _. c.ensures.bytes);
+}
 
 pub write-tells : goal.write-tells
 write-tells c =
