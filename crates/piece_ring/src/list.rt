@@ -1,6 +1,6 @@
 //! A list of pieces in a chain of nodes: first the trailer, a node without characters, then a node for each piece.
 //! This layer has no raw pointer: it names nodes by their spots and indexes, and goes through the calls of `Chain`.
-ghost use Rattle.std.specs.Prelude.{◌≡◌, ◌+◌, ◌-◌, ◌<◌, ◌≤◌, ◌∷◌, [], ◌++◌, ◌^◌, length, Some, slice_get, IfOk, OnErr, MatchOption};
+ghost use Rattle.std.specs.Prelude.{◌≡◌, ◌+◌, ◌-◌, ◌<◌, ◌≤◌, ◌∷◌, [], ◌++◌, ◌^◌, length, Some, slice_get, IfOk, OnErr};
 ghost use Rattle.piece_ring.specs.declared.place.Seam.{Seam as ASeam};
 ghost use Rattle.piece_ring.specs.Flat.{flat, relooked_piece, IsWhole};
 ghost use Rattle.piece_ring.specs.Nodes.{places, pieces, with_range};
@@ -248,19 +248,16 @@ impl PieceList {
         relook_nodes(&mut self.chain, from.at, from.index, upto.index, sel, look);
     }
 
-    /// The pieces, or None if there are none. The trailer is freed.
-    pub(crate) fn into_stretch(mut self, alloc: &Global) -> Option<Stretch>
-        ensures { MatchOption result (text_of self.chain.nodes ≡ []) (λ s. flat (pieces s.chain.nodes) ≡ text_of self.chain.nodes) }
+    /// The pieces, of which there is at least one. The trailer is freed.
+    pub(crate) fn into_stretch(mut self, alloc: &Global) -> Stretch
+        requires { 0 < self.len }
+        ensures { flat (pieces result.chain.nodes) ≡ text_of self.chain.nodes }
     {
-        if self.len == 0 {
-            self.destroy(alloc);
-            return None;
-        }
-        let from = self.start();
-        let upto = self.end();
-        let all = self.take_out(from, upto);
+        let start = self.start();
+        let end = self.end();
+        let all = self.take_out(start, end);
         self.destroy(alloc);
-        Some(all)
+        all
     }
 
     /// Frees all nodes, and says how many there were.

@@ -77,7 +77,7 @@ impl Ring {
     }
 
     /// Puts the characters of `other` in at `pos`. Its pieces move, and no character is copied.
-    /// If memory is refused both texts stay, and `other` comes back.
+    /// If memory is refused both texts stay, and `other` comes back. An empty `other` needs none.
     pub fn splice(&mut self, alloc: Global, pos: u32, other: Ring) -> Result<(), (NoMemory, Ring)>
         requires within { pos ≤ length (flat self.old) }
         requires fits { length (flat self.old) + length (flat other) < 2 ^ 32 }
@@ -85,14 +85,16 @@ impl Ring {
         ensures refused { OnErr result (flat self.new ≡ flat self.old) }
         ensures returned { IfErr result (λ e. flat e.1 ≡ flat other) }
     {
+        if other.list.len == 0 {
+            return Ok(());
+        }
         let seam = match self.list.seam_at(alloc, pos) {
             Ok(seam) => seam,
             Err(refused) => return Err((refused, other)),
         };
         let Ring { list, alloc: own } = other;
-        if let Some(pieces) = list.into_stretch(&own) {
-            self.list.insert(seam, pieces);
-        }
+        let pieces = list.into_stretch(&own);
+        self.list.insert(seam, pieces);
         Ok(())
     }
 
