@@ -79,12 +79,14 @@ impl PieceList {
         }
     }
 
-    /// The piece that has the character at `pos`.
-    pub(crate) fn find(&self, pos: u32) -> Found
-        requires { pos < self.now.len }
+    /// The piece that has the character at `pos`, which is behind `from`.
+    pub(crate) fn find(&self, from: Seam, pos: u32) -> Found
+        requires from { IsSeam self.now.chain.nodes from }
+        requires order { from.pos ≤ pos }
+        requires within { pos < self.now.len }
         ensures { IsFound self.now.chain.nodes pos result }
     {
-        let mut before = self.start();
+        let mut before = from;
         let mut behind = self.step(before);
         while behind.pos <= pos {
             before = behind;
@@ -93,15 +95,17 @@ impl PieceList {
         Found { before, behind }
     }
 
-    /// The seam at `pos`, or the piece that has it inside.
-    pub(crate) fn place(&self, pos: u32) -> Place
-        requires { pos ≤ self.now.len }
+    /// The seam at `pos`, which is behind `from`, or the piece that has it inside.
+    fn place(&self, from: Seam, pos: u32) -> Place
+        requires from { IsSeam self.now.chain.nodes from }
+        requires order { from.pos ≤ pos }
+        requires within { pos ≤ self.now.len }
         ensures { IsPlace self.now.chain.nodes pos result }
     {
         if pos == self.len {
             return Place::Between(self.end());
         }
-        let found = self.find(pos);
+        let found = self.find(from, pos);
         if found.before.pos == pos {
             return Place::Between(found.before);
         }
@@ -154,7 +158,7 @@ impl PieceList {
         ensures at { IfOk result (λ s. s.pos ≡ pos) }
         ensures refused { OnErr result (self.new.chain.nodes ≡ self.old.chain.nodes) }
     {
-        match self.place(pos) {
+        match self.place(self.start(), pos) {
             Place::Between(seam) => Ok(seam),
             Place::Inside(found) => {
                 let spare = Spare::new(alloc)?;
@@ -163,16 +167,18 @@ impl PieceList {
         }
     }
 
-    /// The seam at `pos`, with the spare node to cut a piece there.
-    pub(crate) fn seam_with(&mut self, pos: u32, spare: Spare) -> Seam
-        requires { pos ≤ self.old.len }
+    /// The seam at `pos`, which is behind `from`, with the spare node to cut a piece there.
+    fn seam_with(&mut self, from: Seam, pos: u32, spare: Spare) -> Seam
+        requires from { IsSeam self.old.chain.nodes from }
+        requires order { from.pos ≤ pos }
+        requires within { pos ≤ self.old.len }
         ensures same { text_of self.new.chain.nodes ≡ text_of self.old.chain.nodes }
         ensures long { self.new.len ≡ self.old.len }
         ensures seam { IsSeam self.new.chain.nodes result }
         ensures at { result.pos ≡ pos }
         ensures kept { (s : ASeam) → s.pos ≤ pos → IsSeam self.old.chain.nodes s → IsSeam self.new.chain.nodes s }
     {
-        match self.place(pos) {
+        match self.place(from, pos) {
             Place::Between(seam) => seam,
             Place::Inside(found) => self.divide(pos, found, spare),
         }
@@ -195,7 +201,7 @@ impl PieceList {
     {
         let spare = Spare::new(alloc)?;
         let from = self.seam_at(alloc, beg)?;
-        let upto = self.seam_with(end, spare);
+        let upto = self.seam_with(from, end, spare);
         Ok((from, upto))
     }
 

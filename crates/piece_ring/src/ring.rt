@@ -164,7 +164,7 @@ impl Ring {
                 links: 0,
             };
         }
-        let found = self.list.find(pos);
+        let found = self.list.find(self.list.start(), pos);
         Cursor {
             list: &self.list,
             at: found.behind.at,

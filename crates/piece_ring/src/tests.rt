@@ -118,6 +118,18 @@ fn expect_plain(rt: &impl Abort, ring: &Ring, wanted: &[u32]) {
     assert_eq!(rt; cursor.next(), None);
 }
 
+/// The number of links that a walk along the whole ring follows: one behind each piece.
+fn links_of_a_walk(rt: &impl Abort, ring: &Ring) -> u32 {
+    let mut cursor = ring.cursor(0);
+    let mut links = 0u32;
+    for _ in 0..ring.len() {
+        assert!(rt; cursor.next().is_some());
+        assert!(rt; cursor.links() <= 1);
+        links = links.saturating_add(cursor.links());
+    }
+    links
+}
+
 #[test]
 fn ring(rt: HostRuntime) -> Result<(), Fail> {
     let alloc = rt.alloc();
@@ -127,6 +139,7 @@ fn ring(rt: HostRuntime) -> Result<(), Fail> {
     expect_plain(&rt, &ring, &[0, 3, 4, 5]);
     splice(&rt, &mut ring, alloc, 2, taken, &[0, 3, 4, 5], &[1, 2])?;
     expect_plain(&rt, &ring, &[0, 3, 1, 2, 4, 5]);
+    assert_eq!(rt; links_of_a_walk(&rt, &ring), 4);
     let copied = copy(&rt, &ring, alloc, 1, 3)?;
     expect_plain(&rt, &copied, &[3, 1]);
     expect_plain(&rt, &ring, &[0, 3, 1, 2, 4, 5]);
