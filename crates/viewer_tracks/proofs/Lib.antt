@@ -1,0 +1,9 @@
+pub mod Positions
+pub mod EdgeLemmas
+pub mod Opening
+pub mod Moving
+pub mod Once
+pub mod Tallest
+pub mod InPlace
+pub mod TrackLemmas
+pub mod ColumnLemmas

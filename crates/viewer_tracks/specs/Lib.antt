@@ -1,0 +1,6 @@
+pub mod Display
+pub mod Viewers
+pub mod Edits
+pub mod Room
+pub mod Columns
+pub mod Edges

@@ -1,0 +1,17 @@
+//! Where viewers stand on the display.
+//!
+//! A column of the display, the user's or the system's, shows a track: viewers over one another with their heights, and over them the
+//! filler. `Tracks` holds the tracks of both columns. A clause sees it as the record `Columns` of `specs/Columns.antt`, and what the calls do to
+//! a track is said in `specs/Edits.antt`; this crate knows nothing of what a viewer shows.
+#![tactic(auto)]
+
+mod display;
+mod edge_list;
+mod edges;
+mod tracks;
+mod viewer_id;
+mod viewers;
+
+pub use display::{COLUMNS, ROWS, SYSTEM_LEFT, Track};
+pub use tracks::{Place, Tracks};
+pub use viewer_id::ViewerId;

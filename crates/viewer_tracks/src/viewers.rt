@@ -1,0 +1,128 @@
+//! The viewers of one track. A clause sees them as the list of viewers with their heights, bottom up.
+ghost use Rattle.std.specs.Prelude.{◌≡◌, ◌<◌, ◌≤◌, ◌↔◌, [], IsTrue};
+ghost use Rattle.viewer_tracks.specs.Viewers.{times_in, entry_of, bottom_of, top_of, viewer_at, number_of};
+ghost use Rattle.viewer_tracks.specs.Edits.{opened, replaced, changed, closed};
+ghost use Rattle.viewer_tracks.specs.Room.{free_row};
+
+use crate::display::ROWS;
+use crate::edge_list::EdgeList;
+use crate::edges;
+use crate::edges::Edge;
+use crate::viewer_id::ViewerId;
+use std::marker::Model;
+use std::ops::Range;
+
+/// How many rows the filler has where a new viewer goes there.
+const ROOM: u8 = 4;
+
+#[derive(Debug, Drop)]
+pub struct Viewers {
+    edges: EdgeList,
+}
+
+impl Model for Viewers {
+    ghost use Rattle.std.specs.Prelude.{List};
+    ghost use Rattle.viewer_tracks.specs.Viewers.{Entry};
+    ghost use Rattle.viewer_tracks.specs.Edges.{entries_from, Rises};
+
+    ghost Value = { List Entry };
+
+    ghost view = { λ t. entries_from 0 t.edges };
+
+    ghost invariant = { λ t. Rises 0 t.edges };
+}
+
+impl Viewers {
+    pub fn new() -> Self
+        ensures { result ≡ [] }
+    {
+        Viewers {
+            edges: EdgeList::new(),
+        }
+    }
+
+    pub fn contains(&self, viewer: ViewerId) -> bool
+        ensures { IsTrue result ↔ (0 < times_in viewer.0 self.now) }
+    {
+        let edges = self.edges.as_slice();
+        edges::index_of(edges, viewer) < edges.len()
+    }
+
+    /// Opens a viewer at row `y`, and answers the one whose whole place it took.
+    #[tactic(auto, using(crate::proofs::Opening::taken_track, crate::proofs::Opening::taken_replaced, crate::proofs::Opening::taken_within, crate::proofs::Opening::taken_rises, crate::proofs::Opening::inserted, crate::proofs::Opening::inserted_replaced, crate::proofs::Opening::inserted_rises, crate::proofs::Opening::room, crate::proofs::Opening::entry_within, std::proofs::lemmas::Grind::common_steps))]
+    pub fn open(&mut self, viewer: ViewerId, y: u8) -> Option<ViewerId>
+        ensures track { self.new ≡ opened self.old viewer.0 y }
+        ensures replaced { number_of result ≡ replaced self.old y }
+    {
+        let edges = self.edges.as_slice();
+        let index = edges::open_entry(edges, y);
+        let top = edges::open_top(edges, y);
+        let edge = Edge { viewer, top };
+        if edges::takes_place(edges, index, top) {
+            let replaced = edges[index].viewer;
+            self.edges.set(index, edge);
+            return Some(replaced);
+        }
+        self.edges.insert(index, edge);
+        None
+    }
+
+    /// Moves the top of a viewer to row `y`, or as near to it as may be.
+    #[tactic(auto, using(crate::proofs::Moving::changed_up, crate::proofs::Moving::changed_not, crate::proofs::Moving::rises_changed, std::proofs::lemmas::Grind::common_steps))]
+    pub fn change(&mut self, viewer: ViewerId, y: u8)
+        requires { 0 < times_in viewer.0 self.old }
+        ensures track { self.new ≡ changed self.old (entry_of self.old viewer.0) y }
+    {
+        let edges = self.edges.as_slice();
+        let index = edges::index_of(edges, viewer);
+        let top = edges::change_top(edges, index, y);
+        if edges::bottom(edges, index) < top {
+            let viewer = edges[index].viewer;
+            self.edges.set(index, Edge { viewer, top });
+        }
+    }
+
+    /// Takes a viewer out. The one above it, or the filler, gets its rows.
+    #[tactic(auto, using(crate::proofs::Moving::closed_edges, crate::proofs::Moving::rises_removed))]
+    pub fn close(&mut self, viewer: ViewerId)
+        requires { 0 < times_in viewer.0 self.old }
+        ensures track { self.new ≡ closed self.old (entry_of self.old viewer.0) }
+    {
+        let index = edges::index_of(self.edges.as_slice(), viewer);
+        self.edges.remove(index);
+    }
+
+    /// The viewer that has the row `y`.
+    pub fn at(&self, y: u8) -> Option<ViewerId>
+        requires { y < ROWS }
+        ensures { number_of result ≡ viewer_at self.now y }
+    {
+        edges::viewer_at(self.edges.as_slice(), y)
+    }
+
+    /// The rows of a viewer.
+    pub fn rows_of(&self, viewer: ViewerId) -> Range<u8>
+        requires { 0 < times_in viewer.0 self.now }
+        ensures start { result.start ≡ bottom_of self.now (entry_of self.now viewer.0) }
+        ensures end { result.end ≡ top_of self.now (entry_of self.now viewer.0) }
+        ensures some { result.start < result.end }
+        ensures within { result.end ≤ ROWS }
+    {
+        let edges = self.edges.as_slice();
+        let index = edges::index_of(edges, viewer);
+        edges::bottom(edges, index)..edges::top(edges, index)
+    }
+
+    #[tactic(auto, using(crate::proofs::Tallest::free_row_filler, crate::proofs::Tallest::free_row_divided))]
+    /// The row at which to open a new viewer.
+    pub fn free_row(&self) -> u8
+        ensures value { result ≡ free_row self.now }
+        ensures within { result ≤ ROWS }
+    {
+        let edges = self.edges.as_slice();
+        if edges::bottom(edges, edges.len()) + ROOM <= ROWS {
+            return ROWS;
+        }
+        edges::middle_of_tallest(edges)
+    }
+}
