@@ -19,10 +19,6 @@ seam-drop ns s h = ap (λ n. drop n (text_of ns)) (sym h.upto) ∙ drop-flat (pi
 pub seam_within : (ns : List (Ptr × Piece)) (s : Seam) → IsSeam ns s → s.pos ≤ length (text_of ns)
 seam_within ns s h = let cut = length-flat-cut (pieces_of ns) s.index in let upto = h.upto in omega arith
 
-length-pieces_of : (ns : List (Ptr × Piece)) → length (pieces_of ns) + 1 ≤ length ns + 1
-length-pieces_of [] = omega arith
-length-pieces_of (n ∷ ns) = let long = length-map ns (λ (m : Ptr × Piece). m.1) in omega arith
-
 -- the number of pieces
 pub piece_count : (ns : List (Ptr × Piece)) (trailer : Ptr) (count len : ℕ) → IsPieceList ns trailer count len → length (pieces_of ns) ≡ count
 piece_count [] trailer count len v = let e = v.trailer_first in cc

@@ -1,8 +1,9 @@
 //! Closed chains of nodes, and every step that goes through a raw pointer.
 //!
-//! A `Chain` owns nodes that are linked in a circle, and a clause sees it as the list of its nodes: where each lies, and
-//! its piece. A `Spot` names a node and owns nothing; each call is told the spot and the index of the node that it goes to.
-//! A chain isn't dropped by itself: only `free` ends one, of a single node, so no node is lost or freed twice.
+//! A `Chain` owns nodes that are linked in a circle, and a clause sees it as the list of its nodes:
+//! where each lies, and its piece. A `Spot` names a node and owns nothing; each call is told the
+//! spot and the index of the node that it goes to. A chain isn't dropped by itself: only `free`
+//! ends one, of a single node, so no node is lost or freed twice.
 ghost use Rattle.std.specs.Prelude.{◌≡◌, ◌+◌, ◌-◌, ◌<◌, List, [], ◌∷◌, ◌++◌, length, take, drop, Some, slice_get, IfOk};
 ghost use denote.RawPtr.{Ptr};
 ghost use Rattle.piece_ring.specs.Nodes.{places, pieces, with_piece};
@@ -27,7 +28,8 @@ pub(crate) struct Spot {
     ptr: *mut Node,
 }
 
-/// The owner of nodes of which each points to the next and back, and the last to the first. It takes no space.
+/// The owner of nodes of which each points to the next and back, and the last to the first. It
+/// takes no space.
 pub(crate) struct Chain {
     mark: PhantomData<*mut Node>,
     ghost nodes: { List (Ptr × APiece) },
@@ -74,7 +76,8 @@ impl Chain {
     pub(crate) fn prev(&self, at: Spot, i: usize) -> Spot
         requires { slice_get (places self.now.nodes) i ≡ Some at.ptr }
         ensures inner { 0 < i → slice_get (places self.now.nodes) (i - 1) ≡ Some result.ptr }
-        ensures last { i ≡ 0 → slice_get (places self.now.nodes) (length self.now.nodes - 1) ≡ Some result.ptr }
+        ensures last { i ≡ 0
+            → slice_get (places self.now.nodes) (length self.now.nodes - 1) ≡ Some result.ptr }
     {
         let node = at.ptr;
         Spot {
@@ -85,8 +88,10 @@ impl Chain {
     /// The node after the one of index `i`, and the first one after the last.
     pub(crate) fn next(&self, at: Spot, i: usize) -> Spot
         requires { slice_get (places self.now.nodes) i ≡ Some at.ptr }
-        ensures inner { i + 1 < length self.now.nodes → slice_get (places self.now.nodes) (i + 1) ≡ Some result.ptr }
-        ensures last { i + 1 ≡ length self.now.nodes → slice_get (places self.now.nodes) 0 ≡ Some result.ptr }
+        ensures inner { i + 1 < length self.now.nodes
+            → slice_get (places self.now.nodes) (i + 1) ≡ Some result.ptr }
+        ensures last { i + 1 ≡ length self.now.nodes
+            → slice_get (places self.now.nodes) 0 ≡ Some result.ptr }
     {
         let node = at.ptr;
         Spot {
@@ -116,7 +121,8 @@ impl Chain {
     pub(crate) fn join(&mut self, at: Spot, i: usize, other: Chain, first: Spot)
         requires at { slice_get (places self.old.nodes) i ≡ Some at.ptr }
         requires first { slice_get (places other.nodes) 0 ≡ Some first.ptr }
-        ensures { self.new.nodes ≡ take (i + 1) self.old.nodes ++ other.nodes ++ drop (i + 1) self.old.nodes }
+        ensures { self.new.nodes
+            ≡ take (i + 1) self.old.nodes ++ other.nodes ++ drop (i + 1) self.old.nodes }
     {
         let before = at.ptr;
         let first = first.ptr;
@@ -131,7 +137,8 @@ impl Chain {
         }
     }
 
-    /// Takes out the nodes behind the one of index `i` up to the one of index `j`, as a chain of their own.
+    /// Takes out the nodes behind the one of index `i` up to the one of index `j`, as a chain of
+    /// their own.
     pub(crate) fn split(&mut self, at: Spot, i: usize, last: Spot, j: usize) -> Chain
         requires at { slice_get (places self.old.nodes) i ≡ Some at.ptr }
         requires last { slice_get (places self.old.nodes) j ≡ Some last.ptr }

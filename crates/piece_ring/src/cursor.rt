@@ -1,6 +1,7 @@
 //! A walk along the characters of a ring.
 //!
-//! A clause sees a cursor as the list of pieces that are left to it, of which the first may be the rest of one.
+//! A clause sees a cursor as the list of pieces that are left to it, of which the first may be the
+//! rest of one.
 ghost use Rattle.std.specs.Prelude.{◌≡◌, ◌+◌, ◌-◌, ◌<◌, ◌≤◌, ◌∷◌, [], ◌++◌, ◌≢◌, length, drop, Some, slice_get, MatchOption, IfSome, IsSomeAnd};
 ghost use Rattle.piece_ring.specs.Flat.{flat, characters_of, IsWhole};
 
@@ -14,7 +15,8 @@ use std::marker::Model;
 pub struct Cursor<'a> {
     pub(crate) list: &'a PieceList,
     pub(crate) at: Spot,
-    // The index of the node at `at`; behind the last piece it is one more than the number of pieces.
+    // The index of the node at `at`; behind the last piece it is one more than the number of
+    // pieces.
     pub(crate) index: usize,
     // The number of the piece's characters that were passed.
     pub(crate) within: u32,
@@ -42,10 +44,11 @@ impl<'a> Cursor<'a> {
         self.links
     }
 
-    /// The offset and the look of the character that the cursor stands before, which it then passes.
-    /// None at the end of the ring, where it stays.
+    /// The offset and the look of the character that the cursor stands before, which it then
+    /// passes. None at the end of the ring, where it stays.
     pub fn next(&mut self) -> Option<(u32, Look)>
-        ensures { MatchOption result ((flat self.old ≡ []) × (flat self.new ≡ [])) (λ c. flat self.old ≡ c ∷ flat self.new) }
+        ensures { MatchOption result ((flat self.old ≡ []) × (flat self.new ≡ []))
+            (λ c. flat self.old ≡ c ∷ flat self.new) }
     {
         let Some(rest) = self.rest() else {
             self.links = 0;
@@ -71,7 +74,8 @@ impl<'a> Cursor<'a> {
         })
     }
 
-    /// The next characters of one look that lie side by side in the file, at most `most`, which the cursor then passes.
+    /// The next characters of one look that lie side by side in the file, at most `most`, which the
+    /// cursor then passes.
     pub(crate) fn next_run(&mut self, most: u32) -> Piece
         requires some { 0 < most }
         requires more { 0 < length (flat self.old) }

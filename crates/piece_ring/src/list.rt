@@ -1,5 +1,6 @@
-//! A list of pieces in a chain of nodes: first the trailer, a node without characters, then a node for each piece.
-//! This layer has no raw pointer: it names nodes by their spots and indexes, and goes through the calls of `Chain`.
+//! A list of pieces in a chain of nodes: first the trailer, a node without characters, then a node
+//! for each piece. This layer has no raw pointer: it names nodes by their spots and indexes, and
+//! goes through the calls of `Chain`.
 ghost use Rattle.std.specs.Prelude.{◌≡◌, ◌+◌, ◌-◌, ◌<◌, ◌≤◌, ◌∷◌, [], ◌++◌, ◌^◌, length, Some, slice_get, IfOk, OnErr};
 ghost use Rattle.piece_ring.specs.declared.place.Seam.{Seam as ASeam};
 ghost use Rattle.piece_ring.specs.Flat.{flat, relooked_piece, IsWhole};
@@ -120,7 +121,8 @@ impl PieceList {
         ensures long { self.new.len ≡ self.old.len }
         ensures seam { IsSeam self.new.chain.nodes result }
         ensures at { result.pos ≡ pos }
-        ensures kept { (s : ASeam) → s.pos ≤ pos → IsSeam self.old.chain.nodes s → IsSeam self.new.chain.nodes s }
+        ensures kept { (s : ASeam) → s.pos ≤ pos → IsSeam self.old.chain.nodes s
+            → IsSeam self.new.chain.nodes s }
     {
         let Seam { at, index, pos: _ } = found.behind;
         let keep = pos - found.before.pos;
@@ -149,7 +151,8 @@ impl PieceList {
         Seam { at, index, pos }
     }
 
-    /// The seam at `pos`. Where it takes a node to cut a piece there, the node is taken before anything is changed.
+    /// The seam at `pos`. Where it takes a node to cut a piece there, the node is taken before
+    /// anything is changed.
     pub(crate) fn seam_at(&mut self, alloc: Global, pos: u32) -> Result<Seam, NoMemory>
         requires { pos ≤ self.old.len }
         ensures same { text_of self.new.chain.nodes ≡ text_of self.old.chain.nodes }
@@ -176,7 +179,8 @@ impl PieceList {
         ensures long { self.new.len ≡ self.old.len }
         ensures seam { IsSeam self.new.chain.nodes result }
         ensures at { result.pos ≡ pos }
-        ensures kept { (s : ASeam) → s.pos ≤ pos → IsSeam self.old.chain.nodes s → IsSeam self.new.chain.nodes s }
+        ensures kept { (s : ASeam) → s.pos ≤ pos → IsSeam self.old.chain.nodes s
+            → IsSeam self.new.chain.nodes s }
     {
         match self.place(from, pos) {
             Place::Between(seam) => seam,
@@ -209,7 +213,8 @@ impl PieceList {
     pub(crate) fn insert(&mut self, seam: Seam, other: Stretch)
         requires seam { IsSeam self.old.chain.nodes seam }
         requires fits { self.old.len + other.len < 2 ^ 32 }
-        ensures text { text_of self.new.chain.nodes ≡ inserted seam.pos (flat (pieces other.chain.nodes)) (text_of self.old.chain.nodes) }
+        ensures text { text_of self.new.chain.nodes
+            ≡ inserted seam.pos (flat (pieces other.chain.nodes)) (text_of self.old.chain.nodes) }
     {
         let Stretch {
             chain,
@@ -227,8 +232,10 @@ impl PieceList {
         requires from { IsSeam self.old.chain.nodes from }
         requires upto { IsSeam self.old.chain.nodes upto }
         requires order { from.pos < upto.pos }
-        ensures text { text_of self.new.chain.nodes ≡ deleted from.pos upto.pos (text_of self.old.chain.nodes) }
-        ensures taken { flat (pieces result.chain.nodes) ≡ stretch from.pos upto.pos (text_of self.old.chain.nodes) }
+        ensures text { text_of self.new.chain.nodes
+            ≡ deleted from.pos upto.pos (text_of self.old.chain.nodes) }
+        ensures taken { flat (pieces result.chain.nodes)
+            ≡ stretch from.pos upto.pos (text_of self.old.chain.nodes) }
     {
         let first = self.chain.next(from.at, from.index);
         let chain = self.chain.split(from.at, from.index, upto.at, upto.index);
@@ -249,7 +256,8 @@ impl PieceList {
         requires from { IsSeam self.old.chain.nodes from }
         requires upto { IsSeam self.old.chain.nodes upto }
         requires order { from.pos < upto.pos }
-        ensures { text_of self.new.chain.nodes ≡ looks_changed from.pos upto.pos sel look (text_of self.old.chain.nodes) }
+        ensures { text_of self.new.chain.nodes
+            ≡ looks_changed from.pos upto.pos sel look (text_of self.old.chain.nodes) }
     {
         relook_nodes(&mut self.chain, from.at, from.index, upto.index, sel, look);
     }
@@ -293,7 +301,8 @@ fn relook_nodes(chain: &mut Chain, at: Spot, i: usize, j: usize, sel: u8, look: 
     requires order { i ≤ j }
     requires within { j < length chain.old.nodes }
     ensures lie { places chain.new.nodes ≡ places chain.old.nodes }
-    ensures relooked { pieces chain.new.nodes ≡ with_range (i + 1) (j + 1) (relooked_piece sel look) (pieces chain.old.nodes) }
+    ensures relooked { pieces chain.new.nodes
+        ≡ with_range (i + 1) (j + 1) (relooked_piece sel look) (pieces chain.old.nodes) }
 {
     let mut node = at;
     for index in i..j {

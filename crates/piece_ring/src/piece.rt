@@ -33,7 +33,8 @@ fn has_bit(sel: u8, bit: u32) -> bool
 }
 
 impl Look {
-    /// This look with those fields of `new` that the selector names: bit 0 the font, bit 1 the colour, bit 2 the offset.
+    /// This look with those fields of `new` that the selector names: bit 0 the font, bit 1 the
+    /// colour, bit 2 the offset.
     pub(crate) fn relooked(self, sel: u8, new: Look) -> Look
         ensures { result ≡ relooked_look sel new self }
     {

@@ -1,7 +1,8 @@
 //! The ring: a text as a list of pieces that no other owner shares.
 //!
-//! A clause sees a ring as the list of its nonempty pieces, and speaks of the flat list of each character's offset and
-//! look alone. How a text is cut into pieces isn't promised.
+//! A clause sees a ring as the list of its nonempty pieces, and speaks of the flat list of each
+//! character's offset and look alone. How a text is cut into pieces isn't promised, but
+//! for the cut that `split_at` makes.
 ghost use Rattle.std.specs.Prelude.{◌≡◌, ◌+◌, ◌^◌, ◌<◌, ◌≤◌, ◌++◌, [], length, drop, IfOk, IfErr, OnOk, OnErr};
 ghost use Rattle.piece_ring.specs.Cut.{IsCutAt};
 ghost use Rattle.piece_ring.specs.Flat.{flat, characters_of, IsWhole};
@@ -15,7 +16,7 @@ use crate::stretch::Stretch;
 use std::alloc::{AllocError as NoMemory, Global};
 use std::marker::Model;
 
-/// A text, as a ring of pieces of the file.
+/// A text, as a ring of pieces of the file. It owns its nodes. Positions count characters from 0.
 pub struct Ring {
     list: PieceList,
     alloc: Global,
@@ -47,7 +48,8 @@ impl Ring {
         self.list.len
     }
 
-    /// Cuts the piece that has `pos` inside, so that a piece begins there. The text stays, also if memory was refused.
+    /// Cuts the piece that has `pos` inside, so that a piece begins there. The text stays, also if
+    /// memory was refused.
     pub fn split_at(&mut self, alloc: Global, pos: u32) -> Result<(), NoMemory>
         requires { pos ≤ length (flat self.old) }
         ensures same { flat self.new ≡ flat self.old }
@@ -57,8 +59,8 @@ impl Ring {
         Ok(())
     }
 
-    /// Takes the characters from `beg` up to before `end` out. Their pieces move, and no character is copied.
-    /// If memory is refused the text stays.
+    /// Takes the characters from `beg` up to before `end` out. Their pieces move, and no character
+    /// is copied. If memory is refused the text stays.
     pub fn cut(&mut self, alloc: Global, beg: u32, end: u32) -> Result<Ring, NoMemory>
         requires order { beg ≤ end }
         requires within { end ≤ length (flat self.old) }
@@ -128,8 +130,9 @@ impl Ring {
         Ok(())
     }
 
-    /// Changes the looks of the characters from `beg` up to before `end`, in the fields that `sel` names: bit 0 the font,
-    /// bit 1 the colour, bit 2 the offset. If memory is refused the text stays.
+    /// Changes the looks of the characters from `beg` up to before `end`, in the fields that `sel`
+    /// names: bit 0 the font, bit 1 the colour, bit 2 the offset. If memory is refused the text
+    /// stays.
     pub fn set_looks(
         &mut self,
         alloc: Global,

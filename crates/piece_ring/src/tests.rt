@@ -1,5 +1,6 @@
-//! The worked rows, the number of freed nodes, and each growth refused: a call whose memory is refused has to leave the texts,
-//! and is then made again, so that every test also passes under `rt try --test --fail-alloc N`, for each N.
+//! The worked rows, the number of freed nodes, and each growth refused: a call whose memory is
+//! refused has to leave the texts, and is then made again, so that every test also passes under `rt
+//! try --test --fail-alloc N`, for each N.
 
 use crate::{Look, NoMemory, Piece, Ring};
 use std::alloc::Global;
@@ -95,8 +96,8 @@ fn split_at(
     Ok(())
 }
 
-/// Asserts that the ring has the characters at these offsets, in these looks, and that its cursor follows at most one link
-/// for each.
+/// Asserts that the ring has the characters at these offsets, in these looks, and that its cursor
+/// follows at most one link for each.
 fn expect_text(rt: &impl Abort, ring: &Ring, wanted: &[(u32, Look)]) {
     assert_eq!(rt; ring.len() as usize, wanted.len());
     let mut cursor = ring.cursor(0);
