@@ -3,6 +3,8 @@ pub mod Feeds
 pub mod Gathering
 pub mod LongLines
 pub mod Percent
+pub mod Playing
+pub mod Sessions
 pub mod Splitting
 pub mod Taking
 pub mod Words

@@ -3,5 +3,8 @@ pub mod Reading
 pub mod Request
 pub mod Answer
 pub mod Session
+pub mod Opened
 pub mod Sent
 pub mod Play
+pub mod Worked
+pub mod Report

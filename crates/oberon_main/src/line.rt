@@ -1,5 +1,5 @@
 //! Taking the lines of a script from a reader, in whatever pieces it gives them.
-ghost use Rattle.std.specs.Prelude.{◌≡◌, ◌==◌, ℕ, List, [], ◌∷◌, ◌+◌, ◌<◌, ◌≤◌, ◌++◌, length, position, IsTrue, true, false, Some, IfSome, MatchOption};
+ghost use Rattle.std.specs.Prelude.{◌≡◌, ◌==◌, ℕ, List, [], ◌∷◌, ◌+◌, ◌<◌, ◌≤◌, ◌++◌, ◌↔◌, length, position, IsTrue, true, false, Some, IfSome, MatchOption};
 ghost use Rattle.std.specs.Io.KnownBytes.{Consumes, IsAtEnd};
 ghost use Rattle.oberon_main.specs.Script.{ended, IsLine};
 ghost use Rattle.oberon_main.specs.Request.{request_of};
@@ -41,6 +41,13 @@ impl Line {
         } else {
             parse(self.bytes.as_slice())
         }
+    }
+
+    /// Whether it is the empty line.
+    pub fn is_empty(&self) -> bool
+        ensures { (line : List ℕ) → Holds self.now line → IsTrue result ↔ (line ≡ []) }
+    {
+        !self.is_long && self.bytes.is_empty()
     }
 
     fn clear(&mut self)

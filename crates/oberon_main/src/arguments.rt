@@ -1,0 +1,76 @@
+//! The arguments of the program.
+
+use clap::error::ErrorKind as ParseErrorKind;
+use clap::{Arg, ArgAction, Command};
+use std::alloc::{AllocError, Global};
+use std::env;
+use std::io::ErrorKind;
+
+/// What the program is asked to do, with the path of the store where there is one.
+#[derive(Drop)]
+pub enum Order<'a> {
+    /// To play a script over a new store in memory.
+    PlayInMemory,
+    /// To make a new store.
+    Format(&'a str),
+    /// To play a script over a store.
+    Play(&'a str),
+    /// To say of a store that it can be used.
+    Check(&'a str),
+}
+
+/// Why the arguments name no order.
+#[derive(Clone, Copy, Debug, PartialEq, Eq)]
+pub enum Refusal {
+    /// They aren't of the program's language, or a word isn't UTF-8.
+    Usage,
+    /// A growth found no memory.
+    Memory,
+}
+
+impl From<AllocError> for Refusal {
+    fn from(_refused: AllocError) -> Refusal {
+        Refusal::Memory
+    }
+}
+
+/// The words of the command line, the program's name first.
+pub fn words(rt: &HostRuntime) -> Result<Vec<String>, Refusal> {
+    match env::args(rt) {
+        Ok(words) => Ok(words.collect(rt.alloc())?),
+        Err(error) if error.kind() == ErrorKind::OutOfMemory => Err(Refusal::Memory),
+        Err(_) => Err(Refusal::Usage),
+    }
+}
+
+/// What the words ask for: nothing behind the program's name, or one of the commands and a path.
+pub fn order_of<'a>(alloc: Global, words: &'a [String]) -> Result<Order<'a>, Refusal> {
+    let matches = match command(alloc)?.try_get_matches_from(words) {
+        Ok(matches) => matches,
+        Err(error) if error.kind() == ParseErrorKind::OutOfMemory => return Err(Refusal::Memory),
+        Err(_) => return Err(Refusal::Usage),
+    };
+    let Some((name, given)) = matches.subcommand() else {
+        return Ok(Order::PlayInMemory);
+    };
+    match (name, given.get_str("path")) {
+        ("format", Some(path)) => Ok(Order::Format(path)),
+        ("play", Some(path)) => Ok(Order::Play(path)),
+        ("check", Some(path)) => Ok(Order::Check(path)),
+        _ => Err(Refusal::Usage),
+    }
+}
+
+fn command<'a>(alloc: Global) -> Result<Command<'a>, AllocError> {
+    Command::new(alloc, "oberon")
+        .subcommand(over_a_path(alloc, "format")?)?
+        .subcommand(over_a_path(alloc, "play")?)?
+        .subcommand(over_a_path(alloc, "check")?)
+}
+
+fn over_a_path<'a>(alloc: Global, name: &'a str) -> Result<Command<'a>, AllocError> {
+    let path = Arg::new(alloc, "path")
+        .required(true)
+        .action(ArgAction::Set);
+    Command::new(alloc, name).arg(path)
+}

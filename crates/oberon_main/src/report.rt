@@ -1,0 +1,84 @@
+//! What is said of a store, and the statuses of the program.
+ghost use Rattle.std.specs.Prelude.{◌≡◌, ◌⊎◌, ◌++◌, false, OnOk, OnErr};
+ghost use Rattle.std.specs.Io.KnownBytes.{Appends};
+ghost use Rattle.oberon_main.specs.declared.play.PlayEnd.TheVariants as ends;
+ghost use Rattle.oberon_main.specs.Sent.{AppendsFront};
+ghost use Rattle.oberon_main.specs.Report.{check_line, refusal_line, refusal_status, end_status};
+
+use crate::answer::{ShortLine, decimal_digits, numbered_line, short_line};
+use crate::play::PlayEnd;
+use crate::sending::{OutputFault, send};
+use arrayvec::ArrayVec;
+use desk_journal::{Error, Store};
+use sector_disk::Disk;
+use std::io::Write;
+
+/// Says the layout, the epoch and the number of events of a store that can be used.
+pub fn check<W: Write, D: Disk>(writer: &mut W, store: &Store<D>) -> PlayEnd
+    requires { store.now.must_reopen ≡ false }
+    ensures done { result ≡ ends.Done → Appends (W.contents writer.old) (W.contents writer.new) (check_line 1 store.now.epoch store.now.events) }
+    ensures output { result ≡ ends.Output → AppendsFront (W.contents writer.old) (W.contents writer.new) (check_line 1 store.now.epoch store.now.events) }
+    ensures named { (result ≡ ends.Done) ⊎ (result ≡ ends.Output) }
+{
+    let Ok(info) = store.info() else {
+        unreachable!()
+    };
+    let line = check_bytes(info.layout, info.epoch, info.events);
+    match send(writer, line.as_slice()) {
+        Ok(()) => PlayEnd::Done,
+        Err(OutputFault) => PlayEnd::Output,
+    }
+}
+
+fn check_bytes(layout: u32, epoch: u32, events: u32) -> ShortLine
+    ensures { result.items ≡ check_line layout epoch events }
+{
+    let mut text = ArrayVec::<u8, 60>::new();
+    text.try_extend_from_slice(b"ok layout ").unwrap();
+    text.try_extend_from_slice(decimal_digits(layout).as_slice())
+        .unwrap();
+    text.try_extend_from_slice(b" epoch ").unwrap();
+    text.try_extend_from_slice(decimal_digits(epoch).as_slice())
+        .unwrap();
+    text.try_extend_from_slice(b" events ").unwrap();
+    text.try_extend_from_slice(decimal_digits(events).as_slice())
+        .unwrap();
+    short_line(text.as_slice())
+}
+
+/// The status of the program after a script that ended so: 0 where each line was answered, 5 for want of memory, else 4.
+pub fn status(end: &PlayEnd) -> u8
+    ensures { result ≡ end_status end.now }
+{
+    match end {
+        PlayEnd::Done => 0,
+        PlayEnd::Memory => 5,
+        PlayEnd::Fault | PlayEnd::Input | PlayEnd::Output => 4,
+    }
+}
+
+/// Says why a store was refused, as far as the writer takes it. The answer is the status of the program: 3 where there is no store or a damaged one, 5 for want of memory, else 4.
+pub fn refuse<W: Write>(writer: &mut W, error: &Error) -> u8
+    ensures status { result ≡ refusal_status error.now }
+    ensures said { AppendsFront (W.contents writer.old) (W.contents writer.new) (refusal_line error.now) }
+{
+    let _ = say_refusal(writer, error);
+    match error {
+        Error::NotAStore | Error::Damaged(_) => 3,
+        Error::NoMemory => 5,
+        _ => 4,
+    }
+}
+
+fn say_refusal<W: Write>(writer: &mut W, error: &Error) -> Result<(), OutputFault>
+    ensures said { OnOk result (Appends (W.contents writer.old) (W.contents writer.new) (refusal_line error.now)) }
+    ensures front { OnErr result (AppendsFront (W.contents writer.old) (W.contents writer.new) (refusal_line error.now)) }
+{
+    let line = match error {
+        Error::NotAStore => short_line(b"not a store"),
+        Error::Damaged(sector) => numbered_line(b"damaged ", *sector),
+        Error::NoMemory => short_line(b"memory"),
+        _ => short_line(b"fault"),
+    };
+    send(writer, line.as_slice())
+}
