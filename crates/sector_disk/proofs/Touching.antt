@@ -1,9 +1,13 @@
 -- Laws of runs of calls: what they touch, how they chain, and what a crash during them leaves.
 use Rattle.std.proofs.Common.{◌≡◌, inl, inr, ℕ, refl, ◌∙◌, ap, subst, arith, false}
 use Rattle.std.proofs.lemmas.Bool.{cases_lt}
-use Rattle.sector_disk.specs.Trail.{Content, Trail, now, IsImage, Leaves, LeavesOnly, Touches, Nowhere}
+use Rattle.sector_disk.specs.Trail.{Content, Moment, Trail, now, IsImage, Leaves, LeavesOnly, Touches, Nowhere}
 
--- no call touches anything
+-- what a disk reads is what a crash may leave of it
+pub read_is_an_image : (m : Moment) → IsImage m m.reads
+read_is_an_image m n settled = refl
+
+-- no call, nothing touched
 pub stays_put : (area : ℕ → Type 0) (d : Trail) → Touches area d d
 stays_put area d = record {
   later = omega arith;
