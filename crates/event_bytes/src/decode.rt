@@ -15,7 +15,8 @@ impl Event {
         ensures found { IfSome result (λ x. Begins bytes.now x.0) }
         ensures count { IfSome result (λ x. x.1 ≡ length (spelling x.0)) }
         ensures within { IfSome result (λ x. x.1 ≤ length bytes.now) }
-        ensures only { (event : Event) → Begins bytes.now event → result ≡ Some (event, length (spelling event)) }
+        ensures only { (event : Event) → Begins bytes.now event
+            → result ≡ Some (event, length (spelling event)) }
     {
         let (event, rest) = event_from(bytes)?;
         Some((event, bytes.len() - rest.len()))

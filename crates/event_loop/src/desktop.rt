@@ -42,7 +42,7 @@ impl Model for Desktop {
 }
 
 impl Desktop {
-    /// The empty desktop: no file, nothing written.
+    /// The empty desktop: no file, nothing written. NoMemory where a growth is refused.
     pub fn empty(alloc: Global) -> Result<Desktop, NoMemory>
         ensures { IfOk result (λ d. d ≡ empty_desktop) }
     {
@@ -52,7 +52,9 @@ impl Desktop {
         })
     }
 
-    /// What the event does. After an error the desktop is as it was.
+    /// Does the event, by this profile's rules, and answers Done, or No with the code of a refusal.
+    ///
+    /// NoMemory where a growth is refused, and the desktop is as it was; no Fault.
     pub fn step(&mut self, alloc: Global, event: &Event) -> Result<Reply, Stop>
         ensures done { IfOk result (λ reply. (self.new, reply) ≡ step self.old event.now) }
         ensures refused { OnErr result (self.new ≡ self.old) }
@@ -65,7 +67,8 @@ impl Desktop {
 
     /// The file of that name becomes these bytes.
     fn put_file(&mut self, alloc: Global, name: &Name, bytes: &FileBytes) -> Result<Reply, Stop>
-        ensures done { IfOk result (λ reply. (self.new, reply) ≡ step self.old (File name.now bytes.now)) }
+        ensures done { IfOk result (λ reply.
+            (self.new, reply) ≡ step self.old (File name.now bytes.now)) }
         ensures refused { OnErr result (self.new ≡ self.old) }
         ensures never_fault { ¬ IsErrOf result Stop.Fault }
     {
@@ -90,14 +93,16 @@ impl Desktop {
             && held_with(&self.files, name, bytes) <= MOST_HELD
     }
 
-    /// The bytes of the file of that name; None where there is no file of that name.
+    /// The bytes of the file of that name. None exactly where there is no file of that name.
     pub fn file(&self, name: &Name) -> Option<&[u8]>
         ensures { option_map (λ bytes. bytes.now) result ≡ file_of self.now name.now }
     {
         bytes_of(&self.files, name)
     }
 
-    /// An entry for each file, by rising names, and at last one for how much was written.
+    /// An entry for each file, by rising names, and at last one for how many characters were ever written.
+    ///
+    /// NoMemory where a growth is refused; no Fault. The desktop is as it was after any answer.
     pub fn list(&mut self, alloc: Global) -> Result<Vec<Entry>, Stop>
         ensures entries { IfOk result (λ entries. entries.items ≡ entries_of self.old) }
         ensures unchanged { self.new ≡ self.old }

@@ -20,7 +20,8 @@ pub type Files = BTreeMap<Name, Vec<u8>>;
 
 /// The bytes of the file of that name.
 pub fn bytes_of<'a>(files: &'a Files, name: &Name) -> Option<&'a [u8]>
-    ensures { option_map (λ bytes. bytes.now) result ≡ spec.bytes_of (files_in files.now.entries) name.now }
+    ensures { option_map (λ bytes. bytes.now) result
+        ≡ spec.bytes_of (files_in files.now.entries) name.now }
 {
     Some(files.get(name)?.as_slice())
 }
@@ -67,7 +68,8 @@ fn length_of(files: &Files, name: &Name) -> usize
 
 /// The file of that name becomes these bytes. After an error the files are as they were.
 pub fn put(files: &mut Files, alloc: Global, name: &Name, bytes: &[u8]) -> Result<(), Stop>
-    ensures put { OnOk result (files_in files.new.entries ≡ spec.put (files_in files.old.entries) name.now bytes.now) }
+    ensures put { OnOk result (files_in files.new.entries
+        ≡ spec.put (files_in files.old.entries) name.now bytes.now) }
     ensures named { OnOk result (IsTrue (is_name name.now)) }
     ensures refused { OnErr result (files.new.entries ≡ files.old.entries) }
     ensures never_fault { ¬ IsErrOf result stops.Fault }
@@ -80,7 +82,8 @@ pub fn put(files: &mut Files, alloc: Global, name: &Name, bytes: &[u8]) -> Resul
 /// An entry for each file, by rising names.
 pub fn entries(alloc: Global, files: &Files) -> Result<Vec<Entry>, Stop>
     requires { spec.characters (files_in files.now.entries) ≤ most_held }
-    ensures entries { IfOk result (λ entries. entries.items ≡ map file_entry (files_in files.now.entries)) }
+    ensures entries { IfOk result (λ entries.
+        entries.items ≡ map file_entry (files_in files.now.entries)) }
     ensures never_fault { ¬ IsErrOf result stops.Fault }
 {
     let mut entries = Vec::new(alloc);

@@ -18,5 +18,6 @@ pub fn step_keeps_sound()
 
 /// The desktop after events and one event more is the desktop after that event, from where the others led.
 pub fn steps_of_more()
-    ensures { (d : Desktop) (events : List Event) (event : Event) → steps d (events ++ event ∷ []) ≡ (step (steps d events) event).0 }
+    ensures { (d : Desktop) (events : List Event) (event : Event)
+        → steps d (events ++ event ∷ []) ≡ (step (steps d events) event).0 }
 {}
