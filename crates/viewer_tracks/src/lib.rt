@@ -15,3 +15,6 @@ mod viewers;
 pub use display::{COLUMNS, ROWS, SYSTEM_LEFT, Track};
 pub use tracks::{Place, Tracks};
 pub use viewer_id::ViewerId;
+
+#[cfg(test)]
+mod tests;
