@@ -8,4 +8,5 @@ pub mod Offsets
 pub mod Ownership
 pub mod PieceList
 pub mod Place
+pub mod Renaming
 pub mod Text

@@ -131,8 +131,8 @@ impl Ring {
     }
 
     /// Changes the looks of the characters from `beg` up to before `end`, in the fields that `sel`
-    /// names: bit 0 the font, bit 1 the colour, bit 2 the offset. If memory is refused the text
-    /// stays.
+    /// names: bit 0 the font, bit 1 the colour, bit 2 the offset. Other bits are ignored. If memory
+    /// is refused the text stays.
     pub fn set_looks(
         &mut self,
         alloc: Global,
