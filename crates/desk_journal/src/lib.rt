@@ -19,3 +19,6 @@ pub use error::Error;
 pub use laws::{finding_law, footprint_law};
 pub use run::{Answer, post_all, post_and_reopen};
 pub use store::{Info, Store};
+
+#[cfg(test)]
+mod tests;

@@ -1,0 +1,41 @@
+#!/usr/bin/env bash
+# Durable events per second of `play` over a file, against a bare loop of the same writes and syncs, turn by turn in one run:
+# on a store that has just been made, and on one whose journal was filled before. `bench/durable.sh [ROUNDS] [FOLDER]`
+set -eu
+top=$(cd "$(dirname "$0")/.." && pwd)
+rounds=${1:-5}
+folder=$(mktemp -d -p "${2:-$top}")
+trap 'rm -rf "$folder"' EXIT
+cc -O2 -o "$folder/bare" "$top/bench/durable.c"
+"$top/oberon" < /dev/null
+program=$top/crates/oberon_main/out/oberon_main
+for k in $(seq 256); do echo 'file A.Text hello'; done > "$folder/script"
+
+# Nanoseconds that a command takes.
+took() {
+    local begun
+    begun=$(date +%s%N)
+    "$@"
+    echo $(($(date +%s%N) - begun))
+}
+posts() { "$program" play "$folder/desk" < "$folder/script" > "$folder/answers"; }
+bare() { "$folder/bare" "$folder/plain"; }
+report() { awk -v what="$1" -v n="$((256 * rounds))" -v play="$2" -v loop="$3" 'BEGIN {
+    printf "%s: play %.0f events/s, bare loop %.0f events/s, ratio %.2f\n", what, n * 1e9 / play, n * 1e9 / loop, loop / play }'; }
+
+new_play=0 new_loop=0 used_play=0 used_loop=0
+for round in $(seq "$rounds"); do
+    "$program" format "$folder/desk" > /dev/null
+    head -c 15995904 /dev/zero > "$folder/plain" && sync -d "$folder/plain"
+    new_play=$((new_play + $(took posts)))
+    new_loop=$((new_loop + $(took bare)))
+    # The journal begins anew: gate 0 is closed.
+    for used in desk plain; do
+        dd if=/dev/zero of="$folder/$used" bs=1024 seek=5 count=1 conv=notrunc,fsync status=none
+    done
+    used_play=$((used_play + $(took posts)))
+    used_loop=$((used_loop + $(took bare)))
+    [ "$(grep -c '^ok$' "$folder/answers")" = 256 ]
+done
+report 'a new store' "$new_play" "$new_loop"
+report 'a used store' "$used_play" "$used_loop"

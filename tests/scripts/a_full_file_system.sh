@@ -1,0 +1,4 @@
+"$OBERON" format /dev/full
+echo "$?"
+"$OBERON" format /proc/version
+echo "$?"
