@@ -1,5 +1,5 @@
 -- What an edit in one of the two tracks makes of the columns.
-use Rattle.std.proofs.Common.{◌≡◌, ℕ, ◌+◌, ◌<◌, ◌≤◌, List, [], ◌∷◌, refl, ap, ◌==◌, cond, true, false, arith, ⊎_elim}
+use Rattle.std.proofs.Common.{◌≡◌, ℕ, ◌+◌, ◌<◌, ◌≤◌, List, [], ◌∷◌, refl, ap, ◌==◌, cond, true, false, arith, subst, sym, length, ⊎_elim}
 use Rattle.std.specs.Prelude.{All}
 use Rattle.std.proofs.lemmas.Bool.{lt-ltb, le-ltb, cases_lt, false≢true}
 use Rattle.viewer_tracks.specs.declared.display.Track.{Track}
@@ -7,7 +7,7 @@ use Rattle.viewer_tracks.specs.declared.display.Track.TheVariants.{User, System}
 use Rattle.viewer_tracks.specs.Display.{track_at}
 use Rattle.viewer_tracks.specs.Viewers.{Entry, IsTrack, times_in, entry_of}
 use Rattle.viewer_tracks.specs.Edits.{opened, changed, closed}
-use Rattle.viewer_tracks.specs.Columns.{Columns, IsColumns, IsPlaced, track_of, shown, with_shown, after_open, after_change, after_close}
+use Rattle.viewer_tracks.specs.Columns.{Columns, IsColumns, IsPlaced, track_of, topmost, shown, with_shown, after_open, after_change, after_close}
 use Rattle.viewer_tracks.proofs.Positions.{counted}
 use Rattle.viewer_tracks.proofs.Once.{times_in-opened, times_in-changed, times_in-closed, once_opened}
 use Rattle.viewer_tracks.proofs.TrackLemmas.{IsTrack-opened, IsTrack-changed, IsTrack-closed}
@@ -124,3 +124,45 @@ pub after_close_system : (u s : List Entry) (v : ℕ) → times_in v u ≤ 0 →
 unfolding after_close
 after_close_system u s v none =
     ap (λ (k : Track). with_shown (columns u s) k (closed (shown (columns u s) k) (entry_of (shown (columns u s) k) v))) (track_of_system u s v none)
+
+-- columns with one track each, for laws over all columns
+only_track : (s : List (List Entry)) → length s ≡ 1 → topmost s ∷ [] ≡ s
+only_track [] one = absurd (omega arith)
+only_track (t ∷ []) one = refl
+only_track (t ∷ under ∷ more) one = absurd (omega arith)
+
+for_columns : (P : Columns → Type 0) → ((u s : List Entry) → IsColumns (columns u s) → P (columns u s)) → (c : Columns) → IsColumns c → P c
+for_columns P each c sound =
+    let user = only_track c.user sound.one_user in
+    let system = only_track c.system sound.one_system in
+    let whole : columns (topmost c.user) (topmost c.system) ≡ c = λ k. record { user = user k; system = system k } in
+    subst P whole (each (topmost c.user) (topmost c.system) (subst IsColumns (sym whole) sound))
+
+open_keeps_case : (v x y : ℕ) (u s : List Entry) (k : Track) → track_at x ≡ k → IsColumns (columns u s) → (IsPlaced v (columns u s) → ⊥)
+    → IsColumns (after_open (columns u s) v x y)
+open_keeps_case v x y u s User at c fresh = subst IsColumns (sym (after_open_user u s v x y at)) (opened_user u s v y c fresh)
+open_keeps_case v x y u s System at c fresh = subst IsColumns (sym (after_open_system u s v x y at)) (opened_system u s v y c fresh)
+
+pub open_keeps : (c : Columns) (v x y : ℕ) → IsColumns c → (IsPlaced v c → ⊥) → IsColumns (after_open c v x y)
+open_keeps c v x y =
+    for_columns (λ c. (IsPlaced v c → ⊥) → IsColumns (after_open c v x y)) (λ u s sound fresh. open_keeps_case v x y u s _ refl sound fresh) c
+
+pub change_keeps : (c : Columns) (v y : ℕ) → IsColumns c → IsPlaced v c → IsColumns (after_change c v y)
+change_keeps c v y =
+    for_columns (λ c. IsPlaced v c → IsColumns (after_change c v y))
+    (λ u s sound placed.
+    ⊎_elim
+    (λ some. subst IsColumns (sym (after_change_user u s v y some)) (changed_user u s v y sound some))
+    (λ none. subst IsColumns (sym (after_change_system u s v y none)) (changed_system u s v y sound (in_system u s v placed none)))
+    (cases_lt 0 (times_in v u)))
+    c
+
+pub close_keeps : (c : Columns) (v : ℕ) → IsColumns c → IsPlaced v c → IsColumns (after_close c v)
+close_keeps c v =
+    for_columns (λ c. IsPlaced v c → IsColumns (after_close c v))
+    (λ u s sound placed.
+    ⊎_elim
+    (λ some. subst IsColumns (sym (after_close_user u s v some)) (closed_user u s v sound some))
+    (λ none. subst IsColumns (sym (after_close_system u s v none)) (closed_system u s v sound (in_system u s v placed none)))
+    (cases_lt 0 (times_in v u)))
+    c

@@ -7,3 +7,4 @@ pub mod Tallest
 pub mod InPlace
 pub mod TrackLemmas
 pub mod ColumnLemmas
+pub mod RowLemmas

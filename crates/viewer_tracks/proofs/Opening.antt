@@ -174,7 +174,7 @@ filler_left es i top past =
     let many = length-entries_from 0 es in
     grind (arith, nat_tests)
 
-opening_at : (es : List Edge) (y : ℕ) → Rises 0 es → Opening es y (open_entry (entries_from 0 es) y) (open_top (entries_from 0 es) y)
+pub opening_at : (es : List Edge) (y : ℕ) → Rises 0 es → Opening es y (open_entry (entries_from 0 es) y) (open_top (entries_from 0 es) y)
 opening_at es y rising =
     let t = entries_from 0 es in
     opening es y (open_entry t y) (open_top t y) rising (lowest_entry es y rising) refl
@@ -188,7 +188,7 @@ taken_within es i top whole =
     ⊎_elim (λ within. within) (λ past. absurd (false≢true (sym (filler_left es i top past) ∙ whole))) (cases_lt i (length es))
 
 -- the edge of the viewer that one opening at row y replaces ends where the new one does
-same_top : (es : List Edge) (y : ℕ) (d : Edge) → Rises 0 es
+pub same_top : (es : List Edge) (y : ℕ) (d : Edge) → Rises 0 es
     → takes_place (entries_from 0 es) (open_entry (entries_from 0 es) y) (open_top (entries_from 0 es) y) ≡ true
     → (get_or es (open_entry (entries_from 0 es) y) d).top ≡ open_top (entries_from 0 es) y
 same_top es y d rising whole =

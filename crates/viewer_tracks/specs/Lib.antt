@@ -4,3 +4,4 @@ pub mod Edits
 pub mod Room
 pub mod Columns
 pub mod Edges
+pub mod Rows

@@ -8,11 +8,16 @@
 mod display;
 mod edge_list;
 mod edges;
+mod laws;
 mod tracks;
 mod viewer_id;
 mod viewers;
 
 pub use display::{COLUMNS, ROWS, SYSTEM_LEFT, Track};
+pub use laws::{
+    change_moves_one_border, close_gives_to_the_one_above, edits_keep_columns,
+    open_takes_rows_of_one_entry,
+};
 pub use tracks::{Place, Tracks};
 pub use viewer_id::ViewerId;
 
