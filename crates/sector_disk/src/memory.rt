@@ -17,6 +17,9 @@ use crate::{Disk, Fault, NoMemory};
 use std::alloc::Global;
 use std::marker::Model;
 
+/// A disk in memory, of any number of sectors of 1,024 bytes. It is always honest. It keeps about 1 KB of memory for
+/// each write, for as long as it lives; a write or sync that finds no memory for its record answers `Fault` and
+/// changes nothing.
 #[derive(Drop)]
 pub struct MemoryDisk {
     sectors: u32,
@@ -35,7 +38,7 @@ impl Model for MemoryDisk {
 }
 
 impl MemoryDisk {
-    /// A disk of so many sectors, each of zeros, with nothing pending.
+    /// A disk of so many sectors, each of zeros, with nothing pending. `NoMemory` where there is no room for it.
     pub fn new(alloc: Global, sectors: u32) -> Result<MemoryDisk, NoMemory>
         ensures { IfOk result (λ d. d ≡ record { size = sectors; calls = []; failures = 0 }) }
     {
@@ -61,7 +64,7 @@ impl MemoryDisk {
         self.history.is_pending(n)
     }
 
-    /// The pending sectors, in rising order.
+    /// The pending sectors, in rising order. `NoMemory` where there is no room for the list.
     pub fn pending_sectors(&self, alloc: Global) -> Result<Vec<u32>, NoMemory>
         ensures rising { IfOk result (λ v. IsStrictlySortedBy nat_cmp v.items) }
         ensures which { IfOk result (λ v. (n : ℕ) → is_member nat_eq v.items n ≡ (now (trail_of self.now.calls)).pending n) }
@@ -72,7 +75,8 @@ impl MemoryDisk {
 
     /// A disk as a crash at this moment may leave it: a pending sector holds the bytes that the last pair for it
     /// gives, and each other sector, as one that no pair names, what a read of it gives. A pair for a sector that
-    /// isn't pending is ignored. The new disk has nothing pending and no failures.
+    /// isn't pending is ignored. The new disk has nothing pending and no failures. `NoMemory` where there is no room
+    /// for it.
     pub fn crash(
         &self,
         alloc: Global,

@@ -19,6 +19,7 @@ pub struct OneFault<D: Disk> {
 }
 
 impl<D: Disk> OneFault<D> {
+    /// A disk over this one that fails at call number `call`, the first call being number 0.
     pub fn new(disk: D, call: u64) -> OneFault<D>
         ensures disk { disk_under result ≡ disk }
         ensures call { calls_ahead result ≡ Some call }
