@@ -131,7 +131,7 @@ only_track [] one = absurd (omega arith)
 only_track (t ∷ []) one = refl
 only_track (t ∷ under ∷ more) one = absurd (omega arith)
 
-for_columns : (P : Columns → Type 0) → ((u s : List Entry) → IsColumns (columns u s) → P (columns u s)) → (c : Columns) → IsColumns c → P c
+pub for_columns : (P : Columns → Type 0) → ((u s : List Entry) → IsColumns (columns u s) → P (columns u s)) → (c : Columns) → IsColumns c → P c
 for_columns P each c sound =
     let user = only_track c.user sound.one_user in
     let system = only_track c.system sound.one_system in

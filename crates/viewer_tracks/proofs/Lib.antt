@@ -8,3 +8,4 @@ pub mod InPlace
 pub mod TrackLemmas
 pub mod ColumnLemmas
 pub mod RowLemmas
+pub mod PlacedLemmas

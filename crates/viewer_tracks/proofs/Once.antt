@@ -10,11 +10,11 @@ use Rattle.viewer_tracks.specs.Edits.{with_entry, with_height, with_viewer, take
 abbrev pub one_if : ℕ → ℕ → ℕ
 one_if v w = cond (v == w) 1 0
 
-times_in-cons : (w : ℕ) (e : Entry) (t : List Entry) → times_in w (e ∷ t) ≡ one_if e.viewer w + times_in w t
+pub times_in-cons : (w : ℕ) (e : Entry) (t : List Entry) → times_in w (e ∷ t) ≡ one_if e.viewer w + times_in w t
 times_in-cons w e t = sum_by-cons (λ (x : Entry). one_if x.viewer w) e t
 
 -- a change of a height
-times_in-with_height : (w : ℕ) (h : Entry → ℕ) (t : List Entry) (i : ℕ)
+pub times_in-with_height : (w : ℕ) (h : Entry → ℕ) (t : List Entry) (i : ℕ)
     → times_in w (with_entry (λ e. with_height (h e) e) t i) ≡ times_in w t
 times_in-with_height w h [] i = refl
 times_in-with_height w h (e ∷ t) zero = times_in-cons w (with_height (h e) e) t ∙ sym (times_in-cons w e t)

@@ -27,7 +27,7 @@ pub record Opening (es : List Edge) (y i top : ℕ) : Type 0 where
 abbrev pub no_edge : Edge
 no_edge = record { viewer = record { 0 = 0 }; top = 0 }
 
-reaches : (es : List Edge) (z i : ℕ) (d : Edge) → i ≡ position_or_len (λ e. nat_le z e.top) es
+pub reaches : (es : List Edge) (z i : ℕ) (d : Edge) → i ≡ position_or_len (λ e. nat_le z e.top) es
     → i < length es → z ≤ (get_or es i d).top
 reaches es z i d lowest within =
     let at : (get_or es i d).top ≡ (get_or es (position_or_len (λ (e : Edge). nat_le z e.top) es) d).top =
@@ -40,7 +40,7 @@ passed : (es : List Edge) (z i k : ℕ) (d : Edge) → i ≡ position_or_len (λ
 passed es z i k d lowest less =
     leb-false z _ (fails_before_first (λ (e : Edge). nat_le z e.top) es k d (omega arith))
 
-begins_below : (es : List Edge) (z i : ℕ) → Rises 0 es → i ≡ position_or_len (λ e. nat_le z e.top) es
+pub begins_below : (es : List Edge) (z i : ℕ) → Rises 0 es → i ≡ position_or_len (λ e. nat_le z e.top) es
     → i ≤ length es → 0 < i → bottom_of (entries_from 0 es) i < z
 begins_below es z i rising lowest within more =
     let edge = bottom_of_edge es i no_edge rising more within in

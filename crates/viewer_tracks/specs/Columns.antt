@@ -1,6 +1,6 @@
 -- The two columns of the display. A column is a stack of tracks with the topmost first, which alone is seen, opened into and changed; each
 -- has one track so far.
-use Rattle.std.specs.Prelude.{◌≡◌, ℕ, ◌+◌, ◌<◌, ◌≤◌, List, [], ◌∷◌, length, All, sum_by, if◌then◌else◌, nat_lt, Option, Some, None}
+use Rattle.std.specs.Prelude.{◌≡◌, ℕ, ◌+◌, ◌<◌, ◌≤◌, List, [], ◌∷◌, length, All, sum_by, if◌then◌else◌, ◌==◌, nat_lt, Option, Some, None}
 use Rattle.viewer_tracks.specs.declared.display.Track.{Track}
 use Rattle.viewer_tracks.specs.declared.display.Track.TheVariants.{User, System}
 use Rattle.viewer_tracks.specs.Display.{track_at, left_of}
@@ -48,6 +48,11 @@ times_on v s = sum_by (times_in v) s
 abbrev pub times_placed : ℕ → Columns → ℕ
 times_placed v c = times_on v c.user + times_on v c.system
 
+-- 1 for the viewer that is meant, where one is, and 0 for all others
+abbrev pub times_meant : ℕ → Option ℕ → ℕ
+times_meant v None = 0
+times_meant v (Some w) = if w == v then 1 else 0
+
 abbrev pub IsPlaced : ℕ → Columns → Type 0
 IsPlaced v c = 0 < times_placed v c
 
@@ -72,6 +77,13 @@ placed_bottom c v = bottom_of (shown c (track_of c v)) (placed_entry c v)
 
 abbrev pub placed_top : Columns → ℕ → ℕ
 placed_top c v = top_of (shown c (track_of c v)) (placed_entry c v)
+
+-- a viewer is placed and has the cell at column x and row y
+pub record StandsAt (c : Columns) (v x y : ℕ) : Type 0 where
+  pub placed : IsPlaced v c
+  pub track : track_of c v ≡ track_at x
+  pub from : placed_bottom c v ≤ y
+  pub before : y < placed_top c v
 
 -- the viewer that is seen at a cell of the display
 abbrev pub seen_at : Columns → ℕ → ℕ → Option ℕ

@@ -15,8 +15,8 @@ mod viewers;
 
 pub use display::{COLUMNS, ROWS, SYSTEM_LEFT, Track};
 pub use laws::{
-    change_moves_one_border, close_gives_to_the_one_above, edits_keep_columns,
-    open_takes_rows_of_one_entry,
+    change_moves_one_border, close_gives_to_the_one_above, edits_keep_columns, edits_place_viewers,
+    open_takes_rows_of_one_entry, seen_viewers_stand_there,
 };
 pub use tracks::{Place, Tracks};
 pub use viewer_id::ViewerId;

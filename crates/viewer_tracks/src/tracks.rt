@@ -1,5 +1,5 @@
 //! The tracks of the display, which callers open, change and close viewers in.
-ghost use Rattle.std.specs.Prelude.{◌≡◌, ◌<◌, ◌≤◌, ◌↔◌, IsTrue};
+ghost use Rattle.std.specs.Prelude.{◌≡◌, ◌<◌, ◌≤◌, ◌↔◌, IsTrue, IfSome};
 ghost use Rattle.std.specs.Option.{ForSome};
 ghost use Rattle.viewer_tracks.specs.Display.{left_of};
 ghost use Rattle.viewer_tracks.specs.Viewers.{number_of};
@@ -40,7 +40,7 @@ pub struct Place {
 }
 
 impl Tracks {
-    ghost use Rattle.viewer_tracks.specs.Columns.{Columns, IsColumns, IsPlaced, no_viewers, track_of, placed_bottom, placed_top, seen_at, after_open, replaced_at, after_change, after_close, allocated};
+    ghost use Rattle.viewer_tracks.specs.Columns.{Columns, IsColumns, IsPlaced, no_viewers, track_of, placed_bottom, placed_top, StandsAt, seen_at, after_open, replaced_at, after_change, after_close, allocated};
 
     /// Two tracks that are all filler.
     pub fn new() -> Self
@@ -110,7 +110,8 @@ impl Tracks {
     pub fn at(&self, x: u8, y: u8) -> Option<ViewerId>
         requires column_in_display { x < COLUMNS }
         requires row_in_display { y < ROWS }
-        ensures { number_of result ≡ seen_at self.now x y }
+        ensures seen { number_of result ≡ seen_at self.now x y }
+        ensures stands { IfSome result (λ v. StandsAt self.now v.0 x y) }
     {
         match Track::at(x) {
             Track::User => self.user.at(y),
