@@ -6,6 +6,7 @@ use Rattle.std.proofs.KnownBytes.{Consumes-nil, Consumes-trans, Appends-nil, App
 use Rattle.std.proofs.lemmas.List.Concat.{flat_map-append}
 use Rattle.oberon_main.specs.declared.play.PlayEnd.{PlayEnd}
 use Rattle.oberon_main.specs.declared.play.PlayEnd.TheVariants.{Done, Fault, Memory, Input, Output}
+use Rattle.oberon_main.specs.declared.request.Request.TheVariants.{Malformed}
 use Rattle.oberon_main.specs.declared.line.Line.{Line}
 use Rattle.oberon_main.specs.Script.{ended, IsLine, IsSplit, lines_at_end, BeginsWith}
 use Rattle.oberon_main.specs.Reading.{Holds, Unplayed, TakesLine, TakesRest}
@@ -127,10 +128,12 @@ played_more Honest before now now' left left' left'' held held' held'' old new l
 -- ---- a line that wasn't answered
 
 stopped_at : (script : List ℕ) (before : Session) (held held' held'' : Option (List ℕ)) (lines : List (List ℕ)) (failed : List ℕ)
-    → BeginsWith script (lines ++ failed ∷ []) → Appends held held' (out before lines) → Keeps held' held'' → IsStopped [] script before held held''
-stopped_at script before held held' held'' lines failed begins written kept = record {
+    → BeginsWith script (lines ++ failed ∷ []) → Appends held held' (out before lines) → Keeps held' held'' × (request_of failed ≢ Malformed)
+    → IsStopped [] script before held held''
+stopped_at script before held held' held'' lines failed begins written (kept, asked) = record {
   lines = lines;
   failed = failed;
+  asked = asked;
   begins = begins;
   written = subst (Appends held held'') (sym (append-nil (out before lines))) (Appends-kept held held' held'' (out before lines) written kept);
 }
@@ -254,6 +257,7 @@ said_stopped : (word script : List ℕ) (before : Session) (held held' held'' : 
 said_stopped word script before held held' held'' stopped said = record {
   lines = stopped.lines;
   failed = stopped.failed;
+  asked = stopped.asked;
   begins = stopped.begins;
   written = subst (λ l. Appends held held'' (l ++ word)) (append-nil (out before stopped.lines))
       (Appends-trans held held' held'' (out before stopped.lines ++ []) word stopped.written said);

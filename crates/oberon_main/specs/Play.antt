@@ -6,6 +6,7 @@ use Rattle.oberon_main.specs.declared.play.PlayEnd.{PlayEnd}
 use Rattle.oberon_main.specs.declared.play.PlayEnd.TheVariants.{Done, Fault, Memory, Input, Output}
 use Rattle.oberon_main.specs.Script.{ended, IsSplit, lines_at_end, BeginsWith}
 use Rattle.oberon_main.specs.declared.request.Request.{Request}
+use Rattle.oberon_main.specs.declared.request.Request.TheVariants.{Malformed}
 use Rattle.oberon_main.specs.Request.{request_of}
 use Rattle.oberon_main.specs.Session.{Session, answer, after, out, after_all}
 use Rattle.oberon_main.specs.Sent.{AppendsFront}
@@ -26,10 +27,11 @@ pub record IsPlayed (script : List ℕ) (before after : Session) (held held' : O
   pub written : Appends held held' (out before (lines_at_end lines rest))
   pub session : after ≡ after_all before (lines_at_end lines rest)
 
--- The lines before one that failed were answered, and then the word was written.
+-- The lines before one that failed, and that wasn't malformed, were answered, and then the word was written.
 pub record IsStopped (word script : List ℕ) (before : Session) (held held' : Option (List ℕ)) : Type 0 where
   pub lines : List (List ℕ)
   pub failed : List ℕ
+  pub asked : request_of failed ≢ Malformed
   pub begins : BeginsWith script (lines ++ failed ∷ [])
   pub written : Appends held held' (out before lines ++ word)
 
@@ -65,11 +67,11 @@ pub record IsAnswered (request : Request) (before after_it : Session) (held held
   pub written : Appends held held' (answer before request)
   pub session : after_it ≡ after before request
 
--- A request whose answer wasn't written as a whole: nothing of it was, or the output failed in it.
+-- A request whose answer wasn't written as a whole: nothing of it was, or the output failed in it. A malformed line is always answered.
 abbrev pub LineEndsAs : PlayEnd → Request → Session → Option (List ℕ) → Option (List ℕ) → Type 0
 LineEndsAs Done request before held held' = ⊥
-LineEndsAs Fault request before held held' = Keeps held held'
-LineEndsAs Memory request before held held' = Keeps held held'
+LineEndsAs Fault request before held held' = Keeps held held' × (request ≢ Malformed)
+LineEndsAs Memory request before held held' = Keeps held held' × (request ≢ Malformed)
 LineEndsAs Input request before held held' = ⊥
 LineEndsAs Output request before held held' = AppendsFront held held' (answer before request)
 

@@ -74,13 +74,13 @@ pub fn decimal_digits(number: u32) -> Digits
 pub fn text_bytes(alloc: Global, bytes: &[u8]) -> Result<Vec<u8>, AllocError>
     ensures { IfOk result (λ text. text.items ≡ text_lines bytes.now) }
 {
-    let mut text = Vec::new(alloc);
-    if !bytes.is_empty() {
-        text.extend_from_slice(b"0 15 0 ")?;
-        push_shown(&mut text, bytes)?;
-        text.push(b'\n')?;
+    if bytes.is_empty() {
+        return Vec::from_slice(alloc, b"end\n");
     }
-    text.extend_from_slice(b"end\n")?;
+    let mut text = Vec::new(alloc);
+    text.extend_from_slice(b"0 15 0 ")?;
+    push_shown(&mut text, bytes)?;
+    text.extend_from_slice(b"\nend\n")?;
     Ok(text)
 }
 

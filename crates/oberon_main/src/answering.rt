@@ -1,7 +1,7 @@
 //! Working out what a request is answered, over a store.
-ghost use Rattle.std.specs.Prelude.{◌≡◌, ◌⊎◌, ◌<◌, ◌↔◌, false, IfOk, IfErr, OnOk, IsErrOf};
+ghost use Rattle.std.specs.Prelude.{◌≡◌, ◌⊎◌, ◌<◌, ◌↔◌, false, IfOk, IfErr, IsOk, OnOk, IsErrOf};
 ghost use Rattle.event_bytes.specs.declared.event.Event.{Event as AnEvent};
-ghost use Rattle.oberon_main.specs.declared.request.Request.TheVariants.{Post, Show, Listing};
+ghost use Rattle.oberon_main.specs.declared.request.Request.TheVariants.{Post, Show, Listing, Malformed};
 ghost use Rattle.oberon_main.specs.declared.play.PlayEnd.TheVariants as ends;
 ghost use Rattle.oberon_main.specs.Session.{answer, after};
 ghost use Rattle.oberon_main.specs.Opened.{session_of};
@@ -48,6 +48,7 @@ pub fn work_out<D: Disk>(
     ensures calm { OnOk result (D.failures store.new.disk ≡ D.failures store.old.disk) }
     ensures cause { IsErrOf result ends.Fault → D.failures store.old.disk < D.failures store.new.disk }
     ensures named { IfErr result (λ end. (end ≡ ends.Fault) ⊎ (end ≡ ends.Memory)) }
+    ensures malformed { request.now ≡ Malformed → IsOk result }
     ensures premise { D.honest store.new.disk ↔ D.honest store.old.disk }
 {
     match request {

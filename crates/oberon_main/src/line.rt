@@ -9,9 +9,6 @@ use arrayvec::ArrayVec;
 use std::io::Read;
 use std::marker::Model;
 
-/// How many read calls a script may take before the one that says that it is at its end.
-const MOST_READS: u32 = 67_108_864;
-
 /// A line of a script, as far as it is kept: of a line of more than 4,096 bytes it is only known that it is so long.
 #[derive(Drop)]
 pub struct Line {
@@ -104,15 +101,16 @@ impl Model for Script {
 impl Script {
     ghost use Rattle.oberon_main.specs.Reading.{Holds, TakesLine, TakesRest, most_lines};
 
-    /// A script of which nothing is read yet.
-    pub fn new() -> Script
-        ensures { result.pending ≡ [] }
+    /// A script of which nothing is read yet, and that may take so many reads before the one that says that it is at its end.
+    pub fn new(reads: u32) -> Script
+        ensures pending { result.pending ≡ [] }
+        ensures reads { result.reads ≡ reads }
     {
         Script {
             piece: [0; 8192],
             next: 0,
             end: 0,
-            reads: MOST_READS,
+            reads,
         }
     }
 

@@ -111,3 +111,6 @@ fn play_over<D: Disk + Drop>(rt: &HostRuntime, disk: D) -> u8 {
         Err((error, _disk)) => fail(rt, &error),
     }
 }
+
+#[cfg(test)]
+mod tests;

@@ -49,9 +49,12 @@ impl From<OutputFault> for PlayEnd {
     }
 }
 
+/// How many read calls a script may take before the one that says that it is at its end.
+const MOST_READS: u32 = 67_108_864;
+
 /// Plays the script that the reader gives: each line is answered on the writer before the next one is taken.
 ///
-/// It ends with the script, or earlier where the disk, the memory, the reader or the writer fails; but for the writer's failure a last line then says why. A script of more than 67,108,864 reads counts as one whose reader fails.
+/// It ends with the script, or earlier where the disk, the memory, the reader or the writer fails; but for the writer's failure a last line then says why. A script of more than 67,108,864 reads counts as one whose reader fails. The language of scripts is this profile's.
 pub fn play<R: Read, W: Write, D: Disk>(
     alloc: Global,
     reader: &mut R,
@@ -67,7 +70,25 @@ pub fn play<R: Read, W: Write, D: Disk>(
     ensures cause { result ≡ ends.Fault → D.failures store.old.disk < D.failures store.new.disk }
     ensures premise { D.honest store.new.disk ↔ D.honest store.old.disk }
 {
-    let end = play_lines(alloc, reader, writer, store);
+    play_bounded(alloc, reader, writer, store, MOST_READS)
+}
+
+/// Plays as `play` does a script that may take so many reads.
+pub fn play_bounded<R: Read, W: Write, D: Disk>(
+    alloc: Global,
+    reader: &mut R,
+    writer: &mut W,
+    store: &mut Store<D>,
+    reads: u32,
+) -> PlayEnd
+    requires { store.old.must_reopen ≡ false }
+    ensures told { D.honest store.old.disk → IfSome (R.remaining reader.old) (λ script.
+        EndsAs result (last_word result) script (R.remaining reader.new) (session_of store.old) (session_of store.new) (W.contents writer.old) (W.contents writer.new)) }
+    ensures usable { (result ≡ ends.Done) ⊎ (result ≡ ends.Input) → store.new.must_reopen ≡ false }
+    ensures cause { result ≡ ends.Fault → D.failures store.old.disk < D.failures store.new.disk }
+    ensures premise { D.honest store.new.disk ↔ D.honest store.old.disk }
+{
+    let end = play_lines(alloc, reader, writer, store, reads);
     match say(writer, end) {
         Ok(()) => end,
         Err(OutputFault) => PlayEnd::Output,
@@ -95,6 +116,7 @@ fn play_lines<R: Read, W: Write, D: Disk>(
     reader: &mut R,
     writer: &mut W,
     store: &mut Store<D>,
+    reads: u32,
 ) -> PlayEnd
     requires { store.old.must_reopen ≡ false }
     ensures told { D.honest store.old.disk → IfSome (R.remaining reader.old) (λ script.
@@ -103,7 +125,7 @@ fn play_lines<R: Read, W: Write, D: Disk>(
     ensures cause { result ≡ ends.Fault → D.failures store.old.disk < D.failures store.new.disk }
     ensures premise { D.honest store.new.disk ↔ D.honest store.old.disk }
 {
-    let mut script = Script::new();
+    let mut script = Script::new(reads);
     let mut line = Line::new();
     loop {
         match script.take_line(&mut line, reader) {
