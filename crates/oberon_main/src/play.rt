@@ -54,7 +54,7 @@ const MOST_READS: u32 = 67_108_864;
 
 /// Plays the script that the reader gives: each line is answered on the writer before the next one is taken.
 ///
-/// It ends with the script, or earlier where the disk, the memory, the reader or the writer fails; but for the writer's failure a last line then says why. A script of more than 67,108,864 reads counts as one whose reader fails. The language of scripts is this profile's.
+/// It ends with the script, or earlier where the disk, the memory, the reader or the writer fails; but for the writer's failure a last line then says why: `fault`, `memory` or `input`. After 67,108,864 reads that gave bytes the reader counts as failed. The store isn't one to be opened again. The language of scripts is this profile's.
 pub fn play<R: Read, W: Write, D: Disk>(
     alloc: Global,
     reader: &mut R,
@@ -73,7 +73,7 @@ pub fn play<R: Read, W: Write, D: Disk>(
     play_bounded(alloc, reader, writer, store, MOST_READS)
 }
 
-/// Plays as `play` does a script that may take so many reads.
+/// Plays as `play` does, with another bound on the reads: after so many that gave bytes the reader counts as failed.
 pub fn play_bounded<R: Read, W: Write, D: Disk>(
     alloc: Global,
     reader: &mut R,
