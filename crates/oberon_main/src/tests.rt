@@ -274,7 +274,7 @@ fn bounded_turns(rt: HostRuntime) -> Result<(), Fail> {
     );
     let mut rest = Vec::new(alloc);
     assert_eq!(rt;
-        play_bounded(alloc, &mut reader, &mut rest, &mut store, 2),
+        play_bounded(alloc, &mut reader, &mut rest, &mut store, 3),
         PlayEnd::Done
     );
     assert_eq!(rt; rest.as_slice(), b"?\n?\n".as_slice());
