@@ -27,6 +27,6 @@ mod stretch;
 mod tests;
 
 pub use cursor::Cursor;
-pub use piece::{Look, Piece};
+pub use piece::{DEFAULT_LOOK, Look, Piece};
 pub use ring::Ring;
 pub use std::alloc::AllocError as NoMemory;

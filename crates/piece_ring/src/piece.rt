@@ -13,6 +13,13 @@ pub struct Look {
     pub voff: i8,
 }
 
+/// The look of characters of which nothing else is said: font 0, colour 15, on the line.
+pub const DEFAULT_LOOK: Look = Look {
+    font: 0,
+    colour: 15,
+    voff: 0,
+};
+
 /// A stretch of characters of one look, that lie side by side in the file.
 #[derive(Clone, Copy, PartialEq, Eq, Debug)]
 pub struct Piece {

@@ -130,6 +130,17 @@ impl Ring {
         Ok(())
     }
 
+    /// Takes all characters out, and frees their nodes. It takes no memory.
+    pub fn clear(&mut self)
+        ensures { flat self.new ≡ [] }
+    {
+        if self.list.len > 0 {
+            let start = self.list.start();
+            let end = self.list.end();
+            self.list.take_out(start, end).destroy(&self.alloc);
+        }
+    }
+
     /// Changes the looks of the characters from `beg` up to before `end`, in the fields that `sel`
     /// names: bit 0 the font, bit 1 the colour, bit 2 the offset. Other bits are ignored. If memory
     /// is refused the text stays.
