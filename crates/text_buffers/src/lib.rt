@@ -1,0 +1,11 @@
+//! Buffers: characters on their way between texts.
+//!
+//! What is cut or copied from a text waits in a buffer until it is put in elsewhere, and what is
+//! written gathers there. A clause speaks of the flat list of (offset, look), one item a character;
+//! how a buffer is cut into pieces isn't promised.
+#![tactic(auto)]
+
+mod buffer;
+
+pub use buffer::Buffer;
+pub use piece_ring::{Look, NoMemory, Piece};
