@@ -1,0 +1,161 @@
+//! The text.
+ghost use Rattle.std.specs.Prelude.{◌≡◌, ◌+◌, ◌^◌, ◌<◌, ◌≤◌, ◌++◌, [], length, drop, IfOk, OnOk, OnErr};
+ghost use Rattle.piece_ring.specs.Flat.{flat};
+ghost use Rattle.piece_ring.specs.Text.{stretch, inserted, deleted, looks_changed};
+ghost use Rattle.text_core.specs.Attributes.{look_at};
+
+use crate::{Buffer, Cursor, DEFAULT_LOOK, Look, NoMemory};
+use piece_ring::Ring;
+use std::alloc::Global;
+use std::marker::Model;
+
+/// Characters of the file in their looks, in order. Positions count characters from 0, and there
+/// are fewer than 2^32.
+#[derive(Drop)]
+pub struct Text {
+    ring: Ring,
+}
+
+impl Model for Text {
+    ghost use Rattle.std.specs.Prelude.{List};
+    ghost use Rattle.piece_ring.specs.declared.piece.Piece.{Piece as APiece};
+
+    ghost Value = { List APiece };
+
+    ghost view = { λ t. t.ring };
+}
+
+impl Text {
+    /// An empty text. It takes a little memory all the same.
+    pub fn new(alloc: Global) -> Result<Text, NoMemory>
+        ensures { IfOk result (λ t. flat t ≡ []) }
+    {
+        Ok(Text {
+            ring: Ring::new(alloc)?,
+        })
+    }
+
+    /// The number of characters.
+    pub fn len(&self) -> u32
+        ensures { result ≡ length (flat self.now) }
+    {
+        self.ring.len()
+    }
+
+    /// Puts the buffer's characters in at `pos`, and leaves the buffer empty. If memory is refused
+    /// the text and the buffer stay.
+    pub fn insert(&mut self, alloc: Global, pos: u32, buffer: &mut Buffer) -> Result<(), NoMemory>
+        requires within { pos ≤ length (flat self.old) }
+        requires fits { length (flat self.old) + length (flat buffer.old) < 2 ^ 32 }
+        ensures text { OnOk result (flat self.new ≡ inserted pos (flat buffer.old) (flat self.old)) }
+        ensures emptied { OnOk result (flat buffer.new ≡ []) }
+        ensures refused { OnErr result (flat self.new ≡ flat self.old) }
+        ensures kept { OnErr result (flat buffer.new ≡ flat buffer.old) }
+    {
+        let ring = buffer.take(alloc)?;
+        match self.ring.splice(alloc, pos, ring) {
+            Ok(()) => Ok(()),
+            Err((refused, ring)) => {
+                buffer.replace(ring);
+                Err(refused)
+            }
+        }
+    }
+
+    /// Puts the buffer's characters in at the end, and leaves the buffer empty. If memory is
+    /// refused the text and the buffer stay.
+    pub fn append(&mut self, alloc: Global, buffer: &mut Buffer) -> Result<(), NoMemory>
+        requires fits { length (flat self.old) + length (flat buffer.old) < 2 ^ 32 }
+        ensures text { OnOk result (flat self.new ≡ flat self.old ++ flat buffer.old) }
+        ensures emptied { OnOk result (flat buffer.new ≡ []) }
+        ensures refused { OnErr result (flat self.new ≡ flat self.old) }
+        ensures kept { OnErr result (flat buffer.new ≡ flat buffer.old) }
+    {
+        let end = self.ring.len();
+        self.insert(alloc, end, buffer)
+    }
+
+    /// Takes the characters from `beg` up to before `end` out. The buffer has exactly these then,
+    /// whatever it had. If memory is refused the text and the buffer stay.
+    pub fn delete(
+        &mut self,
+        alloc: Global,
+        beg: u32,
+        end: u32,
+        buffer: &mut Buffer,
+    ) -> Result<(), NoMemory>
+        requires order { beg ≤ end }
+        requires within { beg ≤ length (flat self.old) }
+        ensures text { OnOk result (flat self.new ≡ deleted beg end (flat self.old)) }
+        ensures taken { OnOk result (flat buffer.new ≡ stretch beg end (flat self.old)) }
+        ensures refused { OnErr result (flat self.new ≡ flat self.old) }
+        ensures kept { OnErr result (flat buffer.new ≡ flat buffer.old) }
+    {
+        let end = end.min(self.ring.len());
+        let taken = self.ring.cut(alloc, beg, end)?;
+        buffer.replace(taken);
+        Ok(())
+    }
+
+    /// Adds the characters from `beg` up to before `end` to the buffer, at its end, in their looks.
+    /// If memory is refused the buffer stays.
+    pub fn save(
+        &self,
+        alloc: Global,
+        beg: u32,
+        end: u32,
+        buffer: &mut Buffer,
+    ) -> Result<(), NoMemory>
+        requires order { beg ≤ end }
+        requires within { beg ≤ length (flat self.now) }
+        requires fits { length (flat buffer.old) + length (stretch beg end (flat self.now)) < 2 ^ 32 }
+        ensures added { OnOk result (flat buffer.new
+            ≡ flat buffer.old ++ stretch beg end (flat self.now)) }
+        ensures refused { OnErr result (flat buffer.new ≡ flat buffer.old) }
+    {
+        let end = end.min(self.ring.len());
+        let copy = self.ring.copy(alloc, beg, end)?;
+        buffer.append(alloc, copy)
+    }
+
+    /// Changes the looks of the characters from `beg` up to before `end`, in the fields that `sel`
+    /// names: bit 0 the font, bit 1 the colour, bit 2 the offset. Other bits are ignored. If memory
+    /// is refused the text stays.
+    pub fn change_looks(
+        &mut self,
+        alloc: Global,
+        beg: u32,
+        end: u32,
+        sel: u8,
+        look: Look,
+    ) -> Result<(), NoMemory>
+        requires order { beg ≤ end }
+        requires within { beg ≤ length (flat self.old) }
+        ensures text { OnOk result (flat self.new ≡ looks_changed beg end sel look (flat self.old)) }
+        ensures refused { OnErr result (flat self.new ≡ flat self.old) }
+    {
+        let end = end.min(self.ring.len());
+        self.ring.set_looks(alloc, beg, end, sel, look)
+    }
+
+    /// The look of the character at `pos`; at the end that of the last character, and of an empty
+    /// text `DEFAULT_LOOK`. It takes no memory.
+    pub fn attributes(&self, pos: u32) -> Look
+        requires { pos ≤ length (flat self.now) }
+        ensures { result ≡ look_at pos (flat self.now) }
+    {
+        let last = self.len().saturating_sub(1);
+        match self.cursor(pos.min(last)).next() {
+            Some((_, look)) => look,
+            None => DEFAULT_LOOK,
+        }
+    }
+
+    /// A cursor before the character at `pos`, or at the end.
+    pub fn cursor(&self, pos: u32) -> Cursor<'_>
+        requires { pos ≤ length (flat self.now) }
+        ensures { flat result ≡ drop pos (flat self.now) }
+    {
+        self.ring.cursor(pos)
+    }
+}
