@@ -1,0 +1,118 @@
+//! Reading the characters of a text one after another.
+//!
+//! A clause sees a reader as the text, each of its characters by its offset in the source, and the position before which it stands.
+ghost use Rattle.std.specs.Prelude.{◌≡◌, ◌↔◌, ◌+◌, ◌<◌, ◌≤◌, min, length, IsNone, IfOk, OnOk, OnErr, slice_get};
+ghost use Rattle.std.specs.Option.{option_map};
+ghost use Rattle.sector_disk.specs.Trail.{CountsFault};
+ghost use Rattle.char_file.specs.Source.{OnlyReads};
+ghost use Rattle.piece_ring.specs.Flat.{flat};
+ghost use Rattle.piece_ring.specs.Offsets.{AreWithin};
+
+use crate::{CharSource, Fault, Look, Text};
+use piece_ring::Cursor;
+use std::marker::Model;
+
+/// Stands before a character of a text, or at its end. It borrows the text, and takes no memory.
+#[derive(Drop)]
+pub struct Reader<'a> {
+    text: &'a Text,
+    // The offset and the look of the character at the position. None at the end.
+    upcoming: Option<(u32, Look)>,
+    // Stands behind that character.
+    cursor: Cursor<'a>,
+    // How many characters the text has from the position on.
+    left: u32,
+}
+
+impl<'a> Model for Reader<'a> {
+    ghost use Rattle.std.specs.Prelude.{◌-◌, length};
+    ghost use Rattle.piece_ring.specs.Flat.{flat};
+    ghost use Rattle.readers_scanners.specs.Reading.{Reading, IsReading};
+
+    ghost Value = { Reading };
+
+    ghost view = { λ r. record { text = flat r.text.now; position = length (flat r.text.now) - r.left } };
+
+    ghost invariant = { λ r. let text = flat r.text.now in IsReading text (length text - r.left) r.left r.upcoming (flat r.cursor) };
+}
+
+impl<'a> Reader<'a> {
+    ghost use Rattle.readers_scanners.specs.Reading.{contents};
+
+    /// A reader of the text from the character at `pos` on.
+    pub fn open(text: &'a Text, pos: u32) -> Reader<'a>
+        requires { pos ≤ length (flat text.now) }
+        ensures text { result.text ≡ flat text.now }
+        ensures position { result.position ≡ pos }
+    {
+        let mut cursor = text.cursor(pos);
+        let upcoming = cursor.next();
+        Reader {
+            text,
+            upcoming,
+            cursor,
+            left: text.len() - pos,
+        }
+    }
+
+    /// How many characters of the text stand before the reader.
+    pub fn pos(&self) -> u32
+        ensures position { result ≡ self.now.position }
+        ensures within { result ≤ length self.now.text }
+    {
+        self.text.len() - self.left
+    }
+
+    /// The character at the position and its look; the reader then stands behind it. None at the end of the text, where it stays.
+    /// `Fault`: the source failed in this call, and the reader stays.
+    pub fn read<S: CharSource>(&mut self, source: &mut S) -> Result<Option<(u8, Look)>, Fault>
+        requires { AreWithin (length (S.characters source.old)) self.old.text }
+        ensures item { IfOk result (λ item. S.honest source.old
+            → item ≡ slice_get (contents (S.characters source.old) self.old.text) self.old.position) }
+        ensures look { IfOk result (λ item. option_map (λ x. x.1) item
+            ≡ option_map (λ x. x.1) (slice_get self.old.text self.old.position)) }
+        ensures end { IfOk result (λ item. IsNone item ↔ (self.old.position ≡ length self.old.text)) }
+        ensures moves { OnOk result (self.new.position ≡ min (self.old.position + 1) (length self.old.text)) }
+        ensures refused { OnErr result (self.new.position ≡ self.old.position) }
+        ensures text { self.new.text ≡ self.old.text }
+        ensures reads { OnlyReads S.characters S.failures S.honest S.same_ground source.old source.new }
+        ensures cause { CountsFault result (S.failures source.old) (S.failures source.new) }
+    {
+        let item = self.peek(source)?;
+        if item.is_some() {
+            self.pass();
+        }
+        Ok(item)
+    }
+
+    /// The character at the position and its look. None at the end of the text. The reader stays.
+    pub(crate) fn peek<S: CharSource>(&self, source: &mut S) -> Result<Option<(u8, Look)>, Fault>
+        requires { AreWithin (length (S.characters source.old)) self.now.text }
+        ensures item { IfOk result (λ item. S.honest source.old
+            → item ≡ slice_get (contents (S.characters source.old) self.now.text) self.now.position) }
+        ensures look { IfOk result (λ item. option_map (λ x. x.1) item
+            ≡ option_map (λ x. x.1) (slice_get self.now.text self.now.position)) }
+        ensures end { IfOk result (λ item. IsNone item ↔ (self.now.position ≡ length self.now.text)) }
+        ensures within { self.now.position ≤ length self.now.text }
+        ensures reads { OnlyReads S.characters S.failures S.honest S.same_ground source.old source.new }
+        ensures cause { CountsFault result (S.failures source.old) (S.failures source.new) }
+    {
+        match self.upcoming {
+            None => Ok(None),
+            Some((offset, look)) => {
+                let byte = source.char_at(offset)?;
+                Ok(Some((byte, look)))
+            }
+        }
+    }
+
+    /// Passes the character at the position.
+    pub(crate) fn pass(&mut self)
+        requires { self.old.position < length self.old.text }
+        ensures position { self.new.position ≡ self.old.position + 1 }
+        ensures text { self.new.text ≡ self.old.text }
+    {
+        self.upcoming = self.cursor.next();
+        self.left -= 1;
+    }
+}
