@@ -9,3 +9,6 @@ mod buffer;
 
 pub use buffer::Buffer;
 pub use piece_ring::{Look, NoMemory, Piece};
+
+#[cfg(test)]
+mod tests;
