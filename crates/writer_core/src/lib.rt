@@ -14,3 +14,6 @@ pub use char_file::CharSource;
 pub use laws::numbers_are_short;
 pub use text_buffers::{Buffer, Look, NoMemory};
 pub use writer::Writer;
+
+#[cfg(test)]
+mod tests;
