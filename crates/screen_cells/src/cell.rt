@@ -1,0 +1,75 @@
+//! Cells of the screen. Plain data.
+ghost use Rattle.std.specs.Prelude.{◌≡◌};
+ghost use Rattle.screen_cells.specs.Mark.{letter, is_pointed};
+ghost use Rattle.screen_cells.specs.Picture.{filler_cell};
+
+use piece_ring::{DEFAULT_LOOK, Look};
+
+/// What is at a cell: the marker, a caret or a selected character, the first of these that is there, or else the part of the display that
+/// the cell belongs to.
+#[derive(Clone, Copy, Debug, PartialEq, Eq)]
+pub enum Mark {
+    /// The marker, wherever it is.
+    Marker,
+    /// The caret of a viewer.
+    Caret,
+    /// A selected character.
+    Selected,
+    /// The menu row of a viewer.
+    Menu,
+    /// The scroll bar of a viewer.
+    Bar,
+    /// The text of a viewer.
+    Text,
+    /// No viewer.
+    Filler,
+}
+
+impl Mark {
+    /// Whether a mark line is printed for it: of the marker, a caret or a selected character.
+    pub(crate) fn is_pointed(self) -> bool
+        ensures { result ≡ is_pointed self }
+    {
+        matches!(self, Mark::Marker | Mark::Caret | Mark::Selected)
+    }
+
+    /// Its letter in a mark line, a period for a part of the display.
+    pub(crate) fn letter(self) -> u8
+        ensures { result ≡ letter self }
+    {
+        match self {
+            Mark::Marker => b'm',
+            Mark::Caret => b'c',
+            Mark::Selected => b's',
+            Mark::Menu | Mark::Bar | Mark::Text | Mark::Filler => b'.',
+        }
+    }
+}
+
+/// A cell of the screen.
+#[derive(Clone, Copy, Debug, PartialEq, Eq)]
+pub struct Cell {
+    /// The byte of the character that is shown, a space where there is none.
+    pub ch: u8,
+    /// How it looks.
+    pub look: Look,
+    /// What is there.
+    pub mark: Mark,
+}
+
+impl Cell {
+    /// A cell of a filler.
+    pub(crate) fn filler(has_marker: bool) -> Self
+        ensures { result ≡ filler_cell has_marker }
+    {
+        Cell {
+            ch: b' ',
+            look: DEFAULT_LOOK,
+            mark: if has_marker {
+                Mark::Marker
+            } else {
+                Mark::Filler
+            },
+        }
+    }
+}

@@ -1,0 +1,87 @@
+//! A printed line of a row.
+ghost use Rattle.std.specs.Prelude.{◌≡◌, ◌<◌, ◌≤◌, length, map};
+ghost use Rattle.screen_cells.specs.Mark.{letter};
+ghost use Rattle.screen_cells.specs.Printed.{row_line, without_trailing, character_line, mark_line, has_pointed};
+
+use crate::cell::Cell;
+use arrayvec::ArrayVec;
+
+/// A row's number and colon, its 80 bytes and a line feed.
+pub(crate) type Line = ArrayVec<u8, 84>;
+
+/// The bytes of a row.
+type RowBytes = ArrayVec<u8, 80>;
+
+/// The line of a row's characters.
+pub(crate) fn character_line(y: u8, row: &[Cell]) -> Line
+    requires two_digits { y < 100 }
+    requires fits { length row.now ≤ 80 }
+    ensures { result.items ≡ character_line y row.now }
+{
+    row_line(y, characters(row).as_slice(), b' ')
+}
+
+/// The line of a row's marks.
+pub(crate) fn mark_line(y: u8, row: &[Cell]) -> Line
+    requires two_digits { y < 100 }
+    requires fits { length row.now ≤ 80 }
+    ensures { result.items ≡ mark_line y row.now }
+{
+    row_line(y, letters(row).as_slice(), b'.')
+}
+
+/// Whether a row has a mark line.
+pub(crate) fn has_pointed(row: &[Cell]) -> bool
+    ensures { result ≡ has_pointed row.now }
+{
+    row.iter().any(|cell| cell.mark.is_pointed())
+}
+
+fn characters(row: &[Cell]) -> RowBytes
+    requires { length row.now ≤ 80 }
+    ensures { result.items ≡ map (λ c. c.ch) row.now }
+{
+    let mut bytes = RowBytes::new();
+    for cell in row {
+        bytes.push(cell.ch);
+    }
+    bytes
+}
+
+fn letters(row: &[Cell]) -> RowBytes
+    requires { length row.now ≤ 80 }
+    ensures { result.items ≡ map (λ c. letter c.mark) row.now }
+{
+    let mut bytes = RowBytes::new();
+    for cell in row {
+        bytes.push(cell.mark.letter());
+    }
+    bytes
+}
+
+fn row_line(y: u8, bytes: &[u8], blank: u8) -> Line
+    requires two_digits { y < 100 }
+    requires fits { length bytes.now ≤ 80 }
+    ensures { result.items ≡ row_line y blank bytes.now }
+{
+    let mut line = Line::new();
+    line.push(b'0' + y / 10);
+    line.push(b'0' + y % 10);
+    line.push(b':');
+    line.try_extend_from_slice(without_trailing(bytes, blank))
+        .unwrap();
+    line.push(b'\n');
+    line
+}
+
+/// The bytes up to the last one that isn't `blank`.
+fn without_trailing(bytes: &[u8], blank: u8) -> &[u8]
+    ensures front { result.now ≡ without_trailing blank bytes.now }
+    ensures shorter { length result.now ≤ length bytes.now }
+{
+    let mut len = bytes.len();
+    while len > 0 && bytes[len - 1] == blank {
+        len -= 1;
+    }
+    &bytes[..len]
+}

@@ -1,0 +1,53 @@
+//! Printing a screen.
+ghost use Rattle.std.specs.Prelude.{◌≡◌, OnOk, OnErr};
+ghost use Rattle.std.specs.Io.KnownBytes.{Appends};
+ghost use Rattle.screen_cells.specs.Sent.{AppendsFront};
+ghost use Rattle.screen_cells.specs.Printed.{printed, character_lines, mark_lines};
+
+use crate::line::{character_line, has_pointed, mark_line};
+use crate::screen::Screen;
+use crate::sending::{flush, send};
+use sector_disk::Fault;
+use std::io::Write;
+use viewer_tracks::ROWS;
+
+impl Screen {
+    /// Writes the characters of the screen, a line for each row from the top, then its marks and `end`, and flushes the writer.
+    ///
+    /// It answers `Fault` where a write or the flush fails, and where a write takes no byte; the writer may then have taken a front of the
+    /// text. It takes no memory.
+    pub fn print<W: Write>(&self, writer: &mut W) -> Result<(), Fault>
+        ensures printed { OnOk result (Appends (W.contents writer.old) (W.contents writer.new) (printed self.now)) }
+        ensures front { OnErr result (AppendsFront (W.contents writer.old) (W.contents writer.new) (printed self.now)) }
+    {
+        self.print_characters(writer)?;
+        send(writer, b"marks\n")?;
+        self.print_marks(writer)?;
+        send(writer, b"end\n")?;
+        flush(writer)
+    }
+
+    fn print_characters<W: Write>(&self, writer: &mut W) -> Result<(), Fault>
+        ensures printed { OnOk result (Appends (W.contents writer.old) (W.contents writer.new) (character_lines self.now)) }
+        ensures front { OnErr result (AppendsFront (W.contents writer.old) (W.contents writer.new) (character_lines self.now)) }
+    {
+        for y in (0..ROWS).rev() {
+            let row = &self.rows()[usize::from(y)];
+            send(writer, character_line(y, row).as_slice())?;
+        }
+        Ok(())
+    }
+
+    fn print_marks<W: Write>(&self, writer: &mut W) -> Result<(), Fault>
+        ensures printed { OnOk result (Appends (W.contents writer.old) (W.contents writer.new) (mark_lines self.now)) }
+        ensures front { OnErr result (AppendsFront (W.contents writer.old) (W.contents writer.new) (mark_lines self.now)) }
+    {
+        for y in (0..ROWS).rev() {
+            let row = &self.rows()[usize::from(y)];
+            if has_pointed(row) {
+                send(writer, mark_line(y, row).as_slice())?;
+            }
+        }
+        Ok(())
+    }
+}
