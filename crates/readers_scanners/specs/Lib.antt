@@ -1,1 +1,5 @@
+pub mod Bytes
+pub mod Form
+pub mod Passing
 pub mod Reading
+pub mod Symbol
