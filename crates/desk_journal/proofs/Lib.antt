@@ -6,3 +6,4 @@ pub mod Laying
 pub mod Recording
 pub mod Loading
 pub mod Running
+pub mod OneMore

@@ -7,3 +7,4 @@ pub mod Record
 pub mod Load
 pub mod Run
 pub mod Stops
+pub mod Live

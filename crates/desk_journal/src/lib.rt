@@ -9,7 +9,9 @@
 mod error;
 mod format;
 mod laws;
+mod live;
 mod load;
+mod reading;
 mod record;
 mod run;
 mod sectors;

@@ -7,13 +7,14 @@ ghost use Rattle.event_bytes.specs.Spelling.{Begins};
 ghost use Rattle.event_loop.specs.Desktop.{empty_desktop};
 ghost use Rattle.desk_journal.specs.Layout.{is_open, is_label, gate, body};
 ghost use Rattle.desk_journal.specs.Finding.{IsForeign, IsDamagedAt, IsNoEvent};
+ghost use Rattle.desk_journal.specs.Live.{shown, IsWhole};
 ghost use Rattle.desk_journal.specs.Load.{IsReadWhole};
 ghost use Rattle.desk_journal.specs.View.{IsKept};
 
 use crate::Error;
+use crate::live::LiveDesktop;
 use crate::sectors::{event_of, has_label, is_open_gate};
 use event_bytes::Event;
-use event_loop::Desktop;
 use sector_disk::Disk;
 use std::alloc::Global;
 
@@ -74,13 +75,15 @@ fn read_event<D: Disk>(disk: &mut D, k: u32) -> Result<Option<Event>, Error>
 }
 
 // Takes the steps of the journal's events, and answers how many there are.
-fn replay<D: Disk>(alloc: Global, disk: &mut D, desktop: &mut Desktop) -> Result<u32, Error>
-    requires { 15621 ≤ D.size disk.old }
+fn replay<D: Disk>(alloc: Global, disk: &mut D, desktop: &mut LiveDesktop) -> Result<u32, Error>
+    requires room { 15621 ≤ D.size disk.old }
+    requires whole { IsWhole desktop.old }
     ensures kept { IsConfined D.size D.honest D.trail Nowhere disk.old disk.new }
     ensures cause { IsErrOf result Error.Fault → D.failures disk.old < D.failures disk.new }
     ensures calm { OnOk result (D.failures disk.new ≡ D.failures disk.old) }
     ensures few { IfOk result (λ count. count ≤ 256) }
-    ensures whole { IfOk result (λ count. D.honest disk.old → IsReadWhole (now (D.trail disk.old)).reads 0 count desktop.old desktop.new) }
+    ensures whole { IfOk result (λ count. D.honest disk.old → IsReadWhole (now (D.trail disk.old)).reads 0 count (shown desktop.old) (shown desktop.new)) }
+    ensures characters { OnOk result (IsWhole desktop.new) }
     ensures damaged { (n : ℕ) → IsErrOf result (Error.Damaged n) → D.honest disk.old
         → (k : ℕ) × (n ≡ body 0 k) × IsNoEvent (now (D.trail disk.old)).reads 0 k }
     ensures named { IfErr result (λ e. (e ≡ Error.NoMemory) ⊎ ((e ≡ Error.Fault) ⊎ ((n : ℕ) × (e ≡ Error.Damaged n)))) }
@@ -97,30 +100,32 @@ fn replay<D: Disk>(alloc: Global, disk: &mut D, desktop: &mut Desktop) -> Result
 }
 
 // Takes the steps of the journal, from the empty desktop.
-fn rebuild<D: Disk>(alloc: Global, disk: &mut D) -> Result<(Desktop, u32), Error>
+fn rebuild<D: Disk>(alloc: Global, disk: &mut D) -> Result<(LiveDesktop, u32), Error>
     requires { 15621 ≤ D.size disk.old }
     ensures kept { IsConfined D.size D.honest D.trail Nowhere disk.old disk.new }
     ensures cause { IsErrOf result Error.Fault → D.failures disk.old < D.failures disk.new }
     ensures calm { OnOk result (D.failures disk.new ≡ D.failures disk.old) }
     ensures few { IfOk result (λ x. x.1 ≤ 256) }
-    ensures whole { IfOk result (λ x. D.honest disk.old → IsReadWhole (now (D.trail disk.old)).reads 0 x.1 empty_desktop x.0) }
+    ensures whole { IfOk result (λ x. D.honest disk.old → IsReadWhole (now (D.trail disk.old)).reads 0 x.1 empty_desktop (shown x.0)) }
+    ensures characters { IfOk result (λ x. IsWhole x.0) }
     ensures damaged { (n : ℕ) → IsErrOf result (Error.Damaged n) → D.honest disk.old
         → (k : ℕ) × (n ≡ body 0 k) × IsNoEvent (now (D.trail disk.old)).reads 0 k }
     ensures named { IfErr result (λ e. (e ≡ Error.NoMemory) ⊎ ((e ≡ Error.Fault) ⊎ ((n : ℕ) × (e ≡ Error.Damaged n)))) }
 {
-    let mut desktop = Desktop::empty(alloc)?;
+    let mut desktop = LiveDesktop::empty(alloc)?;
     let count = replay(alloc, disk, &mut desktop)?;
     Ok((desktop, count))
 }
 
 /// Reads the desktop that the disk shows, and how many events its journal has.
-pub fn load<D: Disk>(alloc: Global, disk: &mut D) -> Result<(Desktop, u32), Error>
+pub fn load<D: Disk>(alloc: Global, disk: &mut D) -> Result<(LiveDesktop, u32), Error>
     ensures kept { IsConfined D.size D.honest D.trail Nowhere disk.old disk.new }
     ensures cause { IsErrOf result Error.Fault → D.failures disk.old < D.failures disk.new }
     ensures calm { OnOk result (D.failures disk.new ≡ D.failures disk.old) }
     ensures large { OnOk result (15621 ≤ D.size disk.new) }
     ensures few { IfOk result (λ x. x.1 ≤ 256) }
-    ensures shown { IfOk result (λ x. D.honest disk.old → IsKept (D.size disk.old) (D.trail disk.new) 1 x.1 x.0) }
+    ensures shown { IfOk result (λ x. D.honest disk.old → IsKept (D.size disk.old) (D.trail disk.new) 1 x.1 (shown x.0)) }
+    ensures characters { IfOk result (λ x. IsWhole x.0) }
     ensures foreign { IsErrOf result Error.NotAStore → D.honest disk.old → IsForeign (D.size disk.old) (now (D.trail disk.old)).reads }
     ensures damaged { (n : ℕ) → IsErrOf result (Error.Damaged n) → D.honest disk.old → IsDamagedAt (D.size disk.old) (now (D.trail disk.old)).reads n }
     ensures named { IfErr result (λ e. (e ≡ Error.NoMemory) ⊎ ((e ≡ Error.Fault) ⊎ ((e ≡ Error.NotAStore) ⊎ ((n : ℕ) × (e ≡ Error.Damaged n))))) }

@@ -10,10 +10,12 @@ ghost use Rattle.desk_journal.specs.View.{StoreView, WritesNothing, IsLookedAt, 
 
 use crate::Error;
 use crate::format::lay_out;
+use crate::live::LiveDesktop;
 use crate::load::{STORE_SECTORS, load};
 use crate::record::add_record;
 use event_bytes::{Event, Name};
-use event_loop::{Desktop, Entry, Reply};
+use event_loop::{Entry, Reply};
+use piece_ring::Look;
 use sector_disk::{Disk, Fault};
 use std::alloc::Global;
 use std::marker::Model;
@@ -44,18 +46,22 @@ pub struct Info {
 #[derive(Drop)]
 pub struct Store<D: Disk> {
     disk: D,
-    desktop: Desktop,
+    desktop: LiveDesktop,
     events: u32,
     must_reopen: bool,
 }
 
 impl<D: Disk> Model for Store<D> {
+    ghost use Rattle.std.specs.Prelude.{◌≡◌, ◌≤◌, false};
+    ghost use Rattle.desk_journal.specs.Live.{shown, IsWhole};
+    ghost use Rattle.desk_journal.specs.View.{StoreView, IsKept};
+
     ghost Value = { StoreView D };
 
-    ghost view = { λ s. record { disk = s.disk; desktop = s.desktop; epoch = 1; events = s.events; must_reopen = s.must_reopen } };
+    ghost view = { λ s. record { disk = s.disk; desktop = shown s.desktop; epoch = 1; events = s.events; must_reopen = s.must_reopen } };
 
-    ghost invariant = { λ s. s.must_reopen ≡ false → (s.events ≤ 256) × (15621 ≤ D.Disk.size s.disk)
-        × (D.Disk.honest s.disk → IsKept (D.Disk.size s.disk) (D.Disk.trail s.disk) 1 s.events s.desktop) };
+    ghost invariant = { λ s. s.must_reopen ≡ false → (s.events ≤ 256) × (15621 ≤ D.Disk.size s.disk) × IsWhole s.desktop
+        × (D.Disk.honest s.disk → IsKept (D.Disk.size s.disk) (D.Disk.trail s.disk) 1 s.events (shown s.desktop)) };
 }
 
 impl<D: Disk> Store<D> {
@@ -149,11 +155,11 @@ impl<D: Disk> Store<D> {
         Ok(reply)
     }
 
-    /// The bytes of the file of that name; None where there is none. It changes nothing.
+    /// The characters of the file of that name, each a byte and its look; None where there is none. It changes nothing.
     ///
     /// Errors: `MustReopen`; `NoMemory`; `Fault`.
-    pub fn file(&mut self, alloc: Global, name: &Name) -> Result<Option<Vec<u8>>, Error>
-        ensures bytes { IfOk result (λ file. D.honest self.old.disk → option_map (λ bytes. bytes.items) file ≡ file_of self.old.desktop name.now) }
+    pub fn file(&mut self, alloc: Global, name: &Name) -> Result<Option<Vec<(u8, Look)>>, Error>
+        ensures characters { IfOk result (λ file. D.honest self.old.disk → option_map (λ characters. characters.items) file ≡ file_of self.old.desktop name.now) }
         ensures looked_at { IsLookedAt D.size D.honest D.trail self.old self.new }
         ensures reopen { IsErrOf result Error.MustReopen ↔ (self.old.must_reopen ≡ true) }
         ensures cause { IsErrOf result Error.Fault → D.failures self.old.disk < D.failures self.new.disk }
@@ -163,10 +169,7 @@ impl<D: Disk> Store<D> {
         if self.must_reopen {
             return Err(Error::MustReopen);
         }
-        match self.desktop.file(name) {
-            None => Ok(None),
-            Some(bytes) => Ok(Some(bytes.to_vec(alloc)?)),
-        }
+        Ok(self.desktop.file(alloc, name)?)
     }
 
     /// What the desktop has: an entry for each file, by rising names, and then how much was written. It changes nothing.

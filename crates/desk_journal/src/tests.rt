@@ -2,6 +2,7 @@
 use super::*;
 use event_bytes::{Event, FileBytes, Name};
 use event_loop::{Entry, Reply};
+use piece_ring::DEFAULT_LOOK;
 use sector_disk::{Disk, Fault, Fuse, MemoryDisk, OneFault};
 use std::alloc::Global;
 use std::test::Fail;
@@ -85,10 +86,10 @@ fn hello(rt: HostRuntime) -> Result<(), Fail> {
     let alloc = rt.alloc();
     let mut store = opened(alloc, one_event(alloc)?)?;
     let name = Name::new(b"A.Text").ok_or("no name")?;
-    let Ok(Some(bytes)) = store.file(alloc, &name) else {
+    let Ok(Some(text)) = store.file(alloc, &name) else {
         return Err("no file".into());
     };
-    assert_eq!(rt; bytes.as_slice(), b"a".as_slice());
+    assert_eq!(rt; text.as_slice(), [(b'a', DEFAULT_LOOK)].as_slice());
     let other = Name::new(b"B.Text").ok_or("no name")?;
     assert!(rt; matches!(store.file(alloc, &other), Ok(None)));
     Ok(())

@@ -1,3 +1,6 @@
 pub mod FileLemmas
 pub mod SoundLemmas
 pub mod StepLemmas
+pub mod SeenLemmas
+pub mod ListLemmas
+pub mod MadeLemmas

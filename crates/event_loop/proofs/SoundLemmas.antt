@@ -2,7 +2,7 @@
 use Rattle.std.proofs.Common.{◌≡◌, ℕ, ◌+◌, ◌≤◌, Bool, true, false, cond, List, [], ◌∷◌, map, length, sum_by, Option, Some, None, is_some, Ok, Err, rules, refl, ap, ◌∙◌, arith}
 use Rattle.std.specs.Prelude.{IsTrue, ◌&&◌, ◌||◌, nat_lt}
 use Rattle.std.specs.Option.{option_map, unwrap_or}
-use Rattle.std.specs.List.{AllByRecursion, list_all}
+use Rattle.std.specs.List.{AllByRecursion}
 use Rattle.std.specs.List.Sorted.{IsStrictlySortedBy}
 use Rattle.std.specs.Cmp.{IsTotalOrder}
 use Rattle.std.specs.Ordering.{match_ordering, ordering_reverse}
@@ -13,17 +13,19 @@ use Rattle.std.proofs.lemmas.Bool.{leb-true, ltb-true}
 use Rattle.std.proofs.lemmas.Cmp.{nat_cmp_total, lists_total}
 use Rattle.std.proofs.lemmas.List.Sums.{sum_by-cons}
 use Rattle.std.proofs.lemmas.Map.Entries.{sum_by-insert_entry}
-use Rattle.std.proofs.lemmas.Map.Views.{All-keys-insert_entry, All-values-insert_entry}
+use Rattle.std.proofs.lemmas.Map.Views.{All-keys-insert_entry}
 use Rattle.event_bytes.specs.declared.event.Event.{Event}
 use Rattle.event_bytes.specs.declared.event.Event.TheVariants.{File}
-use Rattle.event_bytes.specs.Bytes.{is_name, is_text_byte, is_file_bytes}
+use Rattle.piece_ring.specs.Look.{default_look}
+use Rattle.piece_ring.specs.Text.{Text}
+use Rattle.event_bytes.specs.Bytes.{is_name}
 use Rattle.event_bytes.specs.Spelling.{IsEvent}
 use Rattle.event_loop.specs.declared.reply.Reply.{Reply}
 use Rattle.event_loop.specs.declared.reply.Reply.TheVariants.{Done, No}
-use Rattle.event_loop.specs.Files.{name_cmp, bytes_of, has_room, put, names}
-use Rattle.event_loop.specs.Desktop.{Desktop, empty_desktop, filed, held}
-use Rattle.event_loop.specs.Step.{raw, fits, settled, step}
-use Rattle.event_loop.specs.Sound.{IsSound}
+use Rattle.event_loop.specs.Files.{name_cmp, text_of, has_room, put, names}
+use Rattle.event_loop.specs.Desktop.{DesktopOver, Desktop, empty_desktop, in_look, filed, held}
+use Rattle.event_loop.specs.Step.{raw, fits, settled, step_over, itself, step}
+use Rattle.event_loop.specs.Sound.{IsSound, IsKeptWhole}
 
 -- ---- a put in order
 
@@ -62,10 +64,11 @@ one_if None = refl
 one_if (Some x) = refl
 
 -- a put of a name adds one file where there was none
-count_put : (d : Desktop) (name bytes : List ℕ) → IsStrictlySortedBy name_cmp (names d.files) → length (filed d name bytes).files + cond (is_some (bytes_of d.files name)) 1 0 ≡ length d.files + 1
+count_put : {X : Type 0} (d : DesktopOver X) (name : List ℕ) (text : Text X) → IsStrictlySortedBy name_cmp (names d.files)
+    → length (filed d name text).files + cond (is_some (text_of d.files name)) 1 0 ≡ length d.files + 1
 unfolding filed
-count_put d name bytes rising =
-    omega (arith, sum_by-insert_entry {X = List ℕ} (λ bytes. 1) (lists_total nat_cmp_total) d.files name bytes rising, count_values d.files, count_values (put d.files name bytes), one_if (bytes_of d.files name))
+count_put d name text rising =
+    omega (arith, sum_by-insert_entry {X = Text _} (λ text. 1) (lists_total nat_cmp_total) d.files name text rising, count_values d.files, count_values (put d.files name text), one_if (text_of d.files name))
 
 -- ---- the step
 
@@ -77,39 +80,46 @@ room_for : (found : Bool) (count after : ℕ) → after + cond found 1 0 ≡ cou
 room_for true count after sum small room = omega arith
 room_for false count after sum small room = omega (arith, ltb-true count 256 room)
 
-filed_sound : (d : Desktop) (name bytes : List ℕ) → IsSound d → is_name name ≡ true → is_file_bytes bytes ≡ true → has_room d.files name ≡ true → fits (filed d name bytes) ≡ true → IsSound (filed d name bytes)
+pub filed_sound : {X : Type 0} (d : DesktopOver X) (name : List ℕ) (text : Text X) → IsSound d → is_name name ≡ true → has_room d.files name ≡ true → fits (filed d name text) ≡ true → IsSound (filed d name text)
 unfolding filed
-filed_sound d name bytes sound is_one is_text room fit =
+filed_sound d name text sound is_one room fit =
     let (written, held) = both _ _ fit in
     record {
-      named = All-keys-insert_entry name_cmp name bytes (λ name. IsTrue (is_name name)) d.files sound.named is_one;
-      rising = rising_put (lists_total nat_cmp_total) name bytes d.files sound.rising;
-      text = All-values-insert_entry name_cmp name bytes (λ bytes. IsTrue (list_all is_text_byte bytes)) d.files sound.text (both _ _ is_text).1;
-      count = room_for _ _ _ (count_put d name bytes sound.rising) sound.count room;
+      named = All-keys-insert_entry name_cmp name text (λ name. IsTrue (is_name name)) d.files sound.named is_one;
+      rising = rising_put (lists_total nat_cmp_total) name text d.files sound.rising;
+      count = room_for _ _ _ (count_put d name text sound.rising) sound.count room;
       written_within = leb-true _ _ written;
       held_within = leb-true _ _ held;
     }
 
-pub empty_sound : IsSound empty_desktop
+pub empty_sound : {X : Type 0} → IsSound {X = X} empty_desktop
 unfolding empty_desktop IsStrictlySortedBy held
 empty_sound = record {
   named = search rules;
   rising = tt;
-  text = search rules;
   count = omega arith;
   written_within = omega arith;
   held_within = omega arith;
 }
 
-abbrev both_of : Desktop × Reply → Desktop × Reply
-both_of x = x
+pub empty_whole : IsKeptWhole empty_desktop
+unfolding empty_desktop
+empty_whole = record { sound = empty_sound; within = search rules }
+
+module _ {X : Type 0} (made : ℕ → List ℕ → List X) where
+  abbrev answered : DesktopOver X × Reply → DesktopOver X × Reply
+  answered x = x
+
+  pub sound_over : (d : DesktopOver X) (event : Event) → IsSound d → IsEvent event → IsSound (step_over made d event).0
+  unfolding step_over settled raw
+  sound_over d (File name bytes) sound valid = (elim (has_room d.files name) as (λ room. has_room d.files name ≡ room → IsSound (settled d (cond room (Ok (filed d name (in_look default_look (made d.written bytes)))) (Err 8))).0) [
+    | true ↦ λ room. (elim (fits (filed d name (in_look default_look (made d.written bytes)))) as (λ fit. fits (filed d name (in_look default_look (made d.written bytes))) ≡ fit → IsSound (answered (cond fit (filed d name (in_look default_look (made d.written bytes)), Done) (d, No 6))).0) [
+      | true ↦ λ fit. filed_sound d name (in_look default_look (made d.written bytes)) sound valid.0 room fit
+      | false ↦ λ unfit. sound
+    ]) refl
+    | false ↦ λ full. sound
+  ]) refl
 
 pub sound_step : (d : Desktop) (event : Event) → IsSound d → IsEvent event → IsSound (step d event).0
-unfolding step settled raw
-sound_step d (File name bytes) sound valid = (elim (has_room d.files name) as (λ room. has_room d.files name ≡ room → IsSound (settled d (cond room (Ok (filed d name bytes)) (Err 8))).0) [
-  | true ↦ λ room. (elim (fits (filed d name bytes)) as (λ fit. fits (filed d name bytes) ≡ fit → IsSound (both_of (cond fit (filed d name bytes, Done) (d, No 6))).0) [
-    | true ↦ λ fit. filed_sound d name bytes sound valid.0 valid.1 room fit
-    | false ↦ λ unfit. sound
-  ]) refl
-  | false ↦ λ full. sound
-]) refl
+unfolding step
+sound_step = sound_over itself

@@ -1,5 +1,5 @@
 //! What holds of all desktops and events.
-ghost use Rattle.std.specs.Prelude.{◌≡◌, List, [], ◌∷◌, ◌++◌};
+ghost use Rattle.std.specs.Prelude.{◌≡◌, ℕ, List, [], ◌∷◌, ◌++◌};
 ghost use Rattle.event_bytes.specs.declared.event.Event.{Event};
 ghost use Rattle.event_bytes.specs.Spelling.{IsEvent};
 ghost use Rattle.event_loop.specs.Desktop.{Desktop, empty_desktop};
@@ -8,7 +8,7 @@ ghost use Rattle.event_loop.specs.Sound.{IsSound};
 
 /// The empty desktop is sound.
 pub fn empty_is_sound()
-    ensures { IsSound empty_desktop }
+    ensures { IsSound {X = ℕ} empty_desktop }
 {}
 
 /// A sound desktop is sound after any event.

@@ -3,6 +3,7 @@ ghost use Rattle.std.specs.Prelude.{◌≡◌};
 ghost use Rattle.event_loop.specs.declared.stop.Stop.{Stop};
 ghost use Rattle.event_loop.specs.declared.stop.Stop.TheVariants as stops;
 
+use char_file::Fault;
 use std::alloc::AllocFailed;
 
 /// A growth found no memory.
@@ -13,7 +14,7 @@ pub use std::alloc::AllocError as NoMemory;
 pub enum Stop {
     /// A growth found no memory.
     NoMemory,
-    /// A character could not be read. No call answers this while all characters are in memory.
+    /// A character could not be read. It comes only where the source of characters failed in that call.
     Fault,
 }
 
@@ -30,5 +31,13 @@ impl<T: Drop> From<AllocFailed<T>> for Stop {
 
     fn from(_refused: AllocFailed<T>) -> Stop {
         Stop::NoMemory
+    }
+}
+
+impl From<Fault> for Stop {
+    ghost from_gives = { λ _ stop. stop ≡ stops.Fault };
+
+    fn from(_fault: Fault) -> Stop {
+        Stop::Fault
     }
 }

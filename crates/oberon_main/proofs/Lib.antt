@@ -6,5 +6,6 @@ pub mod Percent
 pub mod Playing
 pub mod Sessions
 pub mod Splitting
+pub mod Stretches
 pub mod Taking
 pub mod Words

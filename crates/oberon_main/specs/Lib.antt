@@ -2,6 +2,7 @@ pub mod Script
 pub mod Reading
 pub mod Request
 pub mod Answer
+pub mod Stretch
 pub mod Session
 pub mod Opened
 pub mod Sent

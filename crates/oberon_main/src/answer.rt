@@ -1,12 +1,14 @@
 //! The bytes of an answer.
-ghost use Rattle.std.specs.Prelude.{◌≡◌, ◌+◌, ◌<◌, ◌≤◌, ◌++◌, length, IfOk, OnOk, option_map};
-ghost use Rattle.std.specs.Fmt.{decimal};
+ghost use Rattle.std.specs.Prelude.{◌≡◌, ◌+◌, ◌<◌, ◌≤◌, ◌++◌, length, position, IfOk, IfSome, OnOk};
+ghost use Rattle.std.specs.Fmt.{decimal, signed_decimal};
 ghost use Rattle.arrayvec.specs.ArrayVec.{array_vec_len};
 ghost use Rattle.oberon_main.specs.Script.{ended};
-ghost use Rattle.oberon_main.specs.Answer.{reply_line, refusal_line, digit as digit_of, shown_byte, shown, text_lines, entry_line, list_lines};
+ghost use Rattle.oberon_main.specs.Answer.{reply_line, refusal_line, digit as digit_of, shown_byte, shown, is_same_look, look_words, stretch_line, text_lines, entry_line, list_lines};
+ghost use Rattle.oberon_main.specs.Stretch.{bytes_in, is_in_another, count_in};
 
 use arrayvec::ArrayVec;
 use event_loop::{Entry, Reply};
+use piece_ring::Look;
 use std::alloc::{AllocError, Global};
 
 /// A line that takes no memory.
@@ -70,26 +72,86 @@ pub fn decimal_digits(number: u32) -> Digits
     digits
 }
 
-/// The lines of a file's text: its looks and its bytes, where it has any, and `end`.
-pub fn text_bytes(alloc: Global, bytes: &[u8]) -> Result<Vec<u8>, AllocError>
-    ensures { IfOk result (λ text. text.items ≡ text_lines bytes.now) }
+/// The lines of a file's text: one for each longest stretch of one look, and `end`.
+pub fn text_bytes(alloc: Global, text: &[(u8, Look)]) -> Result<Vec<u8>, AllocError>
+    ensures { IfOk result (λ bytes. bytes.items ≡ text_lines text.now) }
 {
-    if bytes.is_empty() {
-        return Vec::from_slice(alloc, b"end\n");
+    let mut bytes = Vec::new(alloc);
+    let mut rest = text;
+    while let Some(first) = rest.first() {
+        let (stretch, behind) = rest.split_at(count_in_look(rest, first.1));
+        push_stretch(&mut bytes, first.1, stretch)?;
+        rest = behind;
     }
-    let mut text = Vec::new(alloc);
-    text.extend_from_slice(b"0 15 0 ")?;
-    push_shown(&mut text, bytes)?;
-    text.extend_from_slice(b"\nend\n")?;
-    Ok(text)
+    bytes.extend_from_slice(b"end\n")?;
+    Ok(bytes)
 }
 
-/// Adds bytes as a script spells them.
-fn push_shown(text: &mut Vec<u8>, bytes: &[u8]) -> Result<(), AllocError>
-    ensures { OnOk result (text.new.items ≡ text.old.items ++ shown bytes.now) }
+/// Adds the line of a stretch: its look and its bytes.
+fn push_stretch(text: &mut Vec<u8>, look: Look, stretch: &[(u8, Look)]) -> Result<(), AllocError>
+    ensures { OnOk result (text.new.items ≡ text.old.items ++ stretch_line (look, bytes_in stretch.now)) }
 {
-    for byte in bytes {
-        text.extend_from_slice(shown_bytes(*byte).as_slice())?;
+    push_look(text, look)?;
+    push_shown(text, stretch)?;
+    text.push(b'\n')?;
+    Ok(())
+}
+
+/// How many characters at the front have the look.
+fn count_in_look(text: &[(u8, Look)], look: Look) -> usize
+    ensures count { result ≡ count_in look text.now }
+    ensures within { result ≤ length text.now }
+{
+    match other_look(text, look) {
+        Some(at) => at,
+        None => text.len(),
+    }
+}
+
+/// Where the first character in another look stands.
+fn other_look(text: &[(u8, Look)], look: Look) -> Option<usize>
+    ensures first { result ≡ position (is_in_another look) text.now }
+    ensures within { IfSome result (λ at. at < length text.now) }
+{
+    text.iter().position(|c| !is_same(look, c.1))
+}
+
+fn is_same(a: Look, b: Look) -> bool
+    ensures { result ≡ is_same_look a b }
+{
+    a.font == b.font && a.colour == b.colour && a.voff == b.voff
+}
+
+/// Adds font, colour and offset, each with a space behind it.
+fn push_look(text: &mut Vec<u8>, look: Look) -> Result<(), AllocError>
+    ensures { OnOk result (text.new.items ≡ text.old.items ++ look_words look) }
+{
+    text.extend_from_slice(decimal_digits(look.font as u32).as_slice())?;
+    text.push(b' ')?;
+    text.extend_from_slice(decimal_digits(look.colour as u32).as_slice())?;
+    text.push(b' ')?;
+    push_signed(text, look.voff)?;
+    text.push(b' ')?;
+    Ok(())
+}
+
+/// Adds a number, a negative one with a minus in front.
+fn push_signed(text: &mut Vec<u8>, number: i8) -> Result<(), AllocError>
+    ensures { OnOk result (text.new.items ≡ text.old.items ++ signed_decimal number) }
+{
+    if number < 0 {
+        text.push(b'-')?;
+    }
+    text.extend_from_slice(decimal_digits(number.unsigned_abs() as u32).as_slice())?;
+    Ok(())
+}
+
+/// Adds the characters' bytes as a script spells them.
+fn push_shown(text: &mut Vec<u8>, characters: &[(u8, Look)]) -> Result<(), AllocError>
+    ensures { OnOk result (text.new.items ≡ text.old.items ++ shown (bytes_in characters.now)) }
+{
+    for character in characters {
+        text.extend_from_slice(shown_bytes(character.0).as_slice())?;
     }
     Ok(())
 }

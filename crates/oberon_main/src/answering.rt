@@ -92,7 +92,7 @@ fn show<D: Disk>(alloc: Global, name: &Name, store: &mut Store<D>) -> Result<Ans
 {
     match store.file(alloc, name) {
         Ok(None) => Ok(Answer::Short(refusal_bytes(NO_SUCH_FILE))),
-        Ok(Some(bytes)) => Ok(Answer::Long(text_bytes(alloc, bytes.as_slice())?)),
+        Ok(Some(text)) => Ok(Answer::Long(text_bytes(alloc, text.as_slice())?)),
         Err(Error::NoMemory) => Err(PlayEnd::Memory),
         Err(_) => Err(PlayEnd::Fault),
     }

@@ -4,6 +4,7 @@ use Rattle.sector_disk.specs.Trail.{now}
 use Rattle.sector_disk.proofs.Touching.{joined, still_all}
 use Rattle.desk_journal.specs.Layout.{is_label, is_open, store_sectors}
 use Rattle.desk_journal.specs.Finding.{IsNoEvent}
+use Rattle.desk_journal.specs.Live.{shown}
 use Rattle.desk_journal.proofs.Settling.{still_quiet}
 use Rattle.desk_journal.proofs.Loading.{loaded}
 use Rattle.desk_journal.proofs.load.load.Goals as goal
@@ -16,7 +17,7 @@ returns-clause-shown g c = IfOk-weaker c.rebuild.result _ _ (λ x whole honest.
     let large : store_sectors ≤ g.D.Disk.size c.args.disk.now = omega (arith, c.if-sectors-lt-STORE_SECTORS.false, c.sectors.ensures, c.sync.ensures.kept.as_large) in
     let checked = still_all (trail c.sync.new.self) (trail c.check_slot.new.disk) (c.check_slot.ensures.kept.moments second) in
     let rebuilt = still_all (trail c.check_slot.new.disk) (trail c.rebuild.new.disk) (c.rebuild.ensures.kept.moments third) in
-    loaded (g.D.Disk.size c.args.disk.now) x.1 (now (trail c.check_slot.new.disk)).reads (trail c.rebuild.new.disk) x.0 large
+    loaded (g.D.Disk.size c.args.disk.now) x.1 (now (trail c.check_slot.new.disk)).reads (trail c.rebuild.new.disk) (shown x.0) large
     (still_quiet (trail c.args.disk.now) (trail c.sync.new.self) (trail c.rebuild.new.disk) (c.in_ok-sync.ensures.settled honest) (joined (c.check_slot.ensures.kept.moments second) (c.rebuild.ensures.kept.moments third)))
     rebuilt (ap (λ r. is_label (r 0)) checked ∙ c.in_ok-check_slot.ensures.label second) (ap (λ r. is_open (r 1)) checked ∙ c.in_ok-check_slot.ensures.live second) (whole third)) c.rebuild.ensures.whole
 

@@ -6,6 +6,7 @@ use Rattle.sector_disk.specs.Trail.{now}
 use Rattle.sector_disk.proofs.Touching.{still_all}
 use Rattle.sector_disk.proofs.Confinement as confined
 use Rattle.desk_journal.specs.Layout.{is_open, gate, body}
+use Rattle.desk_journal.specs.Live.{shown}
 use Rattle.desk_journal.specs.Load.{IsReadWhole}
 use Rattle.desk_journal.proofs.Loading.{one_read, all_read, not_read}
 use Rattle.desk_journal.proofs.load.replay.Goals as goal
@@ -20,7 +21,7 @@ returns-in_err-event-clause-damaged g c =
     let found = c.in_err-event.ensures.damaged n (cc (p.1, p.2, is)) (i.kept.still honest) in (
       k,
       found.0,
-      not_read (now (g.D.Disk.trail c.args.disk.now)).reads k c.args.desktop.now c.loop-k.desktop (i.read honest) c.loop-k-test.true
+      not_read (now (g.D.Disk.trail c.args.disk.now)).reads k (shown c.args.desktop.now) (shown c.loop-k.desktop) (i.read honest) c.loop-k-test.true
           (subst (λ r. is_open (r (gate 0 k)) ≡ true) same found.1) (subst (λ r. (event : Event) → Begins (r (body 0 k)) event → ⊥) same found.2),
     )
 
@@ -29,7 +30,7 @@ returns-in-None-clause-whole g c = λ honest.
     let i = c.loop-k.invariant in
     let same = still_all (g.D.Disk.trail c.args.disk.now) (g.D.Disk.trail c.loop-k.disk) (i.kept.moments honest) in
     let closed = (rw c.in-None.is at c.in_ok-event.ensures.none) (i.kept.still honest) in
-    all_read (now (g.D.Disk.trail c.args.disk.now)).reads c.loop-k.k c.args.desktop.now c.loop-k.desktop (i.read honest) (λ room. subst (λ r. is_open (r (gate 0 c.loop-k.k)) ≡ false) same closed)
+    all_read (now (g.D.Disk.trail c.args.disk.now)).reads c.loop-k.k (shown c.args.desktop.now) (shown c.loop-k.desktop) (i.read honest) (λ room. subst (λ r. is_open (r (gate 0 c.loop-k.k)) ≡ false) same closed)
 
 pub loop-k-preserved : goal.loop-k-preserved
 loop-k-preserved g c =
@@ -41,8 +42,9 @@ loop-k-preserved g c =
       read = λ honest.
           let same = still_all (g.D.Disk.trail c.args.disk.now) (g.D.Disk.trail c.loop-k.disk) (i.kept.moments honest) in
           let found = (rw c.in-Some.is at c.in_ok-event.ensures.some) (i.kept.still honest) in
-          one_read (now (g.D.Disk.trail c.args.disk.now)).reads k c.args.desktop.now c.loop-k.desktop c.step.new.self c.in-Some.event (i.read honest) c.loop-k-test.true
+          one_read (now (g.D.Disk.trail c.args.disk.now)).reads k (shown c.args.desktop.now) (shown c.loop-k.desktop) (shown c.step.new.self) c.in-Some.event (i.read honest) c.loop-k-test.true
           (subst (λ r. is_open (r (gate 0 k)) ≡ true) same found.0) (subst (λ r. Begins (r (body 0 k)) c.in-Some.event) same found.1) (ap (λ x. x.0) c.in_ok-step-in-Some.ensures.done);
+      characters = c.in_ok-step-in-Some.ensures.whole;
     }
 
 pub returns-clause-whole : goal.returns-clause-whole
@@ -50,5 +52,5 @@ returns-clause-whole g c = λ honest.
     let i = c.loop-k.invariant in
     let R = (now (g.D.Disk.trail c.args.disk.now)).reads in
     let last : c.loop-k.k ≡ 256 = omega (arith, c.loop-k-test.false, c.loop-k.auto.k-end) in
-    subst (λ n. IsReadWhole R 0 n c.args.desktop.now c.loop-k.desktop) last
-    (all_read R c.loop-k.k c.args.desktop.now c.loop-k.desktop (i.read honest) (λ room. absurd (omega (arith, room, c.loop-k-test.false))))
+    subst (λ n. IsReadWhole R 0 n (shown c.args.desktop.now) (shown c.loop-k.desktop)) last
+    (all_read R c.loop-k.k (shown c.args.desktop.now) (shown c.loop-k.desktop) (i.read honest) (λ room. absurd (omega (arith, room, c.loop-k-test.false))))

@@ -7,5 +7,5 @@ pub returns-clause-put : goal.returns-clause-put
 returns-clause-put c =
     let same_key : c.in_ok-clone.field-0 ≡ c.args.name.now = cc c.in_ok-clone.ensures.copy in
     ap files_in c.in_ok-insert.ensures.entries
-    ∙ put_in_files c.args.files.now.entries c.in_ok-clone.field-0 c.in_ok-bytes.bytes
-    ∙ rw (same_key, c.in_ok-bytes.ensures.items_if_clones_equal (λ x y same. same)) refl
+    ∙ put_in_files c.args.files.now.entries c.in_ok-clone.field-0 c.args.text
+    ∙ rw same_key refl
