@@ -245,3 +245,16 @@ fn frees_each_node_once(rt: HostRuntime) -> Result<(), Fail> {
     assert_eq!(rt; ring.destroy(), 2);
     Ok(())
 }
+
+#[test]
+fn cleared(rt: HostRuntime) -> Result<(), Fail> {
+    let alloc = rt.alloc();
+    let mut ring = six(&rt, alloc)?;
+    split_at(&rt, &mut ring, alloc, 2, &[0, 1, 2, 3, 4, 5])?;
+    split_at(&rt, &mut ring, alloc, 5, &[0, 1, 2, 3, 4, 5])?;
+    ring.clear();
+    expect_plain(&rt, &ring, &[]);
+    ring.clear();
+    assert_eq!(rt; ring.destroy(), 1);
+    Ok(())
+}
