@@ -75,8 +75,9 @@ impl Text {
         self.insert(alloc, end, buffer)
     }
 
-    /// Takes the characters from `beg` up to before `end` out. The buffer has exactly these then,
-    /// whatever it had. If memory is refused the text and the buffer stay.
+    /// Takes the characters from `beg` up to before `end` out; an `end` past the text means its
+    /// length. The buffer has exactly these then, whatever it had. If memory is refused the text and
+    /// the buffer stay.
     pub fn delete(
         &mut self,
         alloc: Global,
@@ -97,8 +98,8 @@ impl Text {
         Ok(())
     }
 
-    /// Adds the characters from `beg` up to before `end` to the buffer, at its end, in their looks.
-    /// If memory is refused the buffer stays.
+    /// Adds the characters from `beg` up to before `end` to the buffer, at its end, in their looks;
+    /// an `end` past the text means its length. If memory is refused the buffer stays.
     pub fn save(
         &self,
         alloc: Global,
@@ -119,8 +120,8 @@ impl Text {
     }
 
     /// Changes the looks of the characters from `beg` up to before `end`, in the fields that `sel`
-    /// names: bit 0 the font, bit 1 the colour, bit 2 the offset. Other bits are ignored. If memory
-    /// is refused the text stays.
+    /// names: bit 0 the font, bit 1 the colour, bit 2 the offset. Other bits are ignored, and an
+    /// `end` past the text means its length. If memory is refused the text stays.
     pub fn change_looks(
         &mut self,
         alloc: Global,
