@@ -1,3 +1,4 @@
+pub mod Bytes
 pub mod Mark
 pub mod Picture
 pub mod Screen

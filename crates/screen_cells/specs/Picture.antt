@@ -4,6 +4,7 @@ use Rattle.piece_ring.specs.Look.{default_look}
 use Rattle.viewer_tracks.specs.Columns.{Columns, seen_at}
 use Rattle.screen_cells.specs.declared.cell.Cell.{Cell}
 use Rattle.screen_cells.specs.declared.cell.Mark.TheVariants.{Filler}
+use Rattle.screen_cells.specs.Bytes.{space}
 use Rattle.screen_cells.specs.Mark.{mark_of}
 
 -- whether the marker stands at the cell
@@ -13,7 +14,7 @@ has_marker (Some m) x y = (m.0 == x) && (m.1 == y)
 
 -- a cell of a filler: a space in the default look; no caret stands there, and nothing is selected
 abbrev pub filler_cell : Bool → Cell
-filler_cell marker = record { ch = 32; look = default_look; mark = mark_of marker false false Filler }
+filler_cell marker = record { ch = space; look = default_look; mark = mark_of marker false false Filler }
 
 -- a cell in the part of the display that has it, of a viewer or of a filler, where `before` is what it showed; a viewer's cell still shows that
 abbrev pub part_cell : Option ℕ → Bool → Cell → Cell

@@ -1,6 +1,6 @@
 //! Cells of the screen. Plain data.
 ghost use Rattle.std.specs.Prelude.{◌≡◌};
-ghost use Rattle.screen_cells.specs.Mark.{letter, is_pointed};
+ghost use Rattle.screen_cells.specs.Mark.{letter, has_letter};
 ghost use Rattle.screen_cells.specs.Picture.{filler_cell};
 
 use piece_ring::{DEFAULT_LOOK, Look};
@@ -26,14 +26,14 @@ pub enum Mark {
 }
 
 impl Mark {
-    /// Whether a mark line is printed for it: of the marker, a caret or a selected character.
-    pub(crate) fn is_pointed(self) -> bool
-        ensures { result ≡ is_pointed self }
+    /// Whether it has a letter of its own, being more than a part of the display.
+    pub(crate) fn has_letter(self) -> bool
+        ensures { result ≡ has_letter self }
     {
         matches!(self, Mark::Marker | Mark::Caret | Mark::Selected)
     }
 
-    /// Its letter in a mark line, a period for a part of the display.
+    /// What is printed for it: its letter, or a period for a part of the display.
     pub(crate) fn letter(self) -> u8
         ensures { result ≡ letter self }
     {

@@ -1,7 +1,7 @@
 //! A printed line of a row.
 ghost use Rattle.std.specs.Prelude.{◌≡◌, ◌<◌, ◌≤◌, length, map};
 ghost use Rattle.screen_cells.specs.Mark.{letter};
-ghost use Rattle.screen_cells.specs.Printed.{row_line, without_trailing, character_line, mark_line, has_pointed};
+ghost use Rattle.screen_cells.specs.Printed.{row_line, without_trailing, character_line, mark_line, has_mark_line};
 
 use crate::cell::Cell;
 use arrayvec::ArrayVec;
@@ -31,10 +31,10 @@ pub(crate) fn mark_line(y: u8, row: &[Cell]) -> Line
 }
 
 /// Whether a row has a mark line.
-pub(crate) fn has_pointed(row: &[Cell]) -> bool
-    ensures { result ≡ has_pointed row.now }
+pub(crate) fn has_mark_line(row: &[Cell]) -> bool
+    ensures { result ≡ has_mark_line row.now }
 {
-    row.iter().any(|cell| cell.mark.is_pointed())
+    row.iter().any(|cell| cell.mark.has_letter())
 }
 
 fn characters(row: &[Cell]) -> RowBytes

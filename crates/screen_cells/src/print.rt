@@ -4,7 +4,7 @@ ghost use Rattle.std.specs.Io.KnownBytes.{Appends};
 ghost use Rattle.screen_cells.specs.Sent.{AppendsFront};
 ghost use Rattle.screen_cells.specs.Printed.{printed, character_lines, mark_lines};
 
-use crate::line::{character_line, has_pointed, mark_line};
+use crate::line::{character_line, has_mark_line, mark_line};
 use crate::screen::Screen;
 use crate::sending::{flush, send};
 use sector_disk::Fault;
@@ -44,7 +44,7 @@ impl Screen {
     {
         for y in (0..ROWS).rev() {
             let row = &self.rows()[usize::from(y)];
-            if has_pointed(row) {
+            if has_mark_line(row) {
                 send(writer, mark_line(y, row).as_slice())?;
             }
         }

@@ -2,7 +2,7 @@
 ghost use Rattle.std.specs.Prelude.{◌≡◌, IfSome};
 ghost use Rattle.screen_cells.specs.Printed.{printed};
 
-use crate::line::{character_line, has_pointed, mark_line};
+use crate::line::{character_line, has_mark_line, mark_line};
 use crate::{Cell, Mark, Screen};
 use piece_ring::Look;
 use sector_disk::Fault;
@@ -217,7 +217,7 @@ fn character_lines(rt: HostRuntime) {
 #[test]
 fn mark_lines(rt: HostRuntime) {
     let mut row = row_of(b"Hello");
-    assert!(rt; !has_pointed(&row));
+    assert!(rt; !has_mark_line(&row));
     assert_eq!(rt; mark_line(3, &row).as_slice(), b"03:\n".as_slice());
     for (x, mark) in [
         (0, Mark::Bar),
@@ -232,7 +232,7 @@ fn mark_lines(rt: HostRuntime) {
             cell.mark = mark;
         }
     }
-    assert!(rt; has_pointed(&row));
+    assert!(rt; has_mark_line(&row));
     assert_eq!(rt; mark_line(3, &row).as_slice(), b"03:..css...m\n".as_slice());
 }
 
