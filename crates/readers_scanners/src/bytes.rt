@@ -1,6 +1,7 @@
 //! Bytes by kind.
 ghost use Rattle.std.specs.Prelude.{◌≡◌, ◌==◌, ◌||◌, ◌-◌, ◌<◌, IsTrue};
-ghost use Rattle.readers_scanners.specs.Bytes.{is_blank, is_letter, is_digit, is_word_byte, is_inside};
+ghost use Rattle.readers_scanners.specs.Bytes.{is_blank, is_letter, is_digit};
+ghost use Rattle.readers_scanners.specs.Bytes.{is_word_byte, is_inside};
 ghost use Rattle.readers_scanners.specs.Passing.{has};
 
 /// What a stretch of bytes is made of.

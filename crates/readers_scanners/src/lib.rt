@@ -8,6 +8,8 @@ mod laws;
 mod reader;
 mod scanner;
 mod symbol;
+#[cfg(test)]
+mod tests;
 
 pub use char_file::{CharSource, Fault};
 pub use laws::one_symbol;

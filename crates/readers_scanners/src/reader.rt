@@ -1,7 +1,9 @@
 //! Reading the characters of a text one after another.
 //!
-//! A clause sees a reader as the text, each of its characters by its offset in the source, and the position before which it stands.
-ghost use Rattle.std.specs.Prelude.{◌≡◌, ◌↔◌, ◌+◌, ◌<◌, ◌≤◌, min, length, IsNone, IfOk, OnOk, OnErr, slice_get};
+//! A clause sees a reader as the text, each of its characters by its offset in the source, and the
+//! position before which it stands.
+ghost use Rattle.std.specs.Prelude.{◌≡◌, ◌↔◌, ◌+◌, ◌<◌, ◌≤◌, min, length, slice_get};
+ghost use Rattle.std.specs.Prelude.{IsNone, IfOk, OnOk, OnErr};
 ghost use Rattle.std.specs.Option.{option_map};
 ghost use Rattle.sector_disk.specs.Trail.{CountsFault};
 ghost use Rattle.char_file.specs.Source.{OnlyReads};
@@ -31,9 +33,11 @@ impl<'a> Model for Reader<'a> {
 
     ghost Value = { Reading };
 
-    ghost view = { λ r. record { text = flat r.text.now; position = length (flat r.text.now) - r.left } };
+    ghost view = { λ r. let text = flat r.text.now in
+        record { text = text; position = length text - r.left } };
 
-    ghost invariant = { λ r. let text = flat r.text.now in IsReading text (length text - r.left) r.left r.upcoming (flat r.cursor) };
+    ghost invariant = { λ r. let text = flat r.text.now in
+        IsReading text (length text - r.left) r.left r.upcoming (flat r.cursor) };
 }
 
 impl<'a> Reader<'a> {
@@ -63,19 +67,23 @@ impl<'a> Reader<'a> {
         self.text.len() - self.left
     }
 
-    /// The character at the position and its look; the reader then stands behind it. None at the end of the text, where it stays.
-    /// `Fault`: the source failed in this call, and the reader stays.
+    /// The character at the position and its look; the reader then stands behind it. None at the
+    /// end of the text, where it stays. `Fault`: the source failed in this call, and the reader stays.
     pub fn read<S: CharSource>(&mut self, source: &mut S) -> Result<Option<(u8, Look)>, Fault>
         requires { AreWithin (length (S.characters source.old)) self.old.text }
         ensures item { IfOk result (λ item. S.honest source.old
-            → item ≡ slice_get (contents (S.characters source.old) self.old.text) self.old.position) }
+            → item ≡ slice_get (contents (S.characters source.old) self.old.text)
+            self.old.position) }
         ensures look { IfOk result (λ item. option_map (λ x. x.1) item
             ≡ option_map (λ x. x.1) (slice_get self.old.text self.old.position)) }
-        ensures end { IfOk result (λ item. IsNone item ↔ (self.old.position ≡ length self.old.text)) }
-        ensures moves { OnOk result (self.new.position ≡ min (self.old.position + 1) (length self.old.text)) }
+        ensures end { IfOk result (λ item.
+            IsNone item ↔ (self.old.position ≡ length self.old.text)) }
+        ensures moves { OnOk result (self.new.position
+            ≡ min (self.old.position + 1) (length self.old.text)) }
         ensures refused { OnErr result (self.new.position ≡ self.old.position) }
         ensures text { self.new.text ≡ self.old.text }
-        ensures reads { OnlyReads S.characters S.failures S.honest S.same_ground source.old source.new }
+        ensures reads { OnlyReads S.characters S.failures S.honest S.same_ground
+            source.old source.new }
         ensures cause { CountsFault result (S.failures source.old) (S.failures source.new) }
     {
         let item = self.peek(source)?;
@@ -89,12 +97,15 @@ impl<'a> Reader<'a> {
     pub(crate) fn peek<S: CharSource>(&self, source: &mut S) -> Result<Option<(u8, Look)>, Fault>
         requires { AreWithin (length (S.characters source.old)) self.now.text }
         ensures item { IfOk result (λ item. S.honest source.old
-            → item ≡ slice_get (contents (S.characters source.old) self.now.text) self.now.position) }
+            → item ≡ slice_get (contents (S.characters source.old) self.now.text)
+            self.now.position) }
         ensures look { IfOk result (λ item. option_map (λ x. x.1) item
             ≡ option_map (λ x. x.1) (slice_get self.now.text self.now.position)) }
-        ensures end { IfOk result (λ item. IsNone item ↔ (self.now.position ≡ length self.now.text)) }
+        ensures end { IfOk result (λ item.
+            IsNone item ↔ (self.now.position ≡ length self.now.text)) }
         ensures within { self.now.position ≤ length self.now.text }
-        ensures reads { OnlyReads S.characters S.failures S.honest S.same_ground source.old source.new }
+        ensures reads { OnlyReads S.characters S.failures S.honest S.same_ground
+            source.old source.new }
         ensures cause { CountsFault result (S.failures source.old) (S.failures source.new) }
     {
         match self.upcoming {

@@ -1,7 +1,8 @@
 //! The symbols of a text.
 //!
 //! A clause sees a scanner as the text and the position at which the last symbol ended.
-ghost use Rattle.std.specs.Prelude.{ℕ, ◌≡◌, ◌+◌, ◌-◌, ◌≢◌, ◌<◌, ◌≤◌, ◌^◌, ◌∷◌, [], ◌++◌, List, min, length, take, Some, IsTrue, IfOk, OnOk, OnErr, MatchResult};
+ghost use Rattle.std.specs.Prelude.{ℕ, ◌≡◌, ◌+◌, ◌-◌, ◌≢◌, ◌<◌, ◌≤◌, ◌^◌, ◌∷◌, [], ◌++◌, List, min};
+ghost use Rattle.std.specs.Prelude.{length, take, IsTrue, IfOk, OnErr};
 ghost use Rattle.sector_disk.specs.Trail.{CountsFault};
 ghost use Rattle.char_file.specs.Source.{OnlyReads};
 ghost use Rattle.piece_ring.specs.Flat.{flat};
@@ -27,7 +28,8 @@ impl<'a> Model for Scanner<'a> {
     ghost view = { λ s. s.reader };
 }
 
-/// What a step did: it passed a byte of the class, or it stands before another one, or before none at the text's end.
+/// What a step did: it passed a byte of the class, or it stands before another one, or before none
+/// at the text's end.
 pub(crate) enum Step {
     Passed(u8),
     Before(Option<u8>),
@@ -50,7 +52,8 @@ impl<'a> Scanner<'a> {
         }
     }
 
-    /// Where the last symbol ended, as a number of characters from the text's beginning; before the first one where the scanner was opened.
+    /// Where the last symbol ended, as a number of characters from the text's beginning; before the
+    /// first symbol where the scanner was opened.
     pub fn position(&self) -> u32
         ensures position { result ≡ self.now.position }
         ensures within { result ≤ length self.now.text }
@@ -58,19 +61,25 @@ impl<'a> Scanner<'a> {
         self.reader.pos()
     }
 
-    /// The next symbol, behind blanks: the longest that stands there. `Fault`: the source failed in this call; the scanner stands
-    /// somewhere in the text then, so open another.
+    /// The next symbol, behind blanks: the longest that stands there. `Fault`: the source failed in
+    /// this call; the scanner stands somewhere in the text then, so open another.
+    ///
+    /// The byte behind a symbol isn't kept: the next call reads it again, from the source that it
+    /// is given. Within a call each byte is read once.
     pub fn scan<S: CharSource>(&mut self, source: &mut S) -> Result<Symbol, Fault>
         requires { AreWithin (length (S.characters source.old)) self.old.text }
         ensures symbol { IfOk result (λ symbol. S.honest source.old
-            → IsSymbol (bytes (S.characters source.old) self.old.text) self.old.position symbol self.new.position) }
+            → IsSymbol (bytes (S.characters source.old) self.old.text)
+            self.old.position symbol self.new.position) }
         ensures shape { IfOk result IsShaped }
         ensures end { result ≡ Ok Symbol.End → self.new.position ≡ length self.old.text }
-        ensures progress { IfOk result (λ symbol. symbol ≢ Symbol.End → self.old.position < self.new.position) }
+        ensures progress { IfOk result (λ symbol. symbol ≢ Symbol.End
+            → self.old.position < self.new.position) }
         ensures text { self.new.text ≡ self.old.text }
         ensures forth { self.old.position ≤ self.new.position }
         ensures within { self.new.position ≤ length self.old.text }
-        ensures reads { OnlyReads S.characters S.failures S.honest S.same_ground source.old source.new }
+        ensures reads { OnlyReads S.characters S.failures S.honest S.same_ground
+            source.old source.new }
         ensures cause { CountsFault result (S.failures source.old) (S.failures source.new) }
     {
         let Some(first) = self.skip_while(Class::Blank, source)? else {
@@ -97,13 +106,15 @@ impl<'a> Scanner<'a> {
         requires letter { IsTrue (is_letter first) }
         requires offsets { AreWithin (length (S.characters source.old)) self.old.text }
         ensures found { IfOk result (λ symbol. S.honest source.old
-            → Found (first ∷ []) (bytes (S.characters source.old) self.old.text) self.old.position self.new.position symbol) }
+            → Found (first ∷ []) (bytes (S.characters source.old) self.old.text)
+            self.old.position self.new.position symbol) }
         ensures shape { IfOk result IsShaped }
         ensures some { result ≢ Ok Symbol.End }
         ensures text { self.new.text ≡ self.old.text }
         ensures forth { self.old.position ≤ self.new.position }
         ensures within { self.new.position ≤ length self.old.text }
-        ensures reads { OnlyReads S.characters S.failures S.honest S.same_ground source.old source.new }
+        ensures reads { OnlyReads S.characters S.failures S.honest S.same_ground
+            source.old source.new }
         ensures cause { CountsFault result (S.failures source.old) (S.failures source.new) }
     {
         let mut kept = ArrayVec::new();
@@ -116,13 +127,15 @@ impl<'a> Scanner<'a> {
     fn string<S: CharSource>(&mut self, source: &mut S) -> Result<Symbol, Fault>
         requires { AreWithin (length (S.characters source.old)) self.old.text }
         ensures found { IfOk result (λ symbol. S.honest source.old
-            → Found (34 ∷ []) (bytes (S.characters source.old) self.old.text) self.old.position self.new.position symbol) }
+            → Found (34 ∷ []) (bytes (S.characters source.old) self.old.text)
+            self.old.position self.new.position symbol) }
         ensures shape { IfOk result IsShaped }
         ensures some { result ≢ Ok Symbol.End }
         ensures text { self.new.text ≡ self.old.text }
         ensures forth { self.old.position ≤ self.new.position }
         ensures within { self.new.position ≤ length self.old.text }
-        ensures reads { OnlyReads S.characters S.failures S.honest S.same_ground source.old source.new }
+        ensures reads { OnlyReads S.characters S.failures S.honest S.same_ground
+            source.old source.new }
         ensures cause { CountsFault result (S.failures source.old) (S.failures source.new) }
     {
         let mut kept = ArrayVec::new();
@@ -143,13 +156,15 @@ impl<'a> Scanner<'a> {
     fn negative<S: CharSource>(&mut self, source: &mut S) -> Result<Symbol, Fault>
         requires { AreWithin (length (S.characters source.old)) self.old.text }
         ensures found { IfOk result (λ symbol. S.honest source.old
-            → Found (45 ∷ []) (bytes (S.characters source.old) self.old.text) self.old.position self.new.position symbol) }
+            → Found (45 ∷ []) (bytes (S.characters source.old) self.old.text)
+            self.old.position self.new.position symbol) }
         ensures shape { IfOk result IsShaped }
         ensures some { result ≢ Ok Symbol.End }
         ensures text { self.new.text ≡ self.old.text }
         ensures forth { self.old.position ≤ self.new.position }
         ensures within { self.new.position ≤ length self.old.text }
-        ensures reads { OnlyReads S.characters S.failures S.honest S.same_ground source.old source.new }
+        ensures reads { OnlyReads S.characters S.failures S.honest S.same_ground
+            source.old source.new }
         ensures cause { CountsFault result (S.failures source.old) (S.failures source.new) }
     {
         match self.step(Class::Digit, source)? {
@@ -168,13 +183,15 @@ impl<'a> Scanner<'a> {
         requires digit { IsTrue (is_digit first) }
         requires offsets { AreWithin (length (S.characters source.old)) self.old.text }
         ensures found { IfOk result (λ symbol. S.honest source.old
-            → Found (signed negative (first ∷ [])) (bytes (S.characters source.old) self.old.text) self.old.position self.new.position symbol) }
+            → Found (signed negative (first ∷ [])) (bytes (S.characters source.old) self.old.text)
+            self.old.position self.new.position symbol) }
         ensures shape { IfOk result IsShaped }
         ensures some { result ≢ Ok Symbol.End }
         ensures text { self.new.text ≡ self.old.text }
         ensures forth { self.old.position ≤ self.new.position }
         ensures within { self.new.position ≤ length self.old.text }
-        ensures reads { OnlyReads S.characters S.failures S.honest S.same_ground source.old source.new }
+        ensures reads { OnlyReads S.characters S.failures S.honest S.same_ground
+            source.old source.new }
         ensures cause { CountsFault result (S.failures source.old) (S.failures source.new) }
     {
         let (size, next) = self.digits(first, source)?;
@@ -195,12 +212,14 @@ impl<'a> Scanner<'a> {
     /// Passes the next byte, if it is one of the class.
     fn step<S: CharSource>(&mut self, class: Class, source: &mut S) -> Result<Step, Fault>
         requires { AreWithin (length (S.characters source.old)) self.old.text }
-        ensures step { IfOk result (λ step. Steps (has class) (S.honest source.old) (bytes (S.characters source.old) self.old.text)
+        ensures step { IfOk result (λ step. Steps (has class) (S.honest source.old)
+            (bytes (S.characters source.old) self.old.text)
             self.old.position self.new.position step) }
         ensures text { self.new.text ≡ self.old.text }
         ensures refused { OnErr result (self.new.position ≡ self.old.position) }
         ensures within { self.new.position ≤ length self.old.text }
-        ensures reads { OnlyReads S.characters S.failures S.honest S.same_ground source.old source.new }
+        ensures reads { OnlyReads S.characters S.failures S.honest S.same_ground
+            source.old source.new }
         ensures cause { CountsFault result (S.failures source.old) (S.failures source.new) }
     {
         match self.reader.peek(source)? {
@@ -223,12 +242,15 @@ impl<'a> Scanner<'a> {
         source: &mut S,
     ) -> Result<Option<u8>, Fault>
         requires { AreWithin (length (S.characters source.old)) self.old.text }
-        ensures run { IfOk result (λ next. (passed : List ℕ) × IsRun (has class) (S.honest source.old)
-            (bytes (S.characters source.old) self.old.text) self.old.position self.new.position passed next) }
+        ensures run { IfOk result (λ next. (passed : List ℕ)
+            × IsRun (has class) (S.honest source.old)
+            (bytes (S.characters source.old) self.old.text)
+            self.old.position self.new.position passed next) }
         ensures text { self.new.text ≡ self.old.text }
         ensures forth { self.old.position ≤ self.new.position }
         ensures within { self.new.position ≤ length self.old.text }
-        ensures reads { OnlyReads S.characters S.failures S.honest S.same_ground source.old source.new }
+        ensures reads { OnlyReads S.characters S.failures S.honest S.same_ground
+            source.old source.new }
         ensures cause { CountsFault result (S.failures source.old) (S.failures source.new) }
     {
         'run: loop {
@@ -239,7 +261,8 @@ impl<'a> Scanner<'a> {
         }
     }
 
-    /// Passes the bytes of the class and keeps them as far as there is room, and answers the one behind them. None at the text's end.
+    /// Passes the bytes of the class and keeps them as far as there is room, and answers the one
+    /// behind them. None at the text's end.
     fn take_while<S: CharSource>(
         &mut self,
         class: Class,
@@ -248,13 +271,16 @@ impl<'a> Scanner<'a> {
     ) -> Result<Option<u8>, Fault>
         requires room { length kept.old.items ≤ 31 }
         requires offsets { AreWithin (length (S.characters source.old)) self.old.text }
-        ensures run { IfOk result (λ next. (passed : List ℕ) × IsRun (has class) (S.honest source.old)
-            (bytes (S.characters source.old) self.old.text) self.old.position self.new.position passed next
+        ensures run { IfOk result (λ next. (passed : List ℕ)
+            × IsRun (has class) (S.honest source.old)
+            (bytes (S.characters source.old) self.old.text)
+            self.old.position self.new.position passed next
             × (kept.new.items ≡ take 31 (kept.old.items ++ passed))) }
         ensures text { self.new.text ≡ self.old.text }
         ensures forth { self.old.position ≤ self.new.position }
         ensures within { self.new.position ≤ length self.old.text }
-        ensures reads { OnlyReads S.characters S.failures S.honest S.same_ground source.old source.new }
+        ensures reads { OnlyReads S.characters S.failures S.honest S.same_ground
+            source.old source.new }
         ensures cause { CountsFault result (S.failures source.old) (S.failures source.new) }
     {
         'run: loop {
@@ -265,8 +291,8 @@ impl<'a> Scanner<'a> {
         }
     }
 
-    /// Passes the digits behind a first one, and answers the number that they spell and the byte behind them. None at the text's end.
-    /// A number that has no room is answered as the greatest.
+    /// Passes the digits behind a first one, and answers the number that they spell and the byte
+    /// behind them. None at the text's end. A number that has no room is answered as the greatest.
     fn digits<S: CharSource>(
         &mut self,
         first: u8,
@@ -274,13 +300,15 @@ impl<'a> Scanner<'a> {
     ) -> Result<(u32, Option<u8>), Fault>
         requires digit { IsTrue (is_digit first) }
         requires offsets { AreWithin (length (S.characters source.old)) self.old.text }
-        ensures run { IfOk result (λ r. (passed : List ℕ) × IsRun is_digit (S.honest source.old)
-            (bytes (S.characters source.old) self.old.text) self.old.position self.new.position passed r.1
+        ensures run { IfOk result (λ r. (passed : List ℕ)
+            × IsRun is_digit (S.honest source.old) (bytes (S.characters source.old) self.old.text)
+            self.old.position self.new.position passed r.1
             × (r.0 ≡ min (number_of (first ∷ passed)) (2 ^ 32 - 1))) }
         ensures text { self.new.text ≡ self.old.text }
         ensures forth { self.old.position ≤ self.new.position }
         ensures within { self.new.position ≤ length self.old.text }
-        ensures reads { OnlyReads S.characters S.failures S.honest S.same_ground source.old source.new }
+        ensures reads { OnlyReads S.characters S.failures S.honest S.same_ground
+            source.old source.new }
         ensures cause { CountsFault result (S.failures source.old) (S.failures source.new) }
     {
         let mut number = digit_value(first);
