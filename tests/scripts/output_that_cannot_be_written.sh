@@ -6,4 +6,6 @@ echo "$?"
 echo "$?"
 "$OBERON" check desk.disk > /dev/full
 echo "$?"
+"$OBERON" screen desk.disk > /dev/full
+echo "$?"
 "$OBERON" check desk.disk

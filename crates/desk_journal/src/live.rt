@@ -2,6 +2,7 @@
 ghost use Rattle.std.specs.Prelude.{◌≡◌, IfOk, OnOk, IsErrOf, option_map};
 ghost use Rattle.event_loop.specs.Desktop.{empty_desktop, file_of};
 ghost use Rattle.event_loop.specs.Listing.{entries_of};
+ghost use Rattle.event_loop.specs.Shown.{shown_screen};
 ghost use Rattle.event_loop.specs.Step.{step};
 ghost use Rattle.desk_journal.specs.Live.{shown, IsWhole};
 
@@ -10,6 +11,7 @@ use char_file::CharFile;
 use event_bytes::{Event, Name};
 use event_loop::{Desktop, Entry, NoMemory, Reply, Stop};
 use piece_ring::Look;
+use screen_cells::Screen;
 use std::alloc::Global;
 
 /// A desktop and the characters that its texts name.
@@ -65,6 +67,16 @@ impl LiveDesktop {
         ensures never_fault { ¬ IsErrOf result Stop.Fault }
     {
         self.desktop.list(alloc, &mut self.characters)
+    }
+
+    /// Paints what the desktop shows.
+    pub fn screen(&mut self, alloc: Global, screen: &mut Screen) -> Result<(), Stop>
+        requires { IsWhole self.old }
+        ensures shown { OnOk result (screen.new ≡ shown_screen (shown self.old)) }
+        ensures same { self.new ≡ self.old }
+        ensures never_fault { ¬ IsErrOf result Stop.Fault }
+    {
+        self.desktop.screen(alloc, &mut self.characters, screen)
     }
 
     /// How many characters were ever written.

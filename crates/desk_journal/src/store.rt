@@ -3,6 +3,7 @@ ghost use Rattle.std.specs.Prelude.{◌≡◌, ◌⊎◌, ◌<◌, ◌≤◌, �
 ghost use Rattle.sector_disk.specs.Trail.{Leaves, LeavesOnly, now};
 ghost use Rattle.event_loop.specs.Desktop.{empty_desktop, file_of};
 ghost use Rattle.event_loop.specs.Listing.{entries_of};
+ghost use Rattle.event_loop.specs.Shown.{shown_screen};
 ghost use Rattle.event_loop.specs.Step.{step};
 ghost use Rattle.desk_journal.specs.Finding.{IsForeign, IsDamagedAt};
 ghost use Rattle.desk_journal.specs.Meaning.{Means, MeansEither, Shows};
@@ -16,6 +17,7 @@ use crate::record::add_record;
 use event_bytes::{Event, Name};
 use event_loop::{Entry, Reply};
 use piece_ring::Look;
+use screen_cells::Screen;
 use sector_disk::{Disk, Fault};
 use std::alloc::Global;
 use std::marker::Model;
@@ -187,6 +189,24 @@ impl<D: Disk> Store<D> {
             return Err(Error::MustReopen);
         }
         Ok(self.desktop.list(alloc)?)
+    }
+
+    /// Paints what the desktop shows. It changes nothing but the screen, of which nothing is said after an error.
+    ///
+    /// Errors: `MustReopen`; `NoMemory`; `Fault`.
+    pub fn screen(&mut self, alloc: Global, screen: &mut Screen) -> Result<(), Error>
+        ensures shown { OnOk result (D.honest self.old.disk → screen.new ≡ shown_screen self.old.desktop) }
+        ensures looked_at { IsLookedAt D.size D.honest D.trail self.old self.new }
+        ensures reopen { IsErrOf result Error.MustReopen ↔ (self.old.must_reopen ≡ true) }
+        ensures cause { IsErrOf result Error.Fault → D.failures self.old.disk < D.failures self.new.disk }
+        ensures calm { OnOk result (D.failures self.new.disk ≡ D.failures self.old.disk) }
+        ensures named { IfErr result (λ e. (e ≡ Error.NoMemory) ⊎ ((e ≡ Error.Fault) ⊎ (e ≡ Error.MustReopen))) }
+    {
+        if self.must_reopen {
+            return Err(Error::MustReopen);
+        }
+        self.desktop.screen(alloc, screen)?;
+        Ok(())
     }
 
     /// What the store says of itself. While it is in use, what it shows is what every crash leaves.

@@ -6,3 +6,4 @@ pub mod Step
 pub mod Sound
 pub mod Listing
 pub mod Flat
+pub mod Shown

@@ -12,6 +12,7 @@ ghost use Rattle.event_loop.specs.Seen.{seen, kept_from, bytes_made};
 ghost use Rattle.event_loop.specs.Step.{step, step_over, fits};
 ghost use Rattle.event_loop.specs.Sound.{IsSound, IsKeptWhole};
 ghost use Rattle.event_loop.specs.Listing.{entries_of};
+ghost use Rattle.event_loop.specs.Shown.{shown_screen};
 
 use crate::entry::Entry;
 use crate::files::{Files, entries, has_room, held_with, put, text_of};
@@ -21,10 +22,12 @@ use crate::stop::{NoMemory, Stop};
 use char_file::CharSource;
 use event_bytes::{Event, FileBytes, Name};
 use piece_ring::DEFAULT_LOOK;
+use screen_cells::{Screen, all_filler_without_viewers};
 use std::alloc::Global;
 use std::collections::BTreeMap;
 use std::marker::Model;
 use text_core::Text;
+use viewer_tracks::Tracks;
 
 const MOST_WRITTEN: usize = 4_194_304;
 
@@ -116,6 +119,32 @@ impl Desktop {
         let mut entries = entries(alloc, &self.files)?;
         entries.push(Entry::Written(self.written))?;
         Ok(entries)
+    }
+
+    /// Paints what the desktop shows: all filler, since no event opens a viewer or sets the marker yet. The source has just the
+    /// characters that were written.
+    ///
+    /// NoMemory where a growth is refused; Fault where a character could not be read, and the screen may then show anything. The desktop
+    /// is as it was after any answer.
+    pub fn screen<S: CharSource>(
+        &mut self,
+        alloc: Global,
+        source: &mut S,
+        screen: &mut Screen,
+    ) -> Result<(), Stop>
+        requires { length (S.characters source.old) ≡ self.old.written }
+        ensures shown { OnOk result (S.honest source.old → screen.new ≡ shown_screen (seen (S.characters source.old) self.old)) }
+        ensures unchanged { self.new ≡ self.old }
+        ensures reads { OnlyReads S.characters S.failures S.honest S.same_ground source.old source.new }
+        ensures cause { IsErrOf result Stop.Fault → S.failures source.old < S.failures source.new }
+        ensures calm { OnOk result (S.failures source.new ≡ S.failures source.old) }
+    {
+        let _ = alloc;
+        let _ = source;
+        // Where there is no viewer all is filler.
+        all_filler_without_viewers();
+        screen.paint(&Tracks::new(), None);
+        Ok(())
     }
 
     /// How many characters were ever written, at most 4,194,304.

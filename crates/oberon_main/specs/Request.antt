@@ -6,7 +6,7 @@ use Rattle.std.specs.Str.{bytes_eq}
 use Rattle.event_bytes.specs.Bytes.{lies_within, is_digit, is_name, is_file_bytes}
 use Rattle.event_bytes.specs.declared.event.Event.TheVariants.{File}
 use Rattle.oberon_main.specs.declared.request.Request.{Request}
-use Rattle.oberon_main.specs.declared.request.Request.TheVariants.{Post, Show, Listing, Malformed}
+use Rattle.oberon_main.specs.declared.request.Request.TheVariants.{Post, Show, Listing, Display, Malformed}
 
 -- from the space to the tilde
 abbrev pub is_printable : ℕ → Bool
@@ -72,7 +72,7 @@ show_of name = if is_name name then Some (Show name) else None
 
 -- a command by its word, and what stands behind the word's one space
 unfoldable pub command_of : List ℕ → Option (List ℕ) → Option Request
-command_of name None = if bytes_eq name (codes "list") then Some Listing else None
+command_of name None = if bytes_eq name (codes "list") then Some Listing else (if bytes_eq name (codes "screen") then Some Display else None)
 command_of name (Some rest) = if bytes_eq name (codes "show") then show_of rest
     else (if bytes_eq name (codes "file") then file_of (word rest) (unwrap_or (argument rest) []) else None)
 

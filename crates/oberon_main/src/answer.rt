@@ -4,11 +4,13 @@ ghost use Rattle.std.specs.Fmt.{decimal, signed_decimal};
 ghost use Rattle.arrayvec.specs.ArrayVec.{array_vec_len};
 ghost use Rattle.oberon_main.specs.Script.{ended};
 ghost use Rattle.oberon_main.specs.Answer.{reply_line, refusal_line, digit as digit_of, shown_byte, shown, is_same_look, look_words, stretch_line, text_lines, entry_line, list_lines};
+ghost use Rattle.screen_cells.specs.Printed.{printed};
 ghost use Rattle.oberon_main.specs.Stretch.{bytes_in, is_in_another, count_in};
 
 use arrayvec::ArrayVec;
 use event_loop::{Entry, Reply};
 use piece_ring::Look;
+use screen_cells::Screen;
 use std::alloc::{AllocError, Global};
 
 /// A line that takes no memory.
@@ -210,4 +212,15 @@ fn push_entry(text: &mut Vec<u8>, entry: &Entry) -> Result<(), AllocError>
     }
     text.push(b'\n')?;
     Ok(())
+}
+
+/// The printed screen. A writer in memory fails only where a growth is refused.
+pub fn screen_bytes(alloc: Global, screen: &Screen) -> Result<Vec<u8>, AllocError>
+    ensures { IfOk result (λ text. text.items ≡ printed screen.now) }
+{
+    let mut text = Vec::new(alloc);
+    match screen.print(&mut text) {
+        Ok(()) => Ok(text),
+        Err(_) => Err(AllocError),
+    }
 }

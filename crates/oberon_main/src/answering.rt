@@ -1,17 +1,20 @@
 //! Working out what a request is answered, over a store.
 ghost use Rattle.std.specs.Prelude.{◌≡◌, ◌⊎◌, ◌<◌, ◌↔◌, false, IfOk, IfErr, IsOk, OnOk, IsErrOf};
 ghost use Rattle.event_bytes.specs.declared.event.Event.{Event as AnEvent};
-ghost use Rattle.oberon_main.specs.declared.request.Request.TheVariants.{Post, Show, Listing, Malformed};
+ghost use Rattle.oberon_main.specs.declared.request.Request.TheVariants.{Post, Show, Listing, Display, Malformed};
 ghost use Rattle.oberon_main.specs.declared.play.PlayEnd.TheVariants as ends;
 ghost use Rattle.oberon_main.specs.Session.{answer, after};
 ghost use Rattle.oberon_main.specs.Opened.{session_of};
 ghost use Rattle.oberon_main.specs.Worked.{bytes_of};
 
-use crate::answer::{ShortLine, list_bytes, refusal_bytes, reply_bytes, short_line, text_bytes};
+use crate::answer::{
+    ShortLine, list_bytes, refusal_bytes, reply_bytes, screen_bytes, short_line, text_bytes,
+};
 use crate::play::PlayEnd;
 use crate::request::Request;
 use desk_journal::{Error, Store};
 use event_bytes::{Event, Name};
+use screen_cells::Screen;
 use sector_disk::Disk;
 use std::alloc::Global;
 
@@ -55,6 +58,7 @@ pub fn work_out<D: Disk>(
         Request::Post(event) => Ok(Answer::Short(post(alloc, event, store)?)),
         Request::Show(name) => show(alloc, name, store),
         Request::Listing => Ok(Answer::Long(list(alloc, store)?)),
+        Request::Display => Ok(Answer::Long(screen(alloc, store)?)),
         Request::Malformed => Ok(Answer::Short(short_line(b"?"))),
     }
 }
@@ -112,6 +116,26 @@ fn list<D: Disk>(alloc: Global, store: &mut Store<D>) -> Result<Vec<u8>, PlayEnd
 {
     match store.list(alloc) {
         Ok(entries) => Ok(list_bytes(alloc, entries.as_slice())?),
+        Err(Error::NoMemory) => Err(PlayEnd::Memory),
+        Err(_) => Err(PlayEnd::Fault),
+    }
+}
+
+/// The printed screen.
+#[tactic(auto, unfolding(crate::specs::Session::answer, crate::specs::Session::after))]
+fn screen<D: Disk>(alloc: Global, store: &mut Store<D>) -> Result<Vec<u8>, PlayEnd>
+    requires { store.old.must_reopen ≡ false }
+    ensures answer { IfOk result (λ text. D.honest store.old.disk → text.items ≡ answer (session_of store.old) Display) }
+    ensures session { session_of store.new ≡ session_of store.old }
+    ensures usable { store.new.must_reopen ≡ false }
+    ensures calm { OnOk result (D.failures store.new.disk ≡ D.failures store.old.disk) }
+    ensures cause { IsErrOf result ends.Fault → D.failures store.old.disk < D.failures store.new.disk }
+    ensures named { IfErr result (λ end. (end ≡ ends.Fault) ⊎ (end ≡ ends.Memory)) }
+    ensures premise { D.honest store.new.disk ↔ D.honest store.old.disk }
+{
+    let mut screen = Screen::new();
+    match store.screen(alloc, &mut screen) {
+        Ok(()) => Ok(screen_bytes(alloc, &screen)?),
         Err(Error::NoMemory) => Err(PlayEnd::Memory),
         Err(_) => Err(PlayEnd::Fault),
     }

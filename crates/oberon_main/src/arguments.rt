@@ -15,6 +15,8 @@ pub enum Order<'a> {
     Format(&'a str),
     /// To play a script over a store.
     Play(&'a str),
+    /// To print the screen of a store.
+    Screen(&'a str),
     /// To say of a store that it can be used.
     Check(&'a str),
 }
@@ -56,6 +58,7 @@ pub fn order_of<'a>(alloc: Global, words: &'a [String]) -> Result<Order<'a>, Ref
     match (name, given.get_str("path")) {
         ("format", Some(path)) => Ok(Order::Format(path)),
         ("play", Some(path)) => Ok(Order::Play(path)),
+        ("screen", Some(path)) => Ok(Order::Screen(path)),
         ("check", Some(path)) => Ok(Order::Check(path)),
         _ => Err(Refusal::Usage),
     }
@@ -65,6 +68,7 @@ fn command<'a>(alloc: Global) -> Result<Command<'a>, AllocError> {
     Command::new(alloc, "oberon")
         .subcommand(over_a_path(alloc, "format")?)?
         .subcommand(over_a_path(alloc, "play")?)?
+        .subcommand(over_a_path(alloc, "screen")?)?
         .subcommand(over_a_path(alloc, "check")?)
 }
 

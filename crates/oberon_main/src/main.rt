@@ -18,6 +18,7 @@ use crate::play::play;
 use crate::report::{check, refuse, status};
 use crate::sending::send;
 use desk_journal::{Error, Store};
+use screen_cells::Screen;
 use sector_disk::{Disk, FileDisk, MemoryDisk};
 use std::process::ExitCode;
 
@@ -44,6 +45,7 @@ fn run(rt: &HostRuntime) -> u8 {
         Ok(Order::PlayInMemory) => play_in_memory(rt),
         Ok(Order::Format(path)) => format_file(rt, path),
         Ok(Order::Play(path)) => play_file(rt, path),
+        Ok(Order::Screen(path)) => print_file(rt, path),
         Ok(Order::Check(path)) => check_file(rt, path),
         Err(refusal) => decline(rt, refusal),
     }
@@ -91,6 +93,28 @@ fn play_file(rt: &HostRuntime, path: &str) -> u8 {
     match FileDisk::open(rt, path) {
         Ok(disk) => play_over(rt, disk),
         Err(_) => fail(rt, &Error::Fault),
+    }
+}
+
+fn print_file(rt: &HostRuntime, path: &str) -> u8 {
+    let Ok(disk) = FileDisk::open(rt, path) else {
+        return fail(rt, &Error::Fault);
+    };
+    match Store::open(rt.alloc(), disk) {
+        Ok(mut store) => print_screen(rt, &mut store),
+        Err((error, _disk)) => fail(rt, &error),
+    }
+}
+
+/// Prints the screen of a store on standard output.
+fn print_screen<D: Disk>(rt: &HostRuntime, store: &mut Store<D>) -> u8 {
+    let mut screen = Screen::new();
+    if let Err(error) = store.screen(rt.alloc(), &mut screen) {
+        return fail(rt, &error);
+    }
+    match screen.print(&mut rt.stdout()) {
+        Ok(()) => 0,
+        Err(_) => FAULT,
     }
 }
 

@@ -1,6 +1,6 @@
 //! What a line of a script asks for.
 //!
-//! `file NAME BYTES` asks for an event: the file becomes these bytes. `file NAME`, with or without a space behind it, makes it empty. `show NAME` and `list` ask for a look. Words are parted by exactly one space. In BYTES a percent sign and two hexadecimal digits stand for a byte. What else a line says is malformed.
+//! `file NAME BYTES` asks for an event: the file becomes these bytes. `file NAME`, with or without a space behind it, makes it empty. `show NAME`, `list` and `screen` ask for a look. Words are parted by exactly one space. In BYTES a percent sign and two hexadecimal digits stand for a byte. What else a line says is malformed.
 ghost use Rattle.std.specs.Prelude.{◌≡◌, ◌<◌, ◌≤◌, ◌∷◌, length, position, None, IfSome, MatchOption};
 ghost use Rattle.std.specs.Option.{option_map};
 ghost use Rattle.std.specs.List.{list_all};
@@ -18,6 +18,8 @@ pub enum Request {
     Show(Name),
     /// All files by name, and how many characters were ever written.
     Listing,
+    /// The screen.
+    Display,
     /// No line of the language.
     Malformed,
 }
@@ -72,6 +74,7 @@ fn command(name: &[u8], rest: Option<&[u8]>) -> Option<Request>
 {
     match rest {
         None if name == b"list".as_slice() => Some(Request::Listing),
+        None if name == b"screen".as_slice() => Some(Request::Display),
         Some(rest) if name == b"show".as_slice() => show(rest),
         Some(rest) if name == b"file".as_slice() => {
             let (name, text) = split_word(rest);

@@ -96,7 +96,7 @@ fn rows(rt: HostRuntime) -> Result<(), Fail> {
         (HELLO, HELLO_ANSWERS),
         (b"list\n", b"written 0\nend\n"),
         (
-            b"\nlist \ntype x\nmark 80 0\nscreen\ncheckpoint\nfile\nshow\nlist\r\nfile 1A x\n",
+            b"\nlist \ntype x\nmark 80 0\nscreen \ncheckpoint\nfile\nshow\nlist\r\nfile 1A x\n",
             b"?\n?\n?\n?\n?\n?\n?\n?\n?\n?\n",
         ),
         (

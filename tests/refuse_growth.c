@@ -1,0 +1,22 @@
+/* Preloaded before the program oberon: refuses one growth, number REFUSE counted from 0, and makes the file REFUSED when it does. */
+#include <fcntl.h>
+#include <stdlib.h>
+#include <unistd.h>
+
+extern void *__libc_malloc(size_t size);
+extern void *__libc_realloc(void *block, size_t size);
+
+static long growths;
+
+static int is_refused(void) {
+    const char *wanted = getenv("REFUSE");
+    if (!wanted || growths++ != atol(wanted)) return 0;
+    const char *told = getenv("REFUSED");
+    int file = told ? open(told, O_CREAT | O_WRONLY, 0600) : -1;
+    if (file >= 0) close(file);
+    return 1;
+}
+
+void *malloc(size_t size) { return is_refused() ? 0 : __libc_malloc(size); }
+
+void *realloc(void *block, size_t size) { return is_refused() ? 0 : __libc_realloc(block, size); }
