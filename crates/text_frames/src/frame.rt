@@ -1,0 +1,172 @@
+//! A frame, and the rules by which it follows its text.
+ghost use Rattle.std.specs.Prelude.{◌≡◌, ◌⊎◌, ◌+◌, ◌/◌, ◌^◌, ◌<◌, ◌≤◌, ◌==◌, ◌&&◌, nat_le, nat_lt, Some, length, slice_index, IfOk, OnOk, OnErr, if◌then◌else◌};
+ghost use Rattle.sector_disk.specs.Trail.{CountsFault};
+ghost use Rattle.char_file.specs.Source.{OnlyReads};
+ghost use Rattle.piece_ring.specs.Flat.{flat};
+ghost use Rattle.piece_ring.specs.Offsets.{AreWithin};
+ghost use Rattle.readers_scanners.specs.Reading.{bytes};
+ghost use Rattle.text_frames.specs.Rules.{with_org, cleared, moved, changed_org, changed, shown};
+
+use crate::lines::{LinesAbove, line_start, lines_above};
+use crate::{CharSource, Fault, Text};
+
+/// The characters from `beg` up to before `end`, with the rank of the selection among all.
+#[derive(Clone, Copy, Debug, PartialEq, Eq)]
+pub struct Selection {
+    pub beg: u32,
+    pub end: u32,
+    pub rank: u8,
+}
+
+/// Shows the text of the number `text` from the position `org` on. Positions count characters.
+#[derive(Clone, Copy, Debug, PartialEq, Eq)]
+pub struct Frame {
+    pub text: u16,
+    pub org: u32,
+    pub caret: Option<u32>,
+    pub selection: Option<Selection>,
+}
+
+impl Frame {
+    /// Sets the caret before the character at `pos`.
+    pub fn set_caret(&mut self, pos: u32)
+        ensures { self.new ≡ record self.old { caret = Some pos } }
+    {
+        self.caret = Some(pos);
+    }
+
+    /// Selects the characters from `beg` up to before `end`.
+    pub fn select(&mut self, beg: u32, end: u32, rank: u8)
+        requires { beg < end }
+        ensures { self.new ≡ record self.old { selection = Some (record { beg = beg; end = end; rank = rank }) } }
+    {
+        self.selection = Some(Selection { beg, end, rank });
+    }
+
+    /// Shows the text from `org` on.
+    pub fn scroll(&mut self, org: u32)
+        ensures { self.new ≡ record self.old { org = org } }
+    {
+        self.org = org;
+    }
+
+    /// Follows a change of its text: at `p` so many characters were inserted, or so many from `p` on deleted. `text` is the changed text.
+    /// The frame loses its caret and its selection. `org` stays where it is at most `p`; else it goes with its character, or to `p` where
+    /// that was deleted, and from there to the start of its line. Where nothing was inserted or deleted nothing changes.
+    /// `Fault`: the source failed in this call; the frame is as it was.
+    pub fn update<S: CharSource>(
+        &mut self,
+        text: &Text,
+        p: u32,
+        inserted: u32,
+        deleted: u32,
+        source: &mut S,
+    ) -> Result<(), Fault>
+        requires one { (inserted ≡ 0) ⊎ (deleted ≡ 0) }
+        requires place { p + inserted ≤ length (flat text.now) }
+        requires org { self.old.org + inserted ≤ length (flat text.now) + deleted }
+        requires offsets { AreWithin (length (S.characters source.old)) (flat text.now) }
+        ensures frame { OnOk result (S.honest source.old
+            → self.new ≡ changed (bytes (S.characters source.old) (flat text.now)) p inserted deleted self.old) }
+        ensures rest { OnOk result (self.new
+            ≡ (if inserted + deleted == 0 then self.old else with_org (cleared self.old) self.new.org)) }
+        ensures range { OnOk result (self.new.org ≤ length (flat text.now)) }
+        ensures refused { OnErr result (self.new ≡ self.old) }
+        ensures reads { OnlyReads S.characters S.failures S.honest S.same_ground source.old source.new }
+        ensures cause { CountsFault result (S.failures source.old) (S.failures source.new) }
+    {
+        if inserted == 0 && deleted == 0 {
+            return Ok(());
+        }
+        let org = org_behind(self.org, text, p, inserted, deleted, source)?;
+        self.org = org;
+        self.caret = None;
+        self.selection = None;
+        Ok(())
+    }
+
+    /// Brings the position `p` into the `h` rows shown: where it is above `org`, or its line isn't in one of these rows, `org` becomes the
+    /// start of the line that stands `h / 2` lines above that of `p`, 0 where there are fewer.
+    /// `Fault`: the source failed in this call; the frame is as it was.
+    pub fn show<S: CharSource>(
+        &mut self,
+        text: &Text,
+        h: u8,
+        p: u32,
+        source: &mut S,
+    ) -> Result<(), Fault>
+        requires rows { h ≤ 31 }
+        requires place { p ≤ length (flat text.now) }
+        requires org { self.old.org ≤ length (flat text.now) }
+        requires offsets { AreWithin (length (S.characters source.old)) (flat text.now) }
+        ensures frame { OnOk result (S.honest source.old
+            → self.new ≡ shown (bytes (S.characters source.old) (flat text.now)) h p self.old) }
+        ensures rest { self.new ≡ with_org self.old self.new.org }
+        ensures range { OnOk result (self.new.org ≤ length (flat text.now)) }
+        ensures refused { OnErr result (self.new ≡ self.old) }
+        ensures reads { OnlyReads S.characters S.failures S.honest S.same_ground source.old source.new }
+        ensures cause { CountsFault result (S.failures source.old) (S.failures source.new) }
+    {
+        let above = lines_above(text, self.org, p, source)?;
+        self.org = org_among(self.org, &above, h, p);
+        Ok(())
+    }
+}
+
+// Where a frame begins behind a change of its text.
+fn org_behind<S: CharSource>(
+    org: u32,
+    text: &Text,
+    p: u32,
+    inserted: u32,
+    deleted: u32,
+    source: &mut S,
+) -> Result<u32, Fault>
+    requires one { (inserted ≡ 0) ⊎ (deleted ≡ 0) }
+    requires place { p + inserted ≤ length (flat text.now) }
+    requires org { org + inserted ≤ length (flat text.now) + deleted }
+    requires offsets { AreWithin (length (S.characters source.old)) (flat text.now) }
+    ensures exact { IfOk result (λ new. S.honest source.old
+        → new ≡ changed_org (bytes (S.characters source.old) (flat text.now)) p inserted deleted org) }
+    ensures range { IfOk result (λ new. new ≤ length (flat text.now)) }
+    ensures reads { OnlyReads S.characters S.failures S.honest S.same_ground source.old source.new }
+    ensures cause { CountsFault result (S.failures source.old) (S.failures source.new) }
+{
+    if org <= p {
+        return Ok(org);
+    }
+    let len = text.len();
+    let place = place_behind(org, p, inserted, deleted, len);
+    let start = line_start(text, place, source)?;
+    Ok(start)
+}
+
+// Where the character at org stands behind a change, or p where it was deleted. The text has `len` characters then.
+fn place_behind(org: u32, p: u32, inserted: u32, deleted: u32, len: u32) -> u32
+    requires one { (inserted ≡ 0) ⊎ (deleted ≡ 0) }
+    requires behind { p < org }
+    requires place { p + inserted ≤ len }
+    requires org { org + inserted ≤ len + deleted }
+    ensures place { result ≡ moved p inserted deleted org }
+    ensures within { result ≤ len }
+{
+    if deleted == 0 {
+        org + inserted
+    } else if org - p < deleted {
+        p
+    } else {
+        org - deleted
+    }
+}
+
+// Where a frame begins so that a position is seen above which these lines stand.
+fn org_among(org: u32, above: &LinesAbove, h: u8, p: u32) -> u32
+    requires { h ≤ 31 }
+    ensures { result ≡ (if nat_le org p && nat_lt above.now.ends h then org else slice_index above.now.starts (h / 2)) }
+{
+    if org <= p && above.ends < h as u32 {
+        org
+    } else {
+        above.starts[h as usize / 2]
+    }
+}
