@@ -18,7 +18,7 @@ put_in_front (y ∷ ys) x h =
     ap (λ l. set l 0 x) whole
 
 module _ (bs : List ℕ) (at byte : ℕ) (there : slice_get bs at ≡ Some byte) where
-  next_start : line_start bs (at + 1) ≡ cond (is_return byte) (at + 1) (line_start bs at)
+  pub next_start : line_start bs (at + 1) ≡ cond (is_return byte) (at + 1) (line_start bs at)
   next_start = sym (start_next bs at (line_start bs at) (is_return byte) (sym (ap ends_line there)) refl)
 
   above_kept : (k p q : ℕ) → line_start bs p ≡ line_start bs q → line_above bs k p ≡ line_above bs k q
@@ -53,6 +53,9 @@ range_next true at starts are zero = let le : at + 1 ≤ at + 1 = omega arith in
 range_next true at starts are (suc k) = let le = take_bound at starts are k in omega (arith, le)
 range_next false at starts are k = let le = are k in omega (arith, le)
 
+pub ends_before : (bs : List ℕ) (org q : ℕ) → q ≤ org → ends_between bs org q ≡ 0
+ends_before bs org q h = ap (λ k. count_by is_return (take k (drop org bs))) (let e : q - org ≡ 0 = omega (arith, h) in e)
+
 -- how many lines end
 module _ (bs : List ℕ) (org at byte : ℕ) (there : slice_get bs at ≡ Some byte) where
   one_more : (b : Bool) (i : ℕ) → is_return byte ≡ b → i + org ≡ at
@@ -66,22 +69,19 @@ module _ (bs : List ℕ) (org at byte : ℕ) (there : slice_get bs at ≡ Some b
       sym (count_by_more_no is_return (drop org bs) i byte (omega (arith, within, e, length-drop org bs))
       (ap is_return (get_or-drop org bs i byte ∙ ap (λ k. get_or bs k byte) (let o : org + i ≡ at = omega (arith, e) in o) ∙ get_or_from_slice_get bs at byte byte there) ∙ is))
 
-  ends_within : org ≤ at → cond (is_return byte) (ends_between bs org at + 1) (ends_between bs org at) ≡ ends_between bs org (at + 1)
+  pub ends_within : org ≤ at → cond (is_return byte) (ends_between bs org at + 1) (ends_between bs org at) ≡ ends_between bs org (at + 1)
   ends_within h = one_more (is_return byte) (at - org) refl (omega (arith, h))
       ∙ ap (λ k. count_by is_return (take k (drop org bs))) (let e : at - org + 1 ≡ at + 1 - org = omega (arith, h) in e)
-
-  ends_before : (q : ℕ) → q ≤ org → ends_between bs org q ≡ 0
-  ends_before q h = ap (λ k. count_by is_return (take k (drop org bs))) (let e : q - org ≡ 0 = omega (arith, h) in e)
 
   ends_by : (b : Bool) → is_return byte ≡ b → cond (b && nat_le org at) (ends_between bs org at + 1) (ends_between bs org at) ≡ ends_between bs org (at + 1)
   ends_by true is = elim (leb_tells org at) [
     | inl within ↦ ap (λ c. cond c (ends_between bs org at + 1) (ends_between bs org at)) (within.0 ∙ sym is) ∙ ends_within within.1
     | inr before ↦ ap (λ c. cond c (ends_between bs org at + 1) (ends_between bs org at)) before.0
-        ∙ ends_before at (let le : at ≤ org = omega (arith, before.1) in le) ∙ sym (ends_before (at + 1) (let le : at + 1 ≤ org = omega (arith, before.1) in le))
+        ∙ ends_before bs org at (let le : at ≤ org = omega (arith, before.1) in le) ∙ sym (ends_before bs org (at + 1) (let le : at + 1 ≤ org = omega (arith, before.1) in le))
   ]
   ends_by false is = elim (leb_tells org at) [
     | inl within ↦ ap (λ c. cond c (ends_between bs org at + 1) (ends_between bs org at)) (sym is) ∙ ends_within within.1
-    | inr before ↦ ends_before at (let le : at ≤ org = omega (arith, before.1) in le) ∙ sym (ends_before (at + 1) (let le : at + 1 ≤ org = omega (arith, before.1) in le))
+    | inr before ↦ ends_before bs org at (let le : at ≤ org = omega (arith, before.1) in le) ∙ sym (ends_before bs org (at + 1) (let le : at + 1 ≤ org = omega (arith, before.1) in le))
   ]
 
   pub ends_next : (n : ℕ) → n ≡ ends_between bs org at → cond (is_return byte && nat_le org at) (n + 1) n ≡ ends_between bs org (at + 1)

@@ -1,3 +1,4 @@
 pub mod Above
 pub mod Greatest
+pub mod Placing
 pub mod Walking

@@ -1,13 +1,15 @@
 //! A frame, and the rules by which it follows its text.
-ghost use Rattle.std.specs.Prelude.{◌≡◌, ◌⊎◌, ◌+◌, ◌/◌, ◌^◌, ◌<◌, ◌≤◌, ◌==◌, ◌&&◌, nat_le, nat_lt, Some, length, slice_index, IfOk, OnOk, OnErr, if◌then◌else◌};
+ghost use Rattle.std.specs.Prelude.{◌≡◌, ◌⊎◌, ◌+◌, ◌/◌, ◌^◌, ◌<◌, ◌≤◌, ◌==◌, ◌&&◌, nat_le, nat_lt, Some, length, slice_index, IfOk, IfSome, OnOk, OnErr, if◌then◌else◌};
 ghost use Rattle.sector_disk.specs.Trail.{CountsFault};
 ghost use Rattle.char_file.specs.Source.{OnlyReads};
 ghost use Rattle.piece_ring.specs.Flat.{flat};
 ghost use Rattle.piece_ring.specs.Offsets.{AreWithin};
 ghost use Rattle.readers_scanners.specs.Reading.{bytes};
+ghost use Rattle.text_frames.specs.Cells.{position_at, cell_of};
 ghost use Rattle.text_frames.specs.Rules.{with_org, cleared, moved, changed_org, changed, shown};
 
 use crate::lines::{LinesAbove, line_start, lines_above};
+use crate::place::{self, place_of};
 use crate::{CharSource, Fault, Text};
 
 /// The characters from `beg` up to before `end`, with the rank of the selection among all.
@@ -110,6 +112,61 @@ impl Frame {
         let above = lines_above(text, self.org, p, source)?;
         self.org = org_among(self.org, &above, h, p);
         Ok(())
+    }
+
+    /// The position at the cell of the column `col` and the row `row`, counted from 0, in a frame of `h` rows of `w` columns: of the character
+    /// whose cells hold the column; past the last character of a line the line's end; in a row without a line the text's end. A column
+    /// past the frame's is one of the line all the same. `Fault`: the source failed in this call.
+    pub fn pos_at<S: CharSource>(
+        &self,
+        text: &Text,
+        w: u8,
+        h: u8,
+        col: u8,
+        row: u8,
+        source: &mut S,
+    ) -> Result<u32, Fault>
+        requires columns { w ≤ 50 }
+        requires rows { h ≤ 31 }
+        requires row { row < h }
+        requires org { self.now.org ≤ length (flat text.now) }
+        requires offsets { AreWithin (length (S.characters source.old)) (flat text.now) }
+        ensures position { IfOk result (λ pos. S.honest source.old
+            → pos ≡ position_at (bytes (S.characters source.old) (flat text.now)) self.now.org col row) }
+        ensures from { IfOk result (λ pos. self.now.org ≤ pos) }
+        ensures within { IfOk result (λ pos. pos ≤ length (flat text.now)) }
+        ensures reads { OnlyReads S.characters S.failures S.honest S.same_ground source.old source.new }
+        ensures cause { CountsFault result (S.failures source.old) (S.failures source.new) }
+    {
+        place::position_at(text, self.org, col, row, source)
+    }
+
+    /// The column and the row in which the character at `p` begins, or would begin that is put in there; None where it isn't shown in `h`
+    /// rows of `w` columns. `Fault`: the source failed in this call.
+    pub fn cell_of<S: CharSource>(
+        &self,
+        text: &Text,
+        w: u8,
+        h: u8,
+        p: u32,
+        source: &mut S,
+    ) -> Result<Option<(u8, u8)>, Fault>
+        requires columns { w ≤ 50 }
+        requires rows { h ≤ 31 }
+        requires place { p ≤ length (flat text.now) }
+        requires offsets { AreWithin (length (S.characters source.old)) (flat text.now) }
+        ensures cell { IfOk result (λ cell. S.honest source.old
+            → cell ≡ cell_of w h (bytes (S.characters source.old) (flat text.now)) self.now.org p) }
+        ensures inside { IfOk result (λ cell. IfSome cell (λ c. (c.0 < w) × (c.1 < h))) }
+        ensures below { IfOk result (λ cell. IfSome cell (λ c. self.now.org ≤ p)) }
+        ensures reads { OnlyReads S.characters S.failures S.honest S.same_ground source.old source.new }
+        ensures cause { CountsFault result (S.failures source.old) (S.failures source.new) }
+    {
+        if p < self.org {
+            return Ok(None);
+        }
+        let place = place_of(text, self.org, p, source)?;
+        Ok(place.shown(w, h))
     }
 }
 

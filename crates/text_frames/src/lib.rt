@@ -9,6 +9,7 @@
 mod frame;
 mod laws;
 mod lines;
+mod place;
 
 pub use char_file::{CharSource, Fault};
 pub use frame::{Frame, Selection};

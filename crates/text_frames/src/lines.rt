@@ -10,7 +10,7 @@ ghost use Rattle.text_frames.specs.Lines.{is_return, line_start, line_above, end
 use crate::{CharSource, Fault, Text};
 use readers_scanners::Reader;
 
-const CARRIAGE_RETURN: u8 = 13;
+pub(crate) const CARRIAGE_RETURN: u8 = 13;
 
 /// The byte before which the reader stands; it stands behind it then. `Fault`: the source failed in this call.
 pub(crate) fn next_byte<S: CharSource>(reader: &mut Reader<'_>, source: &mut S) -> Result<u8, Fault>
