@@ -6,3 +6,4 @@ pub mod Longest
 pub mod OneSymbol
 pub mod Running
 pub mod Upcoming
+pub mod WorkedOut

@@ -105,7 +105,7 @@ open_longest inside rest all stops unquoted = longest_front (quote ∷ inside) r
 
 -- ---- other bytes
 
-lone : (b : ℕ) (v : List ℕ) → is_letter b ≡ false → is_digit b ≡ false → (b == quote) ≡ false → ((b == minus) && begins is_digit v) ≡ false → form (b ∷ v) ≡ None
+pub lone : (b : ℕ) (v : List ℕ) → is_letter b ≡ false → is_digit b ≡ false → (b == quote) ≡ false → ((b == minus) && begins is_digit v) ≡ false → form (b ∷ v) ≡ None
 unfolding form
 lone b v l d q m = rw (l, d, q, m)
 

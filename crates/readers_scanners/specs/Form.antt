@@ -1,10 +1,10 @@
--- The form of a stretch, worked out: which symbol it is, if it is one.
-use Rattle.std.specs.Prelude.{ℕ, ◌-◌, Bool, true, false, ◌&&◌, ◌==◌, nat_le, if◌then◌else◌, List, [], ◌∷◌, length, take, Option, Some, None}
-use Rattle.std.specs.List.{list_all}
+-- The symbol at a position, worked out: by the form of a stretch, and then the longest that has one.
+use Rattle.std.specs.Prelude.{ℕ, zero, suc, ◌≡◌, ◌+◌, ◌-◌, ◌≤◌, ◌↔◌, Bool, true, false, ◌&&◌, ◌==◌, nat_le, if◌then◌else◌, List, [], ◌∷◌, length, take, drop, Option, Some, None, unwrap_or}
+use Rattle.std.specs.List.{list_all, prefix_len}
 use Rattle.readers_scanners.specs.declared.symbol.Symbol.{Symbol}
-use Rattle.readers_scanners.specs.declared.symbol.Symbol.TheVariants.{Name, Str, Int, Invalid}
-use Rattle.readers_scanners.specs.Bytes.{quote, minus, is_letter, is_digit, is_word_byte, is_inside, begins, number_of}
-use Rattle.readers_scanners.specs.Symbol.{kept, value, greatest_size}
+use Rattle.readers_scanners.specs.declared.symbol.Symbol.TheVariants.{Name, Str, Int, Special, Invalid, End}
+use Rattle.readers_scanners.specs.Bytes.{quote, minus, is_blank, is_letter, is_digit, is_word_byte, is_inside, begins, number_of}
+use Rattle.readers_scanners.specs.Symbol.{kept, value, greatest_size, IsSymbol}
 
 -- what may stand inside, and then one quote
 abbrev pub closes : List ℕ → Bool
@@ -35,3 +35,27 @@ form (b ∷ bs) =
     (if is_digit b then number_form false (b ∷ bs) else
     (if b == quote then quote_form bs else
     (if (b == minus) && begins is_digit bs then number_form true bs else None)))
+
+-- of the fronts of at most n bytes the longest with a form: its symbol and its size
+abbrev pub longest_form : List ℕ → ℕ → Option (Symbol × ℕ)
+longest_form bs zero = None
+longest_form bs (suc n) = elim (form (take (suc n) bs)) [ Some s ↦ Some (s, suc n) | None ↦ longest_form bs n ]
+
+-- the symbol that the bytes begin with, and its size
+abbrev pub first_symbol : List ℕ → Symbol × ℕ
+first_symbol [] = (End, 0)
+first_symbol (b ∷ bs) = unwrap_or (longest_form (b ∷ bs) (length (b ∷ bs))) (Special b, 1)
+
+-- where the blanks from a position on end
+abbrev pub behind_blanks : List ℕ → ℕ → ℕ
+behind_blanks bs p = p + prefix_len is_blank (drop p bs)
+
+-- the symbol at a position, behind blanks, and where it ends
+unfoldable pub symbol : List ℕ → ℕ → Symbol × ℕ
+symbol bs p =
+    let start = behind_blanks bs p in let found = first_symbol (drop start bs) in
+    (found.0, start + found.1)
+
+-- it is the symbol there
+abbrev pub SymbolWorkedOut : Type 0
+SymbolWorkedOut = (bytes : List ℕ) (p : ℕ) (s : Symbol) (q : ℕ) → p ≤ length bytes → (symbol bytes p ≡ (s, q)) ↔ IsSymbol bytes p s q

@@ -12,7 +12,7 @@ mod symbol;
 mod tests;
 
 pub use char_file::{CharSource, Fault};
-pub use laws::one_symbol;
+pub use laws::{one_symbol, symbol_worked_out};
 pub use piece_ring::Look;
 pub use reader::Reader;
 pub use scanner::Scanner;

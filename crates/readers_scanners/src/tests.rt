@@ -3,7 +3,9 @@ ghost use Rattle.std.specs.Prelude.{◌≡◌, ◌+◌, length, IfOk};
 ghost use Rattle.piece_ring.specs.Flat.{flat, IsWhole};
 ghost use Rattle.piece_ring.specs.Offsets.{AreWithin};
 
-use crate::{CharSource, Fault, Look, Reader, Scanner, Symbol, Text, one_symbol};
+use crate::{
+    CharSource, Fault, Look, Reader, Scanner, Symbol, Text, one_symbol, symbol_worked_out,
+};
 use char_file::{CharFile, NoMemory};
 use std::alloc::Global;
 use std::process::Abort;
@@ -192,6 +194,7 @@ fn kinds(rt: HostRuntime) -> Result<(), Fail> {
     expect(&rt, alloc, b" \t\r", b".")?;
     expect(&rt, alloc, b"-", b"'- .")?;
     one_symbol();
+    symbol_worked_out();
     Ok(())
 }
 
