@@ -80,8 +80,8 @@ impl Frame {
         if inserted == 0 && deleted == 0 {
             return Ok(());
         }
-        let org = org_behind(self.org, text, p, inserted, deleted, source)?;
-        self.org = org;
+        let followed = org_behind(self.org, text, p, inserted, deleted, source)?;
+        self.org = followed;
         self.caret = None;
         self.selection = None;
         Ok(())

@@ -16,3 +16,6 @@ pub use frame::{Frame, Selection};
 pub use laws::{starts_are_greatest, starts_are_starts};
 pub use lines::line_start;
 pub use text_core::Text;
+
+#[cfg(test)]
+mod tests;
