@@ -11,7 +11,7 @@ use Rattle.oberon_main.specs.declared.line.Line.{Line}
 use Rattle.oberon_main.specs.Script.{ended, IsLine, IsSplit, lines_at_end, BeginsWith}
 use Rattle.oberon_main.specs.Reading.{Holds, Unplayed, TakesLine, TakesRest}
 use Rattle.oberon_main.specs.Request.{request_of}
-use Rattle.oberon_main.specs.Sent.{AppendsFront}
+use Rattle.screen_cells.specs.Sent.{AppendsFront}
 use Rattle.oberon_main.specs.Session.{Session, answer, after, out, after_all}
 use Rattle.oberon_main.specs.Play.{IsPlayed, IsStopped, IsCutOff, IsHalted, EndsAs, last_word, IsAnswered, LineEndsAs, IsLastAnswered, IsLastStopped, RestEndsAs}
 use Rattle.oberon_main.proofs.Splitting.{some_split}

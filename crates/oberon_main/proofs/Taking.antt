@@ -4,7 +4,7 @@ use Rattle.std.specs.List.{between}
 use Rattle.std.proofs.lemmas.Slice.{between_to_end}
 use Rattle.std.specs.Io.KnownBytes.{Appends, Keeps}
 use Rattle.std.proofs.KnownBytes.{Appends-nil, Appends-trans, Appends-kept}
-use Rattle.oberon_main.specs.Sent.{AppendsFront}
+use Rattle.screen_cells.specs.Sent.{AppendsFront}
 
 -- What a writer has taken of a text of which this rest is left.
 pub record HasTaken (old new : Option (List ℕ)) (text rest : List ℕ) : Type 0 where

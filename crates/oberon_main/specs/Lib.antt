@@ -5,7 +5,6 @@ pub mod Answer
 pub mod Stretch
 pub mod Session
 pub mod Opened
-pub mod Sent
 pub mod Play
 pub mod Worked
 pub mod Report

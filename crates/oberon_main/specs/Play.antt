@@ -9,7 +9,7 @@ use Rattle.oberon_main.specs.declared.request.Request.{Request}
 use Rattle.oberon_main.specs.declared.request.Request.TheVariants.{Malformed}
 use Rattle.oberon_main.specs.Request.{request_of}
 use Rattle.oberon_main.specs.Session.{Session, answer, after, out, after_all}
-use Rattle.oberon_main.specs.Sent.{AppendsFront}
+use Rattle.screen_cells.specs.Sent.{AppendsFront}
 
 -- what stands behind the last answer
 abbrev pub last_word : PlayEnd → List ℕ

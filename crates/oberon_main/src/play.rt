@@ -2,7 +2,7 @@
 ghost use Rattle.std.specs.Prelude.{◌≡◌, ◌<◌, ◌↔◌, ◌⊎◌, ℕ, List, [], false, OnOk, OnErr, IsOk, IfErr, IsErrOf, IfSome};
 ghost use Rattle.std.specs.Io.KnownBytes.{Appends, Keeps};
 ghost use Rattle.oberon_main.specs.declared.play.PlayEnd.TheVariants as ends;
-ghost use Rattle.oberon_main.specs.Sent.{AppendsFront};
+ghost use Rattle.screen_cells.specs.Sent.{AppendsFront};
 ghost use Rattle.oberon_main.specs.Request.{request_of};
 ghost use Rattle.oberon_main.specs.Reading.{Holds};
 ghost use Rattle.oberon_main.specs.Session.{answer, after};

@@ -2,7 +2,7 @@
 ghost use Rattle.std.specs.Prelude.{◌≡◌, ◌⊎◌, ◌++◌, false, OnOk, OnErr};
 ghost use Rattle.std.specs.Io.KnownBytes.{Appends};
 ghost use Rattle.oberon_main.specs.declared.play.PlayEnd.TheVariants as ends;
-ghost use Rattle.oberon_main.specs.Sent.{AppendsFront};
+ghost use Rattle.screen_cells.specs.Sent.{AppendsFront};
 ghost use Rattle.oberon_main.specs.Report.{check_line, refusal_line, refusal_status, end_status};
 
 use crate::answer::{ShortLine, decimal_digits, numbered_line, short_line};

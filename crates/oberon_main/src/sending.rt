@@ -1,7 +1,7 @@
 //! Writing an answer.
 ghost use Rattle.std.specs.Prelude.{◌≡◌, ◌<◌, ◌≤◌, length, take, OnOk, OnErr, IfOk};
 ghost use Rattle.std.specs.Io.KnownBytes.{Appends, Keeps};
-ghost use Rattle.oberon_main.specs.Sent.{AppendsFront};
+ghost use Rattle.screen_cells.specs.Sent.{AppendsFront};
 
 use std::io::Write;
 
