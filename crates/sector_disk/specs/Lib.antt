@@ -6,3 +6,4 @@ pub mod File
 pub mod Blocked
 pub mod Fuse
 pub mod OneFault
+pub mod Faults
