@@ -1,10 +1,10 @@
 //! The text.
 ghost use Rattle.std.specs.Prelude.{◌≡◌, ◌+◌, ◌^◌, ◌<◌, ◌≤◌, ◌++◌, [], length, drop, IfOk, OnOk, OnErr};
-ghost use Rattle.piece_ring.specs.Flat.{flat};
+ghost use Rattle.piece_ring.specs.Flat.{flat, run};
 ghost use Rattle.piece_ring.specs.Text.{stretch, inserted, deleted, looks_changed};
 ghost use Rattle.text_core.specs.Attributes.{look_at};
 
-use crate::{Buffer, Cursor, DEFAULT_LOOK, Look, NoMemory};
+use crate::{Buffer, Cursor, DEFAULT_LOOK, Look, NoMemory, Piece};
 use piece_ring::Ring;
 use std::alloc::Global;
 use std::marker::Model;
@@ -33,6 +33,26 @@ impl Text {
         Ok(Text {
             ring: Ring::new(alloc)?,
         })
+    }
+
+    /// A text of `count` characters in one look, which stand together in the file from the offset
+    /// `first` on.
+    pub fn of_run(alloc: Global, first: u32, count: u32, look: Look) -> Result<Text, NoMemory>
+        requires { first + count < 2 ^ 32 }
+        ensures { IfOk result (λ text. flat text ≡ run first count look) }
+    {
+        let mut ring = Ring::new(alloc)?;
+        if count > 0 {
+            ring.add(
+                alloc,
+                Piece {
+                    off: first,
+                    len: count,
+                    look,
+                },
+            )?;
+        }
+        Ok(Text { ring })
     }
 
     /// The number of characters.
