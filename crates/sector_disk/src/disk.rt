@@ -7,6 +7,9 @@ ghost use Rattle.sector_disk.specs.Confined.{IsConfined};
 #[derive(Clone, Copy, Debug, PartialEq, Eq)]
 pub struct Fault;
 
+/// The bytes of a sector.
+pub type Sector = [u8; 1024];
+
 /// Sectors of 1,024 bytes, numbered from 0.
 ///
 /// What a call promises of contents stands under `honest`. What holds of every disk stands under nothing: how large
@@ -29,14 +32,14 @@ pub trait Disk {
         ensures { result ≡ size self.now };
 
     /// Copies sector `n` to the buffer. After a `Fault` the buffer may hold anything.
-    fn read(&mut self, n: u32, buffer: &mut [u8; 1024]) -> Result<(), Fault>
+    fn read(&mut self, n: u32, buffer: &mut Sector) -> Result<(), Fault>
         requires { n < size self.old }
         ensures kept { IsConfined size honest trail Nowhere self.old self.new }
         ensures cause { CountsFault result (failures self.old) (failures self.new) }
         ensures bytes { OnOk result (honest self.old → buffer.new ≡ (now (trail self.old)).reads n) };
 
     /// Writes sector `n`, which is pending until the next sync. After a `Fault` that sector may read as anything.
-    fn write(&mut self, n: u32, bytes: &[u8; 1024]) -> Result<(), Fault>
+    fn write(&mut self, n: u32, bytes: &Sector) -> Result<(), Fault>
         requires { n < size self.old }
         ensures kept { IsConfined size honest trail (Only n) self.old self.new }
         ensures cause { CountsFault result (failures self.old) (failures self.new) }

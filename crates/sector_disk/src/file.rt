@@ -4,13 +4,14 @@ ghost use Rattle.sector_disk.specs.Trail.{CountsFault};
 ghost use Rattle.sector_disk.specs.File.{unknown};
 
 use crate::count::FaultCount;
-use crate::{Disk, Fault};
+use crate::{Disk, Fault, Sector};
 use std::fs::{File, OpenOptions};
 use std::io::ErrorKind;
 use std::marker::Model;
 use std::os::unix::fs::FileExt;
 
-const SECTORS: u32 = 15_621;
+/// The number of sectors of every `FileDisk`.
+pub const FILE_SECTORS: u32 = 15_621;
 
 /// A disk of 15,621 sectors in a file. Sector `n` is the 1,024 bytes from byte 1,024 `n` on, and zeros where the file
 /// is shorter.
@@ -46,7 +47,7 @@ impl FileDisk {
         let Ok(file) = opened else {
             return Err(Fault);
         };
-        for n in 0..SECTORS {
+        for n in 0..FILE_SECTORS {
             if !write_sector(&file, n, &[0; 1024]) {
                 return Err(Fault);
             }
@@ -83,7 +84,7 @@ fn told(done: bool, failed: &mut FaultCount) -> Result<(), Fault>
 }
 
 // Reads a sector, and zeros from the file's end on. False where the host refused.
-fn read_sector(file: &File, n: u32, buffer: &mut [u8; 1024]) -> bool {
+fn read_sector(file: &File, n: u32, buffer: &mut Sector) -> bool {
     *buffer = [0; 1024];
     let mut filled = 0;
     for _ in 0..u64::MAX {
@@ -101,12 +102,14 @@ fn read_sector(file: &File, n: u32, buffer: &mut [u8; 1024]) -> bool {
 }
 
 // Writes a sector whole. False where the host refused.
-fn write_sector(file: &File, n: u32, bytes: &[u8; 1024]) -> bool {
+fn write_sector(file: &File, n: u32, bytes: &Sector) -> bool {
     file.write_all_at(bytes, 1024 * n as u64).is_ok()
 }
 
 impl Disk for FileDisk {
-    ghost size = { λ _. 15621 };
+    ghost use Rattle.sector_disk.specs.declared.file.TheConstants.{FILE_SECTORS};
+
+    ghost size = { λ _. FILE_SECTORS };
 
     ghost trail = { λ _. unknown };
 
@@ -115,15 +118,15 @@ impl Disk for FileDisk {
     ghost honest = { λ _. ⊥ };
 
     fn sectors(&self) -> u32 {
-        SECTORS
+        FILE_SECTORS
     }
 
-    fn read(&mut self, n: u32, buffer: &mut [u8; 1024]) -> Result<(), Fault> {
+    fn read(&mut self, n: u32, buffer: &mut Sector) -> Result<(), Fault> {
         let done = read_sector(&self.file, n, buffer);
         told(done, &mut self.failed)
     }
 
-    fn write(&mut self, n: u32, bytes: &[u8; 1024]) -> Result<(), Fault> {
+    fn write(&mut self, n: u32, bytes: &Sector) -> Result<(), Fault> {
         let done = write_sector(&self.file, n, bytes);
         told(done, &mut self.failed)
     }

@@ -9,9 +9,9 @@ ghost use Rattle.sector_disk.specs.Trail.{now};
 ghost use Rattle.sector_disk.specs.Memory.{trail_of, HeldAtSync, crashed};
 ghost use Rattle.sector_disk.specs.Index.{bytes_at};
 
-use crate::NoMemory;
 use crate::call::Call;
 use crate::index::{Index, Writes};
+use crate::{NoMemory, Sector};
 use std::alloc::Global;
 use std::collections::BTreeMap;
 use std::marker::Model;
@@ -48,7 +48,7 @@ impl History {
         }
     }
 
-    pub(crate) fn write(&mut self, n: u32, bytes: &[u8; 1024]) -> Result<(), NoMemory>
+    pub(crate) fn write(&mut self, n: u32, bytes: &Sector) -> Result<(), NoMemory>
         ensures recorded { OnOk result (self.new ≡ self.old ++ Call.Write n bytes.now ∷ []) }
         ensures refused { OnErr result (self.new ≡ self.old) }
     {
@@ -74,14 +74,14 @@ impl History {
     }
 
     // The bytes of sector `n` as they were written last.
-    pub(crate) fn latest(&self, n: u32, buffer: &mut [u8; 1024])
+    pub(crate) fn latest(&self, n: u32, buffer: &mut Sector)
         ensures { buffer.new ≡ (now (trail_of self.now)).reads n }
     {
         copy(&self.calls, self.index.latest(n), buffer);
     }
 
     // The bytes that sector `n` had at the last sync.
-    pub(crate) fn settled(&self, n: u32, buffer: &mut [u8; 1024])
+    pub(crate) fn settled(&self, n: u32, buffer: &mut Sector)
         ensures { HeldAtSync (trail_of self.now) n buffer.new }
     {
         copy(&self.calls, self.index.settled(n), buffer);
@@ -120,11 +120,7 @@ impl History {
     }
 
     // Writes to `image` what the pairs give for the sectors that are pending here.
-    pub(crate) fn spoil(
-        &self,
-        pairs: &[(u32, [u8; 1024])],
-        image: &mut History,
-    ) -> Result<(), NoMemory>
+    pub(crate) fn spoil(&self, pairs: &[(u32, Sector)], image: &mut History) -> Result<(), NoMemory>
         requires { (n : ℕ) → (now (trail_of image.old)).reads n ≡ (now (trail_of self.now)).reads n }
         ensures { OnOk result ((n : ℕ) → (now (trail_of image.new)).reads n ≡ crashed (now (trail_of self.now)) pairs.now n) }
     {
@@ -139,7 +135,7 @@ impl History {
 
 // The bytes that the call at a place wrote, or zeros where there is no place.
 #[tactic(auto, unfolding(crate::specs::Memory::zeros))]
-fn copy(calls: &[Call], place: Option<usize>, buffer: &mut [u8; 1024])
+fn copy(calls: &[Call], place: Option<usize>, buffer: &mut Sector)
     requires { IfSome place (λ i. i < length calls.now) }
     ensures { buffer.new ≡ bytes_at calls.now place }
 {

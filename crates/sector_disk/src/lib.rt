@@ -18,8 +18,8 @@ mod one_fault;
 mod tests;
 
 pub use call::Call;
-pub use disk::{Disk, Fault};
-pub use file::FileDisk;
+pub use disk::{Disk, Fault, Sector};
+pub use file::{FILE_SECTORS, FileDisk};
 pub use fuse::Fuse;
 pub use memory::MemoryDisk;
 pub use one_fault::OneFault;

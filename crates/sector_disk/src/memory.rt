@@ -13,7 +13,7 @@ ghost use Rattle.sector_disk.specs.Memory.{trail_of, HeldAtSync, crashed};
 use crate::call::Call;
 use crate::count::FaultCount;
 use crate::history::History;
-use crate::{Disk, Fault, NoMemory};
+use crate::{Disk, Fault, NoMemory, Sector};
 use std::alloc::Global;
 use std::marker::Model;
 
@@ -50,7 +50,7 @@ impl MemoryDisk {
     }
 
     /// Copies sector `n` to the buffer as it was at the last sync.
-    pub fn synced(&self, n: u32, buffer: &mut [u8; 1024])
+    pub fn synced(&self, n: u32, buffer: &mut Sector)
         requires { n < self.now.size }
         ensures { HeldAtSync (trail_of self.now.calls) n buffer.new }
     {
@@ -77,11 +77,7 @@ impl MemoryDisk {
     /// gives, and each other sector, as one that no pair names, what a read of it gives. A pair for a sector that
     /// isn't pending is ignored. The new disk has nothing pending and no failures. `NoMemory` where there is no room
     /// for it.
-    pub fn crash(
-        &self,
-        alloc: Global,
-        sectors: &[(u32, [u8; 1024])],
-    ) -> Result<MemoryDisk, NoMemory>
+    pub fn crash(&self, alloc: Global, sectors: &[(u32, Sector)]) -> Result<MemoryDisk, NoMemory>
         ensures size { IfOk result (λ d. d.size ≡ self.now.size) }
         ensures failures { IfOk result (λ d. d.failures ≡ 0) }
         ensures reads { IfOk result (λ d. (now (trail_of d.calls)).reads ≡ crashed (now (trail_of self.now.calls)) sectors.now) }
@@ -124,7 +120,7 @@ impl Disk for MemoryDisk {
     }
 
     /// Copies sector `n` to the buffer. It never fails.
-    fn read(&mut self, n: u32, buffer: &mut [u8; 1024]) -> Result<(), Fault>
+    fn read(&mut self, n: u32, buffer: &mut Sector) -> Result<(), Fault>
         requires { n < self.old.size }
         ensures done { IsOk result }
         ensures unchanged { self.new ≡ self.old }
@@ -135,7 +131,7 @@ impl Disk for MemoryDisk {
     }
 
     /// Records the write. Where no memory is left for it the call answers `Fault` and changes nothing.
-    fn write(&mut self, n: u32, bytes: &[u8; 1024]) -> Result<(), Fault>
+    fn write(&mut self, n: u32, bytes: &Sector) -> Result<(), Fault>
         requires { n < self.old.size }
         ensures size { self.new.size ≡ self.old.size }
         ensures cause { CountsFault result self.old.failures self.new.failures }

@@ -5,7 +5,7 @@ ghost use Rattle.sector_disk.specs.Trail.{now, Nowhere, Only, written, settled, 
 ghost use Rattle.sector_disk.specs.Confined.{IsConfined};
 
 use crate::count::FaultCount;
-use crate::{Disk, Fault};
+use crate::{Disk, Fault, Sector};
 
 /// A disk that fails one call, counted from 0, and passes all others on to the one beneath. Of `read`, `write` and
 /// `sync` each counts as a call. The call that fails doesn't reach the disk beneath.
@@ -77,7 +77,7 @@ impl<D: Disk> Disk for OneFault<D> {
         self.disk.sectors()
     }
 
-    fn read(&mut self, n: u32, buffer: &mut [u8; 1024]) -> Result<(), Fault>
+    fn read(&mut self, n: u32, buffer: &mut Sector) -> Result<(), Fault>
         requires { n < ⟦<Self as Disk>⟧.size self.old }
         ensures goes_on { GoesOn D.failures result self.old self.new }
 
@@ -90,7 +90,7 @@ impl<D: Disk> Disk for OneFault<D> {
         self.disk.read(n, buffer)
     }
 
-    fn write(&mut self, n: u32, bytes: &[u8; 1024]) -> Result<(), Fault>
+    fn write(&mut self, n: u32, bytes: &Sector) -> Result<(), Fault>
         requires { n < ⟦<Self as Disk>⟧.size self.old }
         ensures goes_on { GoesOn D.failures result self.old self.new }
 
