@@ -3,12 +3,15 @@ ghost use Rattle.std.specs.Prelude.{◌≡◌, Some, None, IsTrue, if◌then◌e
 ghost use Rattle.std.specs.List.{list_all};
 ghost use Rattle.event_bytes.specs.Bytes.{is_text_byte as text_byte, is_file_bytes as file_bytes};
 
+use crate::kinds::is_text_byte;
 use arrayvec::ArrayVec;
 use std::marker::Model;
 
+/// The most bytes that one event puts into a file.
 const MOST: usize = 900;
 
-/// The bytes that one event puts into a file, by this profile's rule: 0 to 900, each a tabulator (9), a carriage return (13) or from the space to the tilde (32 to 126).
+/// The bytes that one event puts into a file, by this profile's rule: 0 to 900, each a tabulator (9), a carriage
+/// return (13) or one from the space to the tilde (32 to 126).
 ///
 /// A clause sees the list of them.
 #[derive(Debug, PartialEq, Eq, Drop)]
@@ -50,20 +53,16 @@ impl FileBytes {
     }
 }
 
+/// Whether one event can put these bytes into a file.
 fn is_file_bytes(bytes: &[u8]) -> bool
     ensures { result ≡ file_bytes bytes.now }
 {
     bytes.len() <= MOST && are_text_bytes(bytes)
 }
 
+/// Whether each of the bytes may stand in a file.
 fn are_text_bytes(bytes: &[u8]) -> bool
     ensures { result ≡ list_all text_byte bytes.now }
 {
     bytes.iter().all(|byte| is_text_byte(*byte))
-}
-
-fn is_text_byte(byte: u8) -> bool
-    ensures { result ≡ text_byte byte }
-{
-    matches!(byte, 9 | 13 | 32..=126)
 }

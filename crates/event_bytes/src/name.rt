@@ -1,15 +1,18 @@
 //! Names of files.
 ghost use Rattle.std.specs.Prelude.{⊤, ◌≡◌, Ok, Some, None, IsTrue, if◌then◌else◌};
 ghost use Rattle.std.specs.List.{list_all};
-ghost use Rattle.event_bytes.specs.Bytes.{is_letter as letter, is_name_byte as name_byte, begins_with_letter as letter_first, is_name as names};
+ghost use Rattle.event_bytes.specs.Bytes.{begins, is_letter as letter, is_name_byte as name_byte, is_name as names};
 
+use crate::kinds::{is_letter, is_name_byte};
 use arrayvec::ArrayVec;
 use std::alloc::AllocError;
 use std::marker::Model;
 
+/// The most bytes of a name.
 const LONGEST: usize = 31;
 
-/// A file's name, by this profile's rule: a letter, and then letters, digits and periods, 1 to 31 bytes in all. A letter is A to Z or a to z.
+/// A file's name, by this profile's rule: a letter, and then letters, digits and periods, 1 to 31 bytes in all. A
+/// letter is A to Z or a to z.
 ///
 /// A clause sees the list of its bytes. Names are ordered byte by byte, a name before its longer ones.
 #[derive(Debug, PartialEq, Eq, PartialOrd, Ord, Drop)]
@@ -67,35 +70,26 @@ impl Name {
     }
 }
 
+/// Whether the bytes are a name.
 fn is_name(bytes: &[u8]) -> bool
     ensures { result ≡ names bytes.now }
 {
     bytes.len() <= LONGEST && begins_with_letter(bytes) && are_name_bytes(bytes)
 }
 
+/// Whether each of the bytes may stand in a name.
 fn are_name_bytes(bytes: &[u8]) -> bool
     ensures { result ≡ list_all name_byte bytes.now }
 {
     bytes.iter().all(|byte| is_name_byte(*byte))
 }
 
+/// Whether the first byte is a letter; not so where there is none.
 fn begins_with_letter(bytes: &[u8]) -> bool
-    ensures { result ≡ letter_first bytes.now }
+    ensures { result ≡ begins letter bytes.now }
 {
     match bytes.first() {
         None => false,
         Some(first) => is_letter(*first),
     }
-}
-
-fn is_letter(byte: u8) -> bool
-    ensures { result ≡ letter byte }
-{
-    byte.is_ascii_alphabetic()
-}
-
-fn is_name_byte(byte: u8) -> bool
-    ensures { result ≡ name_byte byte }
-{
-    byte.is_ascii_alphanumeric() || byte == b'.'
 }

@@ -145,6 +145,7 @@ fn byte_of(high: u8, low: u8) -> Option<u8>
     Some(16 * high + low)
 }
 
+#[tactic(auto, unfolding(event_bytes::specs::Bytes::is_digit))]
 fn digit(byte: u8) -> Option<u8>
     ensures value { result ≡ digit_value byte }
     ensures small { IfSome result (λ value. value < 16) }

@@ -4,34 +4,35 @@ use Rattle.std.specs.List.{list_all}
 use Rattle.std.proofs.Common.{refl, ap, ◌∙◌, arith}
 use Rattle.std.proofs.lemmas.Bool.Decides.{nat_tests}
 use Rattle.std.proofs.lemmas.List.Folds.{list_all-append}
-use Rattle.readers_scanners.specs.Bytes.{quote, minus, period, carriage_return, is_blank, is_letter, is_digit, is_word_byte, is_inside}
+use Rattle.event_bytes.specs.Bytes.{period, carriage_return, is_letter, is_digit, is_name_byte}
+use Rattle.readers_scanners.specs.Bytes.{quote, minus, is_blank, is_inside}
 
-pub letter_in_word : (b : ℕ) → is_letter b ≡ true → is_word_byte b ≡ true
-unfolding is_letter is_word_byte is_digit
+pub letter_in_word : (b : ℕ) → is_letter b ≡ true → is_name_byte b ≡ true
+unfolding is_letter is_name_byte is_digit
 letter_in_word b h = grind (arith, nat_tests)
 
 pub digit_no_letter : (b : ℕ) → is_digit b ≡ true → is_letter b ≡ false
 unfolding is_letter is_digit
 digit_no_letter b h = grind (arith, nat_tests)
 
-pub digit_in_word : (b : ℕ) → is_digit b ≡ true → is_word_byte b ≡ true
-unfolding is_letter is_word_byte is_digit
+pub digit_in_word : (b : ℕ) → is_digit b ≡ true → is_name_byte b ≡ true
+unfolding is_letter is_name_byte is_digit
 digit_in_word b h = grind (arith, nat_tests)
 
-pub no_word_no_digit : (b : ℕ) → is_word_byte b ≡ false → is_digit b ≡ false
-unfolding is_letter is_word_byte is_digit
+pub no_word_no_digit : (b : ℕ) → is_name_byte b ≡ false → is_digit b ≡ false
+unfolding is_letter is_name_byte is_digit
 no_word_no_digit b h = grind (arith, nat_tests)
 
 pub tail_no_digit : (b : ℕ) → (is_letter b || (b == period)) ≡ true → is_digit b ≡ false
 unfolding is_letter is_digit
 tail_no_digit b h = grind (arith, nat_tests)
 
-pub tail_in_word : (b : ℕ) → (is_letter b || (b == period)) ≡ true → is_word_byte b ≡ true
-unfolding is_letter is_word_byte is_digit
+pub tail_in_word : (b : ℕ) → (is_letter b || (b == period)) ≡ true → is_name_byte b ≡ true
+unfolding is_letter is_name_byte is_digit
 tail_in_word b h = grind (arith, nat_tests)
 
-pub word_tail : (b : ℕ) → is_word_byte b ≡ true → is_digit b ≡ false → (is_letter b || (b == period)) ≡ true
-unfolding is_letter is_word_byte is_digit
+pub word_tail : (b : ℕ) → is_name_byte b ≡ true → is_digit b ≡ false → (is_letter b || (b == period)) ≡ true
+unfolding is_letter is_name_byte is_digit
 word_tail b h g = grind (arith, nat_tests)
 
 pub quote_no_letter : is_letter quote ≡ false
@@ -80,8 +81,8 @@ weaker test other each [] h = refl
 weaker test other each (b ∷ bytes) h =
     let both = and_both (test b) (list_all test bytes) h in (λ k. each b both.0 k && weaker test other each bytes both.1 k)
 
-pub no_tail_no_word : (b : ℕ) → is_digit b ≡ false → (is_letter b || (b == period)) ≡ false → is_word_byte b ≡ false
-unfolding is_letter is_word_byte is_digit
+pub no_tail_no_word : (b : ℕ) → is_digit b ≡ false → (is_letter b || (b == period)) ≡ false → is_name_byte b ≡ false
+unfolding is_letter is_name_byte is_digit
 no_tail_no_word b h g = grind (arith, nat_tests)
 
 -- a minus stands for itself

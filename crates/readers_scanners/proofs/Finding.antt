@@ -8,7 +8,8 @@ use Rattle.std.proofs.lemmas.List.Sums.{AllPass-from_list_all}
 use Rattle.std.proofs.lemmas.Option.{get_or_from_slice_get}
 use Rattle.readers_scanners.specs.declared.symbol.Symbol.{Symbol}
 use Rattle.readers_scanners.specs.declared.symbol.Symbol.TheVariants.{Name, Str, Special, Invalid, End}
-use Rattle.readers_scanners.specs.Bytes.{quote, minus, period, is_blank, is_letter, is_digit, is_word_byte, is_inside, begins, AreDigits, number_of}
+use Rattle.event_bytes.specs.Bytes.{period, is_letter, is_digit, is_name_byte, begins}
+use Rattle.readers_scanners.specs.Bytes.{quote, minus, is_blank, is_inside, AreDigits, number_of}
 use Rattle.readers_scanners.specs.Form.{number_symbol}
 use Rattle.readers_scanners.specs.Passing.{PassesOne, StopsBefore, IsRun, Found}
 use Rattle.readers_scanners.specs.Symbol.{signed, greatest_size, Begins, end, IsPastBlanks, IsSymbol}
@@ -26,12 +27,12 @@ module _ (honest : Type 0) (h : honest) (bs : List ℕ) where
   stops_at test other q next stop fails b more e =
       let P : Option ℕ → Type 0 = λ o. IfSome o (λ x. other x ≡ false) in subst P (next_there test q next b more stop e) fails
 
-  pub name_found : (p q first : ℕ) (passed : List ℕ) (next : Option ℕ) (items : List ℕ) → is_letter first ≡ true → IsRun is_word_byte honest bs p q passed next → items ≡ take 31 (first ∷ passed)
+  pub name_found : (p q first : ℕ) (passed : List ℕ) (next : Option ℕ) (items : List ℕ) → is_letter first ≡ true → IsRun is_name_byte honest bs p q passed next → items ≡ take 31 (first ∷ passed)
       → Found (first ∷ []) bs p q (Name (record { items = items }))
   name_found p q first passed next items l run e = record {
     size = length (first ∷ passed);
     begins =
-        let all = name_longest first passed (drop q bs) l run.run.passes (stops_at is_word_byte is_word_byte q next run.stop run.stop.fails) in
+        let all = name_longest first passed (drop q bs) l run.run.passes (stops_at is_name_byte is_name_byte q next run.stop run.stop.fails) in
         let P : List ℕ → List ℕ → Type 0 = λ bytes kept. Begins bytes (Name (record { items = kept })) (length (first ∷ passed)) in
         subst (λ (l : List ℕ). P l items) (ap (λ l. first ∷ l) (sym (run.run.there h))) (subst (P ((first ∷ passed) ++ drop q bs)) (sym e) all);
     ends = omega (arith, run.run.moved);
@@ -77,12 +78,12 @@ module _ (honest : Type 0) (h : honest) (bs : List ℕ) where
   first_digits first passed d all = record { some = d; all = λ k. d k && all k }
 
   pub number_found : (negative : Bool) (p q first : ℕ) (passed : List ℕ) (next : Option ℕ) (size : ℕ) (symbol : Symbol) → is_digit first ≡ true → IsRun is_digit honest bs p q passed next
-      → IfSome next (λ b. is_word_byte b ≡ false) → size ≡ min (number_of (first ∷ passed)) 4294967295 → symbol ≡ number_symbol negative size
+      → IfSome next (λ b. is_name_byte b ≡ false) → size ≡ min (number_of (first ∷ passed)) 4294967295 → symbol ≡ number_symbol negative size
       → Found (signed negative (first ∷ [])) bs p q symbol
   number_found negative p q first passed next size symbol d run noword e is = record {
     size = length (signed negative (first ∷ passed));
     begins =
-        let all = number_longest negative (first ∷ passed) (drop q bs) (first_digits first passed d run.run.passes) (stops_at is_digit is_word_byte q next run.stop noword) in
+        let all = number_longest negative (first ∷ passed) (drop q bs) (first_digits first passed d run.run.passes) (stops_at is_digit is_name_byte q next run.stop noword) in
         let same : number_symbol negative (number_of (first ∷ passed)) ≡ symbol = sym (is ∙ (ap (number_symbol negative) e ∙ capped negative (number_of (first ∷ passed)))) in
         let P : List ℕ → Symbol → Type 0 = λ bytes s. Begins bytes s (length (signed negative (first ∷ passed))) in
         subst (λ (l : List ℕ). P l symbol) (sym (sign_first negative first p q passed (run.run.there h))) (subst (P (signed negative (first ∷ passed) ++ drop q bs)) same all);
@@ -104,12 +105,12 @@ module _ (honest : Type 0) (h : honest) (bs : List ℕ) where
     capped negative n = cases negative n (nat_le n (greatest_size negative)) refl
 
   pub broken_found : (negative : Bool) (p q r t first b : ℕ) (passed more : List ℕ) (next : Option ℕ) → is_digit first ≡ true → IsRun is_digit honest bs p q passed (Some b)
-      → (is_letter b || (b == period)) ≡ true → r ≡ q + 1 → IsRun is_word_byte honest bs r t more next → Found (signed negative (first ∷ [])) bs p t Invalid
+      → (is_letter b || (b == period)) ≡ true → r ≡ q + 1 → IsRun is_name_byte honest bs r t more next → Found (signed negative (first ∷ [])) bs p t Invalid
   broken_found negative p q r t first b passed more next d run tail moved rest = record {
     size = length (signed negative ((first ∷ passed) ++ b ∷ more));
     begins =
         let all = broken_longest negative (first ∷ passed) b more (drop t bs) (first_digits first passed d run.run.passes) tail rest.run.passes
-        (stops_at is_word_byte is_word_byte t next rest.stop rest.stop.fails) in
+        (stops_at is_name_byte is_name_byte t next rest.stop rest.stop.fails) in
         subst (λ (l : List ℕ). Begins l Invalid (length (signed negative (first ∷ (passed ++ b ∷ more))))) (sym (sign_first negative first p t (passed ++ b ∷ more) there)) all;
     ends = sign_ends negative first p t (passed ++ b ∷ more) (omega (arith, run.run.moved, moved, rest.run.moved, length-append passed (b ∷ more)));
   } where
@@ -191,7 +192,7 @@ module _ (honest : Type 0) (h : honest) (bs : List ℕ) where
     unquoted : (first == quote) ≡ false
     unquoted = grind (arith, nat_tests)
 
-pub noword_next : (honest : Type 0) (bs : List ℕ) (q b : ℕ) → StopsBefore is_digit honest bs q (Some b) → (is_letter b || (b == period)) ≡ false → is_word_byte b ≡ false
+pub noword_next : (honest : Type 0) (bs : List ℕ) (q b : ℕ) → StopsBefore is_digit honest bs q (Some b) → (is_letter b || (b == period)) ≡ false → is_name_byte b ≡ false
 noword_next honest bs q b stop tail = no_tail_no_word b stop.fails tail
 
 pub other_stop : (next : Option ℕ) (b : ℕ) → next ≡ Some b → (b ≡ 34 → ⊥) → next ≡ Some 34 → ⊥

@@ -6,14 +6,15 @@ use Rattle.std.proofs.Math.Seq.{take-append_seam}
 use Rattle.std.proofs.lemmas.Bool.Decides.{nat_tests}
 use Rattle.readers_scanners.specs.declared.symbol.Symbol.{Symbol}
 use Rattle.readers_scanners.specs.declared.symbol.Symbol.TheVariants.{Name, Str, Int, Invalid}
-use Rattle.readers_scanners.specs.Bytes.{quote, minus, period, is_letter, is_digit, is_word_byte, is_inside, begins, AreDigits, number_of}
+use Rattle.event_bytes.specs.Bytes.{period, is_letter, is_digit, is_name_byte, begins}
+use Rattle.readers_scanners.specs.Bytes.{quote, minus, is_inside, AreDigits, number_of}
 use Rattle.readers_scanners.specs.Symbol.{kept, signed, value, greatest_size, HasForm, name, quoted, open_quote, number, out_of_range, broken_number}
 use Rattle.readers_scanners.specs.Form.{closes, number_symbol, number_form, quote_form, form}
 use Rattle.readers_scanners.proofs.ByteKinds.{and_both, fails, passes, weaker, digit_no_letter, digit_in_word, tail_no_digit, tail_in_word, quote_no_letter, quote_no_digit, quote_not_inside, minus_no_letter, minus_no_digit}
 
 -- ---- the form by the first byte
 
-pub letter_form : (b : ℕ) (bs : List ℕ) → is_letter b ≡ true → form (b ∷ bs) ≡ (if list_all is_word_byte bs then Some (Name (kept (b ∷ bs))) else None)
+pub letter_form : (b : ℕ) (bs : List ℕ) → is_letter b ≡ true → form (b ∷ bs) ≡ (if list_all is_name_byte bs then Some (Name (kept (b ∷ bs))) else None)
 unfolding form
 letter_form b bs h = rw h
 
@@ -49,10 +50,10 @@ number_too_great negative n h = let t : nat_le n (greatest_size negative) ≡ fa
 digits_form : (negative : Bool) (digits : List ℕ) → AreDigits digits → form (signed negative digits) ≡ Some (number_symbol negative (number_of digits))
 digits_form negative digits are = signed_form negative digits are.some ∙ rw are.all
 
-broken_form : (negative : Bool) (digits : List ℕ) (b : ℕ) (more : List ℕ) → AreDigits digits → (is_letter b || (b == period)) ≡ true → list_all is_word_byte more ≡ true
+broken_form : (negative : Bool) (digits : List ℕ) (b : ℕ) (more : List ℕ) → AreDigits digits → (is_letter b || (b == period)) ≡ true → list_all is_name_byte more ≡ true
     → form (signed negative (digits ++ b ∷ more)) ≡ Some Invalid
 broken_form negative digits b more are h all =
-    let word = passes is_word_byte digits b more (weaker is_digit is_word_byte digit_in_word digits are.all) (tail_in_word b h) all in
+    let word = passes is_name_byte digits b more (weaker is_digit is_name_byte digit_in_word digits are.all) (tail_in_word b h) all in
     let other = fails is_digit digits b more (tail_no_digit b h) in
     signed_form negative (digits ++ b ∷ more) (begins-append is_digit digits (b ∷ more) are.some) ∙ rw (other, word)
 

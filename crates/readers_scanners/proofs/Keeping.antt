@@ -5,7 +5,8 @@ use Rattle.std.proofs.lemmas.List.{take_all, take_at, length-take, append-nil}
 use Rattle.std.proofs.lemmas.List.Sums.{fold-append}
 use Rattle.std.proofs.lemmas.Bool.Decides.{nat_tests}
 use Rattle.std.specs.List.{list_all}
-use Rattle.readers_scanners.specs.Bytes.{is_letter, is_word_byte, is_inside, begins, number_of}
+use Rattle.event_bytes.specs.Bytes.{is_letter, is_name_byte, begins}
+use Rattle.readers_scanners.specs.Bytes.{is_inside, number_of}
 use Rattle.readers_scanners.proofs.ByteKinds.{and_both, letter_in_word}
 
 pub kept_with_room : (kept new : List ℕ) (b : ℕ) (full : Bool) → full ≡ (length kept == 31) → full ≡ false → length kept ≤ 31 → new ≡ kept ++ b ∷ [] → new ≡ take 31 (kept ++ b ∷ [])
@@ -61,11 +62,11 @@ list_all-take test (suc n) (x ∷ xs) h = let both = and_both (test x) (list_all
 length-kept : (items bytes : List ℕ) → items ≡ take 31 bytes → length items ≤ 31
 length-kept items bytes e = omega (arith, ap length e, length-take 31 bytes)
 
-pub name_shape : (items : List ℕ) (first : ℕ) (passed : List ℕ) → items ≡ take 31 (first ∷ passed) → is_letter first ≡ true → list_all is_word_byte passed ≡ true
-    → (length items ≤ 31) × (begins is_letter items ≡ true) × (list_all is_word_byte items ≡ true)
+pub name_shape : (items : List ℕ) (first : ℕ) (passed : List ℕ) → items ≡ take 31 (first ∷ passed) → is_letter first ≡ true → list_all is_name_byte passed ≡ true
+    → (length items ≤ 31) × (begins is_letter items ≡ true) × (list_all is_name_byte items ≡ true)
 name_shape items first passed e l all =
-    let word : list_all is_word_byte (first ∷ passed) ≡ true = (λ k. letter_in_word first l k && all k) in
-    (length-kept items (first ∷ passed) e, ap (begins is_letter) e ∙ l, ap (list_all is_word_byte) e ∙ list_all-take is_word_byte 31 (first ∷ passed) word)
+    let word : list_all is_name_byte (first ∷ passed) ≡ true = (λ k. letter_in_word first l k && all k) in
+    (length-kept items (first ∷ passed) e, ap (begins is_letter) e ∙ l, ap (list_all is_name_byte) e ∙ list_all-take is_name_byte 31 (first ∷ passed) word)
 
 pub string_shape : (items passed : List ℕ) → items ≡ take 31 passed → list_all is_inside passed ≡ true → (length items ≤ 31) × (list_all is_inside items ≡ true)
 string_shape items passed e all = (length-kept items passed e, ap (list_all is_inside) e ∙ list_all-take is_inside 31 passed all)

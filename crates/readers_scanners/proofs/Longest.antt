@@ -7,7 +7,8 @@ use Rattle.std.proofs.lemmas.Bool.{cases_lt}
 use Rattle.std.proofs.lemmas.Bool.Decides.{nat_tests}
 use Rattle.readers_scanners.specs.declared.symbol.Symbol.{Symbol}
 use Rattle.readers_scanners.specs.declared.symbol.Symbol.TheVariants.{Name, Str, Special, Invalid}
-use Rattle.readers_scanners.specs.Bytes.{quote, minus, period, is_letter, is_digit, is_word_byte, is_inside, begins, AreDigits, number_of}
+use Rattle.event_bytes.specs.Bytes.{period, is_letter, is_digit, is_name_byte, begins}
+use Rattle.readers_scanners.specs.Bytes.{quote, minus, is_inside, AreDigits, number_of}
 use Rattle.readers_scanners.specs.Symbol.{kept, signed, greatest_size, HasForm, name, quoted, open_quote, number, out_of_range, broken_number, Begins, longest, special}
 use Rattle.readers_scanners.specs.Form.{closes, number_symbol, form}
 use Rattle.readers_scanners.proofs.ByteKinds.{and_false, fails, no_word_no_digit, quote_not_inside}
@@ -40,10 +41,10 @@ longest_front w rest s h none = longest (w ++ rest) s (length w) (record {
 
 -- ---- names
 
-pub name_longest : (b : ℕ) (w rest : List ℕ) → is_letter b ≡ true → list_all is_word_byte w ≡ true → StopsAt is_word_byte rest
+pub name_longest : (b : ℕ) (w rest : List ℕ) → is_letter b ≡ true → list_all is_name_byte w ≡ true → StopsAt is_name_byte rest
     → Begins ((b ∷ w) ++ rest) (Name (kept (b ∷ w))) (length (b ∷ w))
 name_longest b w rest l all stops = longest_front (b ∷ w) rest _ (name b w l all)
-    (λ r more v e. letter_form b (w ++ r ∷ v) l ∙ rw (fails is_word_byte w r v (stops r more e)))
+    (λ r more v e. letter_form b (w ++ r ∷ v) l ∙ rw (fails is_name_byte w r v (stops r more e)))
 
 -- ---- numbers
 
@@ -52,9 +53,9 @@ signed-append true xs ys = refl
 signed-append false xs ys = refl
 
 -- what begins with a digit and has another byte than those of words has no form
-none_beyond : (negative : Bool) (w : List ℕ) (b : ℕ) (v : List ℕ) → begins is_digit w ≡ true → is_word_byte b ≡ false → form (signed negative w ++ b ∷ v) ≡ None
+none_beyond : (negative : Bool) (w : List ℕ) (b : ℕ) (v : List ℕ) → begins is_digit w ≡ true → is_name_byte b ≡ false → form (signed negative w ++ b ∷ v) ≡ None
 none_beyond negative w b v h g =
-    let digit = fails is_digit w b v (no_word_no_digit b g) in let word = fails is_word_byte w b v g in
+    let digit = fails is_digit w b v (no_word_no_digit b g) in let word = fails is_name_byte w b v g in
     ap form (signed-append negative w (b ∷ v)) ∙ (signed_form negative (w ++ b ∷ v) (begins-append is_digit w (b ∷ v) h) ∙ rw (digit, word))
 
 pub number_has_form : (negative : Bool) (digits : List ℕ) → AreDigits digits → HasForm (signed negative digits) (number_symbol negative (number_of digits))
@@ -63,13 +64,13 @@ number_has_form negative digits are = elim (cases_lt (greatest_size negative) (n
   | inr fits ↦ (let t : nat_le (number_of digits) (greatest_size negative) ≡ true = grind (arith, nat_tests) in rw t (number negative digits are fits))
 ]
 
-pub number_longest : (negative : Bool) (digits rest : List ℕ) → AreDigits digits → StopsAt is_word_byte rest
+pub number_longest : (negative : Bool) (digits rest : List ℕ) → AreDigits digits → StopsAt is_name_byte rest
     → Begins (signed negative digits ++ rest) (number_symbol negative (number_of digits)) (length (signed negative digits))
 number_longest negative digits rest are stops = longest_front (signed negative digits) rest _ (number_has_form negative digits are)
     (λ b more v e. none_beyond negative digits b v are.some (stops b more e))
 
-pub broken_longest : (negative : Bool) (digits : List ℕ) (b : ℕ) (more rest : List ℕ) → AreDigits digits → (is_letter b || (b == period)) ≡ true → list_all is_word_byte more ≡ true
-    → StopsAt is_word_byte rest → Begins (signed negative (digits ++ b ∷ more) ++ rest) Invalid (length (signed negative (digits ++ b ∷ more)))
+pub broken_longest : (negative : Bool) (digits : List ℕ) (b : ℕ) (more rest : List ℕ) → AreDigits digits → (is_letter b || (b == period)) ≡ true → list_all is_name_byte more ≡ true
+    → StopsAt is_name_byte rest → Begins (signed negative (digits ++ b ∷ more) ++ rest) Invalid (length (signed negative (digits ++ b ∷ more)))
 broken_longest negative digits b more rest are tail all stops = longest_front (signed negative (digits ++ b ∷ more)) rest _ (broken_number negative digits b more are tail all)
     (λ r others v e. none_beyond negative (digits ++ b ∷ more) r v (begins-append is_digit digits (b ∷ more) are.some) (stops r others e))
 

@@ -9,7 +9,8 @@ use Rattle.std.proofs.lemmas.List.{get_or-drop}
 use Rattle.std.proofs.lemmas.List.Sums.{prefix_len-le-length, prefix_len_passes, prefix_len_stops}
 use Rattle.readers_scanners.specs.declared.symbol.Symbol.{Symbol}
 use Rattle.readers_scanners.specs.declared.symbol.Symbol.TheVariants.{Name, Str, Special, Invalid}
-use Rattle.readers_scanners.specs.Bytes.{quote, minus, period, is_blank, is_letter, is_digit, is_word_byte, is_inside, begins, number_of}
+use Rattle.event_bytes.specs.Bytes.{period, is_letter, is_digit, is_name_byte, begins}
+use Rattle.readers_scanners.specs.Bytes.{quote, minus, is_blank, is_inside, number_of}
 use Rattle.readers_scanners.specs.Symbol.{kept, signed, HasForm, name, quoted, open_quote, broken_number, Begins, end, longest, special, IsPastBlanks, IsSymbol}
 use Rattle.readers_scanners.specs.Form.{closes, number_symbol, number_form, quote_form, form, longest_form, first_symbol, behind_blanks, symbol, SymbolWorkedOut}
 use Rattle.readers_scanners.proofs.ByteKinds.{and_both, tail_no_digit, word_tail}
@@ -37,15 +38,15 @@ pub record IsCut (bs : List ℕ) : Type 0 where
   pub parts : bs ≡ digits ++ b ∷ more
   pub all : list_all is_digit digits ≡ true
   pub tail : (is_letter b || (b == period)) ≡ true
-  pub rest : list_all is_word_byte more ≡ true
+  pub rest : list_all is_name_byte more ≡ true
 
-cut : (bs : List ℕ) → list_all is_digit bs ≡ false → list_all is_word_byte bs ≡ true → IsCut bs
+cut : (bs : List ℕ) → list_all is_digit bs ≡ false → list_all is_name_byte bs ≡ true → IsCut bs
 cut [] h g = cc
 cut (x ∷ bs) h g = by_first (cut bs) (is_digit x) refl where
-  words : (is_word_byte x ≡ true) × (list_all is_word_byte bs ≡ true)
-  words = and_both (is_word_byte x) (list_all is_word_byte bs) g
+  words : (is_name_byte x ≡ true) × (list_all is_name_byte bs ≡ true)
+  words = and_both (is_name_byte x) (list_all is_name_byte bs) g
 
-  by_first : (list_all is_digit bs ≡ false → list_all is_word_byte bs ≡ true → IsCut bs) → (a : Bool) → is_digit x ≡ a → IsCut (x ∷ bs)
+  by_first : (list_all is_digit bs ≡ false → list_all is_name_byte bs ≡ true → IsCut bs) → (a : Bool) → is_digit x ≡ a → IsCut (x ∷ bs)
   by_first later_cut true d =
       let later : list_all is_digit bs ≡ false = sym (ap (λ a. a && list_all is_digit bs) d) ∙ h in let inner = later_cut later words.1 in
       record {
@@ -71,13 +72,13 @@ broken negative bs h is = (
 
 number_formed : (negative : Bool) (bs : List ℕ) (s : Symbol) → begins is_digit bs ≡ true → number_form negative bs ≡ Some s → Formed (signed negative bs)
 number_formed negative bs s h e = by_digits (list_all is_digit bs) refl where
-  by_words : list_all is_digit bs ≡ false → (a : Bool) → list_all is_word_byte bs ≡ a → Formed (signed negative bs)
+  by_words : list_all is_digit bs ≡ false → (a : Bool) → list_all is_name_byte bs ≡ a → Formed (signed negative bs)
   by_words d true w = broken negative bs h (cut bs d w)
   by_words d false w = (let no = rw (d, w) at e in absurd (none_is_some s no))
 
   by_digits : (a : Bool) → list_all is_digit bs ≡ a → Formed (signed negative bs)
   by_digits true d = (number_symbol negative (number_of bs), number_has_form negative bs (record { some = h; all = d }))
-  by_digits false d = by_words d (list_all is_word_byte bs) refl
+  by_digits false d = by_words d (list_all is_name_byte bs) refl
 
 -- what may stand inside, and a quote behind it
 pub record IsClosed (bs : List ℕ) : Type 0 where
@@ -111,7 +112,7 @@ formed [] s e = absurd (no_form s e) where
   no_form : (s : Symbol) → form [] ≡ Some s → ⊥
   no_form s e = none_is_some s (sym form_of_nothing ∙ e)
 formed (b ∷ bs) s e = by_letter (is_letter b) refl where
-  by_words : is_letter b ≡ true → (a : Bool) → list_all is_word_byte bs ≡ a → Formed (b ∷ bs)
+  by_words : is_letter b ≡ true → (a : Bool) → list_all is_name_byte bs ≡ a → Formed (b ∷ bs)
   by_words l true w = (Name (kept (b ∷ bs)), name b bs l w)
   by_words l false w = let none : form (b ∷ bs) ≡ None = letter_form b bs l ∙ rw w in absurd (none_is_some s (sym none ∙ e))
 
@@ -133,7 +134,7 @@ formed (b ∷ bs) s e = by_letter (is_letter b) refl where
   by_digit l false d = by_quote l d (b == quote) refl
 
   by_letter : (a : Bool) → is_letter b ≡ a → Formed (b ∷ bs)
-  by_letter true l = by_words l (list_all is_word_byte bs) refl
+  by_letter true l = by_words l (list_all is_name_byte bs) refl
   by_letter false l = by_digit l (is_digit b) refl
 
 pub form_sound : (w : List ℕ) (s : Symbol) → form w ≡ Some s → HasForm w s

@@ -3,7 +3,8 @@ use Rattle.std.specs.Prelude.{ℕ, zero, suc, ◌≡◌, ◌+◌, ◌-◌, ◌�
 use Rattle.std.specs.List.{list_all, prefix_len}
 use Rattle.readers_scanners.specs.declared.symbol.Symbol.{Symbol}
 use Rattle.readers_scanners.specs.declared.symbol.Symbol.TheVariants.{Name, Str, Int, Special, Invalid, End}
-use Rattle.readers_scanners.specs.Bytes.{quote, minus, is_blank, is_letter, is_digit, is_word_byte, is_inside, begins, number_of}
+use Rattle.event_bytes.specs.Bytes.{is_letter, is_digit, is_name_byte, begins}
+use Rattle.readers_scanners.specs.Bytes.{quote, minus, is_blank, is_inside, number_of}
 use Rattle.readers_scanners.specs.Symbol.{kept, value, greatest_size, IsSymbol}
 
 -- what may stand inside, and then one quote
@@ -20,7 +21,7 @@ number_symbol negative n = if nat_le n (greatest_size negative) then Int (value 
 abbrev pub number_form : Bool → List ℕ → Option Symbol
 number_form negative bs =
     if list_all is_digit bs then Some (number_symbol negative (number_of bs)) else
-    (if list_all is_word_byte bs then Some Invalid else None)
+    (if list_all is_name_byte bs then Some Invalid else None)
 
 -- bytes behind a quote
 abbrev pub quote_form : List ℕ → Option Symbol
@@ -31,7 +32,7 @@ quote_form bs =
 unfoldable pub form : List ℕ → Option Symbol
 form [] = None
 form (b ∷ bs) =
-    if is_letter b then (if list_all is_word_byte bs then Some (Name (kept (b ∷ bs))) else None) else
+    if is_letter b then (if list_all is_name_byte bs then Some (Name (kept (b ∷ bs))) else None) else
     (if is_digit b then number_form false (b ∷ bs) else
     (if b == quote then quote_form bs else
     (if (b == minus) && begins is_digit bs then number_form true bs else None)))

@@ -6,12 +6,13 @@ use Rattle.readers_scanners.specs.declared.bytes.Class.TheVariants.{Blank, Word,
 use Rattle.readers_scanners.specs.declared.symbol.Symbol.{Symbol}
 use Rattle.readers_scanners.specs.declared.scanner.Step.{Step}
 use Rattle.readers_scanners.specs.declared.scanner.Step.TheVariants.{Passed, Before}
-use Rattle.readers_scanners.specs.Bytes.{is_blank, is_word_byte, is_digit, is_inside}
+use Rattle.event_bytes.specs.Bytes.{is_name_byte, is_digit}
+use Rattle.readers_scanners.specs.Bytes.{is_blank, is_inside}
 use Rattle.readers_scanners.specs.Symbol.{Begins}
 
 abbrev pub has : Class → ℕ → Bool
 has Blank b = is_blank b
-has Word b = is_word_byte b
+has Word b = is_name_byte b
 has Digit b = is_digit b
 has Inside b = is_inside b
 

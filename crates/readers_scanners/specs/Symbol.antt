@@ -4,7 +4,8 @@ use Rattle.std.specs.List.{list_all}
 use Rattle.arrayvec.specs.ArrayVec.{ArrayVec}
 use Rattle.readers_scanners.specs.declared.symbol.Symbol.{Symbol}
 use Rattle.readers_scanners.specs.declared.symbol.Symbol.TheVariants.{Name, Str, Int, Special, Invalid, End}
-use Rattle.readers_scanners.specs.Bytes.{quote, minus, period, is_blank, is_letter, is_digit, is_word_byte, is_inside, begins, AreDigits, number_of}
+use Rattle.event_bytes.specs.Bytes.{period, is_letter, is_digit, is_name_byte, begins}
+use Rattle.readers_scanners.specs.Bytes.{quote, minus, is_blank, is_inside, AreDigits, number_of}
 
 -- what a symbol keeps of its bytes: the first 31
 abbrev pub kept : List ℕ → ArrayVec ℕ
@@ -28,7 +29,7 @@ greatest_size false = 2147483647
 -- The whole stretch of bytes is the symbol.
 pub data HasForm : List ℕ → Symbol → Type 0 where
   -- a letter, then letters, digits and periods
-  name : (letter : ℕ) (more : List ℕ) → IsTrue (is_letter letter) → IsTrue (list_all is_word_byte more)
+  name : (letter : ℕ) (more : List ℕ) → IsTrue (is_letter letter) → IsTrue (list_all is_name_byte more)
       → HasForm (letter ∷ more) (Name (kept (letter ∷ more)))
   -- what stands between two quotes
   quoted : (inside : List ℕ) → IsTrue (list_all is_inside inside) → HasForm (quote ∷ (inside ++ quote ∷ [])) (Str (kept inside))
@@ -40,7 +41,7 @@ pub data HasForm : List ℕ → Symbol → Type 0 where
       → HasForm (signed negative digits) Invalid
   -- a number that runs on as a name would
   broken_number : (negative : Bool) (digits : List ℕ) (b : ℕ) (more : List ℕ) → AreDigits digits → IsTrue (is_letter b || (b == period))
-      → IsTrue (list_all is_word_byte more) → HasForm (signed negative (digits ++ b ∷ more)) Invalid
+      → IsTrue (list_all is_name_byte more) → HasForm (signed negative (digits ++ b ∷ more)) Invalid
 
 -- The first n bytes are the symbol, and no more of them are one.
 pub record IsLongest (bytes : List ℕ) (symbol : Symbol) (n : ℕ) : Type 0 where
@@ -77,7 +78,7 @@ OneSymbol = (bytes : List ℕ) (p : ℕ) (s t : Symbol) (q r : ℕ) → IsSymbol
 
 -- what a symbol says of its own bytes, whatever the source told
 abbrev pub IsShaped : Symbol → Type 0
-IsShaped (Name v) = (length v.items ≤ 31) × IsTrue (begins is_letter v.items) × IsTrue (list_all is_word_byte v.items)
+IsShaped (Name v) = (length v.items ≤ 31) × IsTrue (begins is_letter v.items) × IsTrue (list_all is_name_byte v.items)
 IsShaped (Str v) = (length v.items ≤ 31) × IsTrue (list_all is_inside v.items)
 IsShaped (Int z) = Unit {0}
 IsShaped (Special b) = (is_blank b ≡ false) × (is_letter b ≡ false) × (is_digit b ≡ false) × (b ≢ quote)

@@ -9,9 +9,10 @@ ghost use Rattle.piece_ring.specs.Flat.{flat};
 ghost use Rattle.piece_ring.specs.Offsets.{AreWithin};
 ghost use Rattle.readers_scanners.specs.Form.{number_symbol as number_form};
 
-use crate::bytes::{Class, digit_value, is_digit, is_letter, is_tail};
+use crate::bytes::{Class, digit_value, is_tail};
 use crate::{CharSource, Fault, Reader, Symbol, Text};
 use arrayvec::ArrayVec;
+use event_bytes::{is_digit, is_letter};
 use std::marker::Model;
 
 /// Finds the symbols of a text one after another. It borrows the text, and takes no memory.
@@ -36,7 +37,8 @@ pub(crate) enum Step {
 }
 
 impl<'a> Scanner<'a> {
-    ghost use Rattle.readers_scanners.specs.Bytes.{is_letter, is_digit, number_of};
+    ghost use Rattle.event_bytes.specs.Bytes.{is_letter, is_digit};
+    ghost use Rattle.readers_scanners.specs.Bytes.{number_of};
     ghost use Rattle.readers_scanners.specs.Reading.{contents, bytes};
     ghost use Rattle.readers_scanners.specs.Passing.{has, Steps, IsRun, Found};
     ghost use Rattle.readers_scanners.specs.Symbol.{IsSymbol, IsShaped, signed};

@@ -1,5 +1,5 @@
 use Rattle.std.proofs.Common.{[], ◌∷◌, ◌++◌}
-use Rattle.readers_scanners.specs.Bytes.{is_digit}
+use Rattle.event_bytes.specs.Bytes.{is_digit}
 use Rattle.readers_scanners.proofs.Keeping.{one_sized, more_sized}
 use Rattle.readers_scanners.proofs.Running.{at_first, onward}
 use Rattle.readers_scanners.proofs.scanner.Scanner.digits.Goals as goal

@@ -1,5 +1,6 @@
 use Rattle.std.proofs.Common.{List, ℕ, ◌-◌, ◌≡◌, ◌∷◌, ◌^◌, length, min}
-use Rattle.readers_scanners.specs.Bytes.{is_digit, number_of}
+use Rattle.event_bytes.specs.Bytes.{is_digit}
+use Rattle.readers_scanners.specs.Bytes.{number_of}
 use Rattle.readers_scanners.proofs.Running.{IsUnderWay}
 use Rattle.readers_scanners.proofs.scanner.Scanner.digits.Given as goal
 
