@@ -1,7 +1,7 @@
 -- A disk that was just laid out shows the empty desktop.
 use Rattle.std.proofs.Common.{◌≡◌, ◌≢◌, ℕ, ◌≤◌, [], refl, ◌∙◌, ap, arith, true, false}
 use Rattle.sector_disk.specs.Trail.{Trail, now, Touches, Only}
-use Rattle.event_loop.specs.Desktop.{empty_desktop}
+use Rattle.event_loop_laws.specs.Desktop.{empty_desktop}
 use Rattle.desk_journal.specs.Layout.{is_label, is_open, store_sectors}
 use Rattle.desk_journal.specs.View.{IsKept}
 

@@ -5,8 +5,8 @@ use Rattle.std.proofs.lemmas.Bool.{cases_lt}
 use Rattle.sector_disk.specs.Trail.{Content, Trail, now}
 use Rattle.event_bytes.specs.declared.event.Event.{Event}
 use Rattle.event_bytes.specs.Spelling.{Begins}
-use Rattle.event_loop.specs.Desktop.{Desktop, empty_desktop}
-use Rattle.event_loop.specs.Step.{step, steps}
+use Rattle.event_loop_laws.specs.Desktop.{Desktop, empty_desktop}
+use Rattle.event_loop_laws.specs.Step.{step, steps}
 use Rattle.desk_journal.specs.Layout.{is_label, is_open, slot_gate, gate, body, store_sectors}
 use Rattle.desk_journal.specs.Meaning.{IsJournal}
 use Rattle.desk_journal.specs.Footprint.{IsLedTo}

@@ -4,7 +4,7 @@ use Rattle.std.proofs.lemmas.Bool.{cases_lt}
 use Rattle.sector_disk.specs.Trail.{Content}
 use Rattle.event_bytes.specs.declared.event.Event.{Event}
 use Rattle.event_bytes.specs.Spelling.{Begins}
-use Rattle.event_loop.specs.Desktop.{Desktop}
+use Rattle.event_loop_laws.specs.Desktop.{Desktop}
 use Rattle.desk_journal.specs.Layout.{is_label, is_open, slot_gate, gate, body}
 use Rattle.desk_journal.specs.Meaning.{IsJournal, Standing, Stands, Means, desktop_of}
 use Rattle.desk_journal.specs.Footprint.{IsLedTo, AgreesOnFootprint, FootprintLaw}

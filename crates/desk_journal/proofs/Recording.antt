@@ -4,8 +4,8 @@ use Rattle.sector_disk.specs.Trail.{Content, Trail, now, LeavesOnly, Touches, On
 use Rattle.sector_disk.proofs.Touching.{spared, weakened, chained, at_last}
 use Rattle.event_bytes.specs.declared.event.Event.{Event}
 use Rattle.event_bytes.specs.Spelling.{Begins}
-use Rattle.event_loop.specs.Desktop.{Desktop}
-use Rattle.event_loop.specs.Step.{step, steps}
+use Rattle.event_loop_laws.specs.Desktop.{Desktop}
+use Rattle.event_loop_laws.specs.Step.{step, steps}
 use Rattle.desk_journal.specs.Layout.{is_label, is_open, slot_gate, gate, body}
 use Rattle.desk_journal.specs.Meaning.{IsJournal, Standing, desktop_of, Stands, Means, MeansEither, and_then}
 use Rattle.desk_journal.specs.Footprint.{AgreesOnFootprint}

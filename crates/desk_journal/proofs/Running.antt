@@ -8,9 +8,9 @@ use Rattle.std.proofs.Math.Seq.{take-length, drop-length}
 use Rattle.std.proofs.Math.ListN.{drop_of_length-le}
 use Rattle.sector_disk.specs.Trail.{Content, Trail, now, IsImage, Leaves, LeavesOnly}
 use Rattle.event_bytes.specs.declared.event.Event.{Event}
-use Rattle.event_loop.specs.declared.reply.Reply.{Reply}
-use Rattle.event_loop.specs.Desktop.{Desktop}
-use Rattle.event_loop.specs.Step.{step, steps}
+use Rattle.event_loop_laws.specs.declared.reply.Reply.{Reply}
+use Rattle.event_loop_laws.specs.Desktop.{Desktop}
+use Rattle.event_loop_laws.specs.Step.{step, steps}
 use Rattle.desk_journal.specs.declared.error.Error.{Error}
 use Rattle.desk_journal.specs.declared.error.Error.TheVariants.{NoMemory, Fault, MustReopen, JournalFull}
 use Rattle.desk_journal.specs.Meaning.{Means, MeansEither, Shows}

@@ -2,7 +2,7 @@
 use Rattle.std.proofs.Common.{◌≡◌, ℕ, refl, sym, ◌∙◌, ap, subst, false}
 use Rattle.sector_disk.specs.Trail.{Content, Moment, Trail, now, settled, IsImage, Leaves, LeavesOnly, Touches, Nowhere}
 use Rattle.sector_disk.proofs.Touching.{spared, stays_put, still_all, still_settled}
-use Rattle.event_loop.specs.Desktop.{Desktop}
+use Rattle.event_loop_laws.specs.Desktop.{Desktop}
 use Rattle.desk_journal.specs.Meaning.{Standing, Stands, Means, Shows}
 use Rattle.desk_journal.specs.View.{WritesNothing, IsSettled, IsKept}
 

@@ -1,7 +1,7 @@
 -- The sectors that a meaning depends on.
 use Rattle.std.specs.Prelude.{◌≡◌, ◌<◌, ◌+◌, ℕ, true, ◌↔◌}
 use Rattle.sector_disk.specs.Trail.{Content}
-use Rattle.event_loop.specs.Desktop.{Desktop}
+use Rattle.event_loop_laws.specs.Desktop.{Desktop}
 use Rattle.desk_journal.specs.Layout.{is_open, slot_gate, gate, body}
 use Rattle.desk_journal.specs.Meaning.{Means}
 

@@ -1,7 +1,7 @@
 -- The desktop that a store has in memory.
 use Rattle.std.specs.Prelude.{◌≡◌, length}
-use Rattle.event_loop.specs.Desktop.{Desktop}
-use Rattle.event_loop.specs.Seen.{seen}
+use Rattle.event_loop_laws.specs.Desktop.{Desktop}
+use Rattle.event_loop_laws.specs.Seen.{seen}
 use Rattle.desk_journal.specs.declared.live.LiveDesktop.{LiveDesktop}
 
 -- as its characters read

@@ -3,8 +3,8 @@ use Rattle.std.specs.Prelude.{◌≡◌, ◌<◌, ◌+◌, ◌++◌, ℕ, List, 
 use Rattle.sector_disk.specs.Trail.{Content}
 use Rattle.event_bytes.specs.declared.event.Event.{Event}
 use Rattle.event_bytes.specs.Spelling.{Begins}
-use Rattle.event_loop.specs.Desktop.{Desktop}
-use Rattle.event_loop.specs.Step.{steps}
+use Rattle.event_loop_laws.specs.Desktop.{Desktop}
+use Rattle.event_loop_laws.specs.Step.{steps}
 use Rattle.desk_journal.specs.Layout.{gate, body}
 use Rattle.desk_journal.specs.Meaning.{IsJournal}
 use Rattle.desk_journal.specs.Footprint.{IsLedTo}

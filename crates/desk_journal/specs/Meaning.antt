@@ -3,8 +3,8 @@ use Rattle.std.specs.Prelude.{◌≡◌, ◌⊎◌, ◌<◌, ◌≤◌, ◌+◌,
 use Rattle.sector_disk.specs.Trail.{Content}
 use Rattle.event_bytes.specs.declared.event.Event.{Event}
 use Rattle.event_bytes.specs.Spelling.{Begins}
-use Rattle.event_loop.specs.Desktop.{Desktop, empty_desktop}
-use Rattle.event_loop.specs.Step.{step, steps}
+use Rattle.event_loop_laws.specs.Desktop.{Desktop, empty_desktop}
+use Rattle.event_loop_laws.specs.Step.{step, steps}
 use Rattle.desk_journal.specs.Layout.{store_sectors, is_label, is_open, slot_gate, gate, body}
 
 -- From gate k on the journal of a slot has these events: each in a body under an open gate, and behind the last of them

@@ -3,9 +3,9 @@ use Rattle.std.specs.Prelude.{◌≡◌, ◌≤◌, ℕ, Bool, true, false, List
 use Rattle.std.specs.List.{list_any}
 use Rattle.sector_disk.specs.Trail.{Content, Trail, Leaves}
 use Rattle.event_bytes.specs.declared.event.Event.{Event}
-use Rattle.event_loop.specs.declared.reply.Reply.{Reply}
-use Rattle.event_loop.specs.Desktop.{Desktop}
-use Rattle.event_loop.specs.Step.{steps}
+use Rattle.event_loop_laws.specs.declared.reply.Reply.{Reply}
+use Rattle.event_loop_laws.specs.Desktop.{Desktop}
+use Rattle.event_loop_laws.specs.Step.{steps}
 use Rattle.desk_journal.specs.declared.error.Error.{Error}
 use Rattle.desk_journal.specs.declared.error.Error.TheVariants.{NoMemory, Fault, MustReopen, NotAStore, Damaged, Worn, TooSmall, JournalFull}
 use Rattle.desk_journal.specs.Meaning.{Means}

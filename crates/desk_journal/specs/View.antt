@@ -1,7 +1,7 @@
 -- A store as its callers see it.
 use Rattle.std.specs.Prelude.{◌≡◌, ◌<◌, ◌≤◌, ◌+◌, ◌⊎◌, ℕ, List, Bool, length, false}
 use Rattle.sector_disk.specs.Trail.{Trail, now, IsImage, Leaves, LeavesOnly}
-use Rattle.event_loop.specs.Desktop.{Desktop}
+use Rattle.event_loop_laws.specs.Desktop.{Desktop}
 use Rattle.desk_journal.specs.Meaning.{Standing, Stands, desktop_of}
 
 pub record StoreView (D : Type 0) : Type 0 where

@@ -2,7 +2,7 @@
 ghost use Rattle.std.specs.Prelude.{◌≡◌, ◌<◌, ◌≤◌, ℕ, true, false, OnOk};
 ghost use Rattle.sector_disk.specs.Trail.{Content, Nowhere, Only, CountsFault, now};
 ghost use Rattle.sector_disk.specs.Confined.{IsConfined};
-ghost use Rattle.event_loop.specs.Desktop.{empty_desktop};
+ghost use Rattle.event_loop_laws.specs.Desktop.{empty_desktop};
 ghost use Rattle.desk_journal.specs.Layout.{is_label, is_open};
 ghost use Rattle.desk_journal.specs.View.{IsKept};
 

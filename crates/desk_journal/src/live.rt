@@ -1,9 +1,9 @@
 //! The desktop that a store has in memory, with its characters.
 ghost use Rattle.std.specs.Prelude.{◌≡◌, IfOk, OnOk, IsErrOf, option_map};
-ghost use Rattle.event_loop.specs.Desktop.{empty_desktop, file_of};
-ghost use Rattle.event_loop.specs.Listing.{entries_of};
-ghost use Rattle.event_loop.specs.Shown.{shown_screen};
-ghost use Rattle.event_loop.specs.Step.{step};
+ghost use Rattle.event_loop_laws.specs.Desktop.{empty_desktop, file_of};
+ghost use Rattle.event_loop_laws.specs.Listing.{entries_of};
+ghost use Rattle.event_loop_laws.specs.Shown.{shown_screen};
+ghost use Rattle.event_loop_laws.specs.Step.{step};
 ghost use Rattle.desk_journal.specs.Live.{shown, IsWhole};
 
 use crate::reading::read_all;

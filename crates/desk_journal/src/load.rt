@@ -4,7 +4,7 @@ ghost use Rattle.sector_disk.specs.Trail.{Nowhere, now};
 ghost use Rattle.sector_disk.specs.Confined.{IsConfined};
 ghost use Rattle.event_bytes.specs.declared.event.Event.{Event};
 ghost use Rattle.event_bytes.specs.Spelling.{Begins};
-ghost use Rattle.event_loop.specs.Desktop.{empty_desktop};
+ghost use Rattle.event_loop_laws.specs.Desktop.{empty_desktop};
 ghost use Rattle.desk_journal.specs.Layout.{is_open, is_label, gate, body};
 ghost use Rattle.desk_journal.specs.Finding.{IsForeign, IsDamagedAt, IsNoEvent};
 ghost use Rattle.desk_journal.specs.Live.{shown, IsWhole};

@@ -3,8 +3,8 @@ ghost use Rattle.std.specs.Prelude.{◌≡◌, ◌⊎◌, ◌+◌, ◌*◌, ◌<
 ghost use Rattle.sector_disk.specs.Trail.{LeavesOnly, Only, CountsFault, now};
 ghost use Rattle.sector_disk.specs.Confined.{IsConfined};
 ghost use Rattle.event_bytes.specs.Spelling.{Begins};
-ghost use Rattle.event_loop.specs.Desktop.{Desktop};
-ghost use Rattle.event_loop.specs.Step.{step};
+ghost use Rattle.event_loop_laws.specs.Desktop.{Desktop};
+ghost use Rattle.event_loop_laws.specs.Step.{step};
 ghost use Rattle.desk_journal.specs.Layout.{is_open, gate, body};
 ghost use Rattle.desk_journal.specs.Meaning.{MeansEither};
 ghost use Rattle.desk_journal.specs.Record.{NextRecord};

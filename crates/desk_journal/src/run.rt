@@ -1,7 +1,7 @@
 //! Posts one after another, whatever each is answered.
 ghost use Rattle.std.specs.Prelude.{◌≡◌, ◌↔◌, ℕ, false, length, IfOk, OnOk, IsErr};
 ghost use Rattle.sector_disk.specs.Trail.{Trail};
-ghost use Rattle.event_loop.specs.Step.{steps};
+ghost use Rattle.event_loop_laws.specs.Step.{steps};
 ghost use Rattle.desk_journal.specs.Run.{Survives, posts_of};
 
 use crate::laws::finding_law;

@@ -1,10 +1,10 @@
 //! The store and its calls.
 ghost use Rattle.std.specs.Prelude.{◌≡◌, ◌⊎◌, ◌<◌, ◌≤◌, ◌+◌, ◌↔◌, ℕ, true, false, Ok, Err, IfOk, IfErr, OnOk, IsErrOf, option_map};
 ghost use Rattle.sector_disk.specs.Trail.{Leaves, LeavesOnly, now};
-ghost use Rattle.event_loop.specs.Desktop.{empty_desktop, file_of};
-ghost use Rattle.event_loop.specs.Listing.{entries_of};
-ghost use Rattle.event_loop.specs.Shown.{shown_screen};
-ghost use Rattle.event_loop.specs.Step.{step};
+ghost use Rattle.event_loop_laws.specs.Desktop.{empty_desktop, file_of};
+ghost use Rattle.event_loop_laws.specs.Listing.{entries_of};
+ghost use Rattle.event_loop_laws.specs.Shown.{shown_screen};
+ghost use Rattle.event_loop_laws.specs.Step.{step};
 ghost use Rattle.desk_journal.specs.Finding.{IsForeign, IsDamagedAt};
 ghost use Rattle.desk_journal.specs.Meaning.{Means, MeansEither, Shows};
 ghost use Rattle.desk_journal.specs.View.{StoreView, WritesNothing, IsLookedAt, IsKept};

@@ -14,10 +14,10 @@ use Rattle.piece_ring.specs.declared.piece.Piece.{Piece}
 use Rattle.piece_ring.specs.Flat.{flat}
 use Rattle.piece_ring.specs.Offsets.{AreWithin}
 use Rattle.piece_ring.specs.Text.{Text}
-use Rattle.event_loop.specs.declared.entry.Entry.{Entry}
-use Rattle.event_loop.specs.declared.entry.Entry.TheVariants.{File}
-use Rattle.event_loop.specs.Files.{Files, name_cmp, text_of, put, names, texts, characters}
-use Rattle.event_loop.specs.Listing.{file_entry}
+use Rattle.event_loop_laws.specs.declared.entry.Entry.{Entry}
+use Rattle.event_loop_laws.specs.declared.entry.Entry.TheVariants.{File}
+use Rattle.event_loop_laws.specs.Tables.{Files, name_cmp, text_of, put, names, texts, characters}
+use Rattle.event_loop_laws.specs.Listing.{file_entry}
 use Rattle.event_loop.specs.Flat.{file_in, files_in, length_or_none}
 
 -- a map's entries

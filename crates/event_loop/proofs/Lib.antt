@@ -1,5 +1,4 @@
 pub mod FileLemmas
-pub mod SoundLemmas
 pub mod StepLemmas
 pub mod SeenLemmas
 pub mod ListLemmas

@@ -2,12 +2,12 @@
 use Rattle.std.proofs.Common.{◌≡◌, ℕ, List, [], ◌∷◌, ◌++◌, map, length, refl, ap, slice_index}
 use Rattle.std.proofs.lemmas.List.{length-map}
 use Rattle.piece_ring.specs.declared.piece.Look.{Look}
-use Rattle.event_loop.specs.declared.entry.Entry.{Entry}
-use Rattle.event_loop.specs.declared.entry.Entry.TheVariants.{File, Written}
-use Rattle.event_loop.specs.Files.{Files}
-use Rattle.event_loop.specs.Desktop.{KeptDesktop}
-use Rattle.event_loop.specs.Seen.{renamed_files, seen}
-use Rattle.event_loop.specs.Listing.{file_entry, entries_of}
+use Rattle.event_loop_laws.specs.declared.entry.Entry.{Entry}
+use Rattle.event_loop_laws.specs.declared.entry.Entry.TheVariants.{File, Written}
+use Rattle.event_loop_laws.specs.Tables.{Files}
+use Rattle.event_loop_laws.specs.Desktop.{KeptDesktop}
+use Rattle.event_loop_laws.specs.Seen.{renamed_files, seen}
+use Rattle.event_loop_laws.specs.Listing.{file_entry, entries_of}
 
 listed : {X Y : Type 0} (f : X → Y) (files : Files X) → map file_entry (renamed_files f files) ≡ map file_entry files
 listed {X} {Y} f [] = refl

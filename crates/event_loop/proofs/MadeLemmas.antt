@@ -9,12 +9,12 @@ use Rattle.piece_ring.specs.Flat.{run}
 use Rattle.event_bytes.specs.Bytes.{is_name}
 use Rattle.piece_ring.specs.Offsets.{AreWithin, AreWithin-longer, run-AreWithin}
 use Rattle.piece_ring.specs.Text.{Text}
-use Rattle.event_loop.specs.Files.{Files, name_cmp, has_room, put, texts}
-use Rattle.event_loop.specs.Desktop.{KeptDesktop, in_look, filed}
-use Rattle.event_loop.specs.Seen.{kept_from}
-use Rattle.event_loop.specs.Sound.{IsSound, IsKeptWhole}
-use Rattle.event_loop.specs.Step.{fits}
-use Rattle.event_loop.proofs.SoundLemmas.{filed_sound}
+use Rattle.event_loop_laws.specs.Tables.{Files, name_cmp, has_room, put, texts}
+use Rattle.event_loop_laws.specs.Desktop.{KeptDesktop, in_look, filed}
+use Rattle.event_loop_laws.specs.Seen.{kept_from}
+use Rattle.event_loop_laws.specs.Sound.{IsSound, IsKeptWhole}
+use Rattle.event_loop_laws.specs.Step.{fits}
+use Rattle.event_loop_laws.specs.Soundness.{filed_sound}
 use Rattle.event_loop.proofs.StepLemmas.{filed_is}
 
 pub run_is : (first : ℕ) (bytes : List ℕ) (look : Look) → run first (length bytes) look ≡ in_look look (kept_from first bytes)

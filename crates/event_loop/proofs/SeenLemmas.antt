@@ -17,13 +17,13 @@ use Rattle.piece_ring.specs.Text.{Text}
 use Rattle.event_bytes.specs.declared.event.Event.{Event}
 use Rattle.event_bytes.specs.declared.event.Event.TheVariants.{File}
 use Rattle.event_loop.specs.declared.stop.Stop.{Stop}
-use Rattle.event_loop.specs.declared.reply.Reply.{Reply}
-use Rattle.event_loop.specs.declared.reply.Reply.TheVariants.{Done, No}
-use Rattle.event_loop.specs.Files.{Files, name_cmp, text_of, has_room, put, texts, characters}
-use Rattle.event_loop.specs.Desktop.{DesktopOver, Desktop, KeptDesktop, in_look, filed, held, file_of}
-use Rattle.event_loop.specs.Seen.{renamed_files, renamed_desktop, seen, kept_from, bytes_made}
-use Rattle.event_loop.specs.Step.{raw, fits, settled, step_over, itself, step}
-use Rattle.event_loop.specs.Sound.{IsKeptWhole}
+use Rattle.event_loop_laws.specs.declared.reply.Reply.{Reply}
+use Rattle.event_loop_laws.specs.declared.reply.Reply.TheVariants.{Done, No}
+use Rattle.event_loop_laws.specs.Tables.{Files, name_cmp, text_of, has_room, put, texts, characters}
+use Rattle.event_loop_laws.specs.Desktop.{DesktopOver, Desktop, KeptDesktop, in_look, filed, held, file_of}
+use Rattle.event_loop_laws.specs.Seen.{renamed_files, renamed_desktop, seen, kept_from, bytes_made}
+use Rattle.event_loop_laws.specs.Step.{raw, fits, settled, step_over, itself, step}
+use Rattle.event_loop_laws.specs.Sound.{IsKeptWhole}
 use Rattle.event_loop.proofs.FileLemmas.{after_map}
 
 -- ---- what is done to a desktop doesn't look at its characters

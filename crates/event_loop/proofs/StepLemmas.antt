@@ -5,12 +5,12 @@ use Rattle.piece_ring.specs.Look.{default_look}
 use Rattle.piece_ring.specs.Text.{Text}
 use Rattle.event_bytes.specs.declared.event.Event.{Event}
 use Rattle.event_bytes.specs.declared.event.Event.TheVariants.{File}
-use Rattle.event_loop.specs.declared.reply.Reply.{Reply}
-use Rattle.event_loop.specs.declared.reply.Reply.TheVariants.{Done, No}
-use Rattle.event_loop.specs.Files.{Files, has_room, put, characters}
-use Rattle.event_loop.specs.Desktop.{DesktopOver, KeptDesktop, empty_desktop, in_look, filed, held}
-use Rattle.event_loop.specs.Step.{raw, fits, settled, step_over}
-use Rattle.event_loop.specs.Sound.{IsSound}
+use Rattle.event_loop_laws.specs.declared.reply.Reply.{Reply}
+use Rattle.event_loop_laws.specs.declared.reply.Reply.TheVariants.{Done, No}
+use Rattle.event_loop_laws.specs.Tables.{Files, has_room, put, characters}
+use Rattle.event_loop_laws.specs.Desktop.{DesktopOver, KeptDesktop, empty_desktop, in_look, filed, held}
+use Rattle.event_loop_laws.specs.Step.{raw, fits, settled, step_over}
+use Rattle.event_loop_laws.specs.Sound.{IsSound}
 use Rattle.event_loop.specs.Flat.{kept}
 
 module _ {X : Type 0} (made : ℕ → List ℕ → List X) (d : DesktopOver X) (name bytes : List ℕ) where

@@ -3,8 +3,8 @@ use Rattle.std.specs.Prelude.{ℕ, List, length, map, Option, None, Some}
 use Rattle.piece_ring.specs.declared.piece.Piece.{Piece}
 use Rattle.piece_ring.specs.Text.{Text}
 use Rattle.piece_ring.specs.Flat.{flat}
-use Rattle.event_loop.specs.Files.{Files}
-use Rattle.event_loop.specs.Desktop.{KeptDesktop}
+use Rattle.event_loop_laws.specs.Tables.{Files}
+use Rattle.event_loop_laws.specs.Desktop.{KeptDesktop}
 
 abbrev pub file_in : List ℕ × List Piece → List ℕ × Text ℕ
 file_in entry = (entry.0, flat entry.1)

@@ -6,21 +6,20 @@ ghost use Rattle.piece_ring.specs.Offsets.{AreWithin};
 ghost use Rattle.piece_ring.specs.Text.{Text as AText};
 ghost use Rattle.readers_scanners.specs.Reading.{contents};
 ghost use Rattle.event_bytes.specs.declared.event.Event.TheVariants.{File};
-ghost use Rattle.event_loop.specs.declared.reply.Reply.TheVariants.{Done, No};
-ghost use Rattle.event_loop.specs.Desktop.{empty_desktop, file_of, filed};
-ghost use Rattle.event_loop.specs.Seen.{seen, kept_from, bytes_made};
-ghost use Rattle.event_loop.specs.Step.{step, step_over, fits};
-ghost use Rattle.event_loop.specs.Sound.{IsSound, IsKeptWhole};
-ghost use Rattle.event_loop.specs.Listing.{entries_of};
-ghost use Rattle.event_loop.specs.Shown.{shown_screen};
+ghost use Rattle.event_loop_laws.specs.declared.reply.Reply.TheVariants.{Done, No};
+ghost use Rattle.event_loop_laws.specs.Desktop.{empty_desktop, file_of, filed};
+ghost use Rattle.event_loop_laws.specs.Seen.{seen, kept_from, bytes_made};
+ghost use Rattle.event_loop_laws.specs.Step.{step, step_over, fits};
+ghost use Rattle.event_loop_laws.specs.Sound.{IsSound, IsKeptWhole};
+ghost use Rattle.event_loop_laws.specs.Listing.{entries_of};
+ghost use Rattle.event_loop_laws.specs.Shown.{shown_screen};
 
-use crate::entry::Entry;
 use crate::files::{Files, entries, has_room, held_with, put, text_of};
 use crate::made::new_text;
-use crate::reply::{Reply, codes};
 use crate::stop::{NoMemory, Stop};
 use char_file::CharSource;
 use event_bytes::{Event, FileBytes, Name};
+use event_loop_laws::{Entry, Reply, codes};
 use piece_ring::DEFAULT_LOOK;
 use screen_cells::{Screen, all_filler_without_viewers};
 use std::alloc::Global;
@@ -44,11 +43,11 @@ pub struct Desktop {
 }
 
 impl Model for Desktop {
-    ghost use Rattle.event_loop.specs.Desktop.{KeptDesktop};
+    ghost use Rattle.event_loop_laws.specs.Desktop.{KeptDesktop};
 
     ghost Value = { KeptDesktop };
 
-    ghost use Rattle.event_loop.specs.Sound.{IsKeptWhole};
+    ghost use Rattle.event_loop_laws.specs.Sound.{IsKeptWhole};
     ghost use Rattle.event_loop.specs.Flat.{kept};
 
     ghost view = { λ d. kept d.files.entries d.written };

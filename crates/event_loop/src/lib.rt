@@ -8,17 +8,12 @@
 #![tactic(auto)]
 
 mod desktop;
-mod entry;
 mod files;
-mod laws;
 mod made;
-mod reply;
 mod stop;
 
 pub use desktop::Desktop;
-pub use entry::Entry;
-pub use laws::{empty_is_sound, step_keeps_sound, steps_of_more};
-pub use reply::{Reply, codes};
+pub use event_loop_laws::{Entry, Reply, codes};
 pub use stop::{NoMemory, Stop};
 
 #[cfg(test)]

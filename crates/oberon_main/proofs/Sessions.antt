@@ -3,9 +3,9 @@ use Rattle.std.proofs.Common.{◌≡◌, ℕ, ◌+◌, ◌<◌, ◌≤◌, List,
 use Rattle.std.specs.Prelude.{codes}
 use Rattle.std.proofs.lemmas.Bool.{cond-true, cond-false, le-leb, lt-leb}
 use Rattle.event_bytes.specs.declared.event.Event.{Event}
-use Rattle.event_loop.specs.declared.reply.Reply.{Reply}
-use Rattle.event_loop.specs.Desktop.{Desktop}
-use Rattle.event_loop.specs.Step.{step}
+use Rattle.event_loop_laws.specs.declared.reply.Reply.{Reply}
+use Rattle.event_loop_laws.specs.Desktop.{Desktop}
+use Rattle.event_loop_laws.specs.Step.{step}
 use Rattle.oberon_main.specs.declared.request.Request.TheVariants.{Post}
 use Rattle.oberon_main.specs.Script.{ended}
 use Rattle.oberon_main.specs.Answer.{reply_line}

@@ -5,10 +5,10 @@ use Rattle.std.specs.Fmt.{decimal, signed_decimal}
 use Rattle.std.specs.Ordering.{int_eq}
 use Rattle.piece_ring.specs.declared.piece.Look.{Look}
 use Rattle.piece_ring.specs.Text.{Text}
-use Rattle.event_loop.specs.declared.reply.Reply.{Reply}
-use Rattle.event_loop.specs.declared.reply.Reply.TheVariants.{Done, No}
-use Rattle.event_loop.specs.declared.entry.Entry.{Entry}
-use Rattle.event_loop.specs.declared.entry.Entry.TheVariants.{File, Written}
+use Rattle.event_loop_laws.specs.declared.reply.Reply.{Reply}
+use Rattle.event_loop_laws.specs.declared.reply.Reply.TheVariants.{Done, No}
+use Rattle.event_loop_laws.specs.declared.entry.Entry.{Entry}
+use Rattle.event_loop_laws.specs.declared.entry.Entry.TheVariants.{File, Written}
 use Rattle.oberon_main.specs.Script.{ended}
 use Rattle.oberon_main.specs.Request.{is_printable}
 

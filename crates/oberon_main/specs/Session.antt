@@ -1,9 +1,9 @@
 -- What a script is answered, line by line.
 use Rattle.std.specs.Prelude.{ℕ, ◌+◌, Bool, nat_le, if◌then◌else◌, List, [], ◌∷◌, ◌++◌, codes}
-use Rattle.event_loop.specs.Desktop.{Desktop, file_of}
-use Rattle.event_loop.specs.Step.{step}
-use Rattle.event_loop.specs.Listing.{entries_of}
-use Rattle.event_loop.specs.Shown.{shown_screen}
+use Rattle.event_loop_laws.specs.Desktop.{Desktop, file_of}
+use Rattle.event_loop_laws.specs.Step.{step}
+use Rattle.event_loop_laws.specs.Listing.{entries_of}
+use Rattle.event_loop_laws.specs.Shown.{shown_screen}
 use Rattle.screen_cells.specs.Printed.{printed}
 use Rattle.oberon_main.specs.declared.request.Request.{Request}
 use Rattle.oberon_main.specs.declared.request.Request.TheVariants.{Post, Show, Listing, Display, Malformed}

@@ -2,7 +2,7 @@ use Rattle.std.proofs.Common.{◌≡◌, ◌+◌, refl, sym, ◌∙◌, ap, subs
 use Rattle.std.proofs.lemmas.List.{take_more, take_all}
 use Rattle.std.proofs.lemmas.Result.{IfOk-weaker}
 use Rattle.sector_disk.specs.Trail.{now}
-use Rattle.event_loop.specs.Step.{step, steps}
+use Rattle.event_loop_laws.specs.Step.{step, steps}
 use Rattle.desk_journal.specs.Meaning.{Means}
 use Rattle.desk_journal.proofs.Recording.{steps_on}
 use Rattle.desk_journal.proofs.Running.{shows_means}

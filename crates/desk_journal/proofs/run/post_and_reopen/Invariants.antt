@@ -1,6 +1,6 @@
 use Rattle.std.proofs.Common.{◌≡◌, take, false}
 use Rattle.std.specs.Prelude.{◌↔◌}
-use Rattle.event_loop.specs.Step.{steps}
+use Rattle.event_loop_laws.specs.Step.{steps}
 use Rattle.desk_journal.proofs.run.post_and_reopen.Given as goal
 
 -- the events so far were posted

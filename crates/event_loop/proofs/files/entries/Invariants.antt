@@ -1,6 +1,6 @@
 use Rattle.std.proofs.Common.{◌≡◌, ◌++◌, map}
 use Rattle.event_loop.specs.Flat.{files_in}
-use Rattle.event_loop.specs.Listing.{file_entry}
+use Rattle.event_loop_laws.specs.Listing.{file_entry}
 use Rattle.event_loop.proofs.files.entries.Given as goal
 
 -- the entries so far and those to come

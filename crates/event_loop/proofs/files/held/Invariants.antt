@@ -1,6 +1,6 @@
 use Rattle.std.proofs.Common.{◌≡◌, ◌+◌, sum_by, length}
 use Rattle.piece_ring.specs.Flat.{flat}
-use Rattle.event_loop.specs.Files.{characters}
+use Rattle.event_loop_laws.specs.Tables.{characters}
 use Rattle.event_loop.specs.Flat.{files_in}
 use Rattle.event_loop.proofs.files.held.Given as goal
 

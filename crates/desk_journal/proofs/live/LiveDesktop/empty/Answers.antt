@@ -1,6 +1,6 @@
 use Rattle.std.proofs.Common.{◌≡◌, ◌∙◌, length, refl, sym, ap}
-use Rattle.event_loop.specs.Desktop.{KeptDesktop, Desktop, empty_desktop}
-use Rattle.event_loop.specs.Seen.{seen}
+use Rattle.event_loop_laws.specs.Desktop.{KeptDesktop, Desktop, empty_desktop}
+use Rattle.event_loop_laws.specs.Seen.{seen}
 use Rattle.desk_journal.proofs.live.LiveDesktop.empty.Goals as goal
 
 pub returns-clause-empty : goal.returns-clause-empty

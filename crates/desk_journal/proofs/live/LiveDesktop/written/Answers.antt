@@ -1,4 +1,4 @@
-use Rattle.event_loop.specs.Seen.{seen}
+use Rattle.event_loop_laws.specs.Seen.{seen}
 use Rattle.desk_journal.proofs.live.LiveDesktop.written.Goals as goal
 
 pub returns : goal.returns

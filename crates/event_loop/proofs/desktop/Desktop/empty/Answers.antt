@@ -1,8 +1,8 @@
 use Rattle.std.proofs.Common.{◌∙◌, ◌<◌, ◌≡◌, sym, ap, subst, arith, rules, List, []}
-use Rattle.event_loop.specs.Desktop.{KeptDesktop, empty_desktop}
+use Rattle.event_loop_laws.specs.Desktop.{KeptDesktop, empty_desktop}
 use Rattle.event_loop.specs.Flat.{kept}
-use Rattle.event_loop.specs.Sound.{IsKeptWhole}
-use Rattle.event_loop.proofs.SoundLemmas.{empty_whole}
+use Rattle.event_loop_laws.specs.Sound.{IsKeptWhole}
+use Rattle.event_loop_laws.specs.Soundness.{empty_whole}
 use Rattle.event_loop.proofs.StepLemmas.{empty_is}
 use Rattle.event_loop.proofs.desktop.Desktop.empty.Goals as goal
 

@@ -1,7 +1,7 @@
 use Rattle.std.proofs.Common.{◌∙◌, ap, subst}
 use Rattle.piece_ring.specs.Flat.{flat}
-use Rattle.event_loop.specs.Desktop.{KeptDesktop, file_of}
-use Rattle.event_loop.specs.Sound.{IsKeptWhole}
+use Rattle.event_loop_laws.specs.Desktop.{KeptDesktop, file_of}
+use Rattle.event_loop_laws.specs.Sound.{IsKeptWhole}
 use Rattle.event_loop.proofs.FileLemmas.{handed_within}
 use Rattle.event_loop.proofs.SeenLemmas.{seen_found}
 use Rattle.event_loop.proofs.desktop.Desktop.file.Goals as goal

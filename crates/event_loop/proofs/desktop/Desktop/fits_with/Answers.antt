@@ -1,7 +1,7 @@
 use Rattle.std.proofs.Common.{◌+◌, ◌∙◌, ap, sym, arith, nat_le}
-use Rattle.event_loop.specs.Desktop.{KeptDesktop, filed}
+use Rattle.event_loop_laws.specs.Desktop.{KeptDesktop, filed}
 use Rattle.event_loop.specs.Flat.{kept}
-use Rattle.event_loop.specs.Step.{fits}
+use Rattle.event_loop_laws.specs.Step.{fits}
 use Rattle.event_loop.proofs.StepLemmas.{held_small, within, written_past}
 use Rattle.event_loop.proofs.desktop.Desktop.fits_with.Goals as goal
 

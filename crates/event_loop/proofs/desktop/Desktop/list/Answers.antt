@@ -1,7 +1,7 @@
 use Rattle.std.proofs.Common.{◌∙◌, sym, ap, [], ◌∷◌, ◌++◌}
-use Rattle.event_loop.specs.declared.entry.Entry.TheVariants.{Written}
-use Rattle.event_loop.specs.Desktop.{KeptDesktop}
-use Rattle.event_loop.specs.Listing.{entries_of}
+use Rattle.event_loop_laws.specs.declared.entry.Entry.TheVariants.{Written}
+use Rattle.event_loop_laws.specs.Desktop.{KeptDesktop}
+use Rattle.event_loop_laws.specs.Listing.{entries_of}
 use Rattle.event_loop.proofs.ListLemmas.{seen_entries}
 use Rattle.event_loop.proofs.desktop.Desktop.list.Goals as goal
 

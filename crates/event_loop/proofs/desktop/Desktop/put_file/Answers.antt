@@ -1,11 +1,11 @@
 use Rattle.std.proofs.Common.{◌≡◌, ◌+◌, ◌∙◌, length, refl, sym, ap, subst, true, false, arith}
 use Rattle.piece_ring.specs.Look.{default_look}
 use Rattle.event_bytes.specs.declared.event.Event.TheVariants.{File}
-use Rattle.event_loop.specs.Files.{has_room}
-use Rattle.event_loop.specs.Desktop.{KeptDesktop, in_look, filed}
-use Rattle.event_loop.specs.Seen.{kept_from}
-use Rattle.event_loop.specs.Step.{fits, step_over}
-use Rattle.event_loop.specs.declared.reply.Reply.TheVariants.{Done}
+use Rattle.event_loop_laws.specs.Tables.{has_room}
+use Rattle.event_loop_laws.specs.Desktop.{KeptDesktop, in_look, filed}
+use Rattle.event_loop_laws.specs.Seen.{kept_from}
+use Rattle.event_loop_laws.specs.Step.{fits, step_over}
+use Rattle.event_loop_laws.specs.declared.reply.Reply.TheVariants.{Done}
 use Rattle.event_loop.specs.Flat.{kept, files_in}
 use Rattle.event_loop.proofs.MadeLemmas.{length_made, fit_written, filed_kept, filed_whole}
 use Rattle.event_loop.proofs.StepLemmas.{no_room, no_fit, done}

@@ -2,7 +2,7 @@ use Rattle.std.proofs.Common.{ℕ, ◌∙◌, ap, None}
 use Rattle.viewer_tracks.specs.Columns.{Columns, no_viewers}
 use Rattle.screen_cells.specs.Picture.{picture}
 use Rattle.screen_cells.specs.Screen.{screen_of, cell_at}
-use Rattle.event_loop.specs.Shown.{shown_screen}
+use Rattle.event_loop_laws.specs.Shown.{shown_screen}
 use Rattle.event_loop.proofs.desktop.Desktop.screen.Goals as goal
 
 pub returns-clause-shown : goal.returns-clause-shown

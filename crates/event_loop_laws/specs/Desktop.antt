@@ -3,7 +3,7 @@
 use Rattle.std.specs.Prelude.{ℕ, ◌+◌, List, [], length, map, Option}
 use Rattle.piece_ring.specs.declared.piece.Look.{Look}
 use Rattle.piece_ring.specs.Text.{Text}
-use Rattle.event_loop.specs.Files.{Files, text_of, put, characters}
+use Rattle.event_loop_laws.specs.Tables.{Files, text_of, put, characters}
 
 pub record DesktopOver (X : Type 0) : Type 0 where
   pub files : Files X

@@ -3,11 +3,11 @@ use Rattle.std.specs.Prelude.{ℕ, ◌&&◌, nat_le, Bool, if◌then◌else◌, 
 use Rattle.piece_ring.specs.Look.{default_look}
 use Rattle.event_bytes.specs.declared.event.Event.{Event}
 use Rattle.event_bytes.specs.declared.event.Event.TheVariants.{File}
-use Rattle.event_loop.specs.declared.reply.Reply.{Reply}
-use Rattle.event_loop.specs.declared.reply.Reply.TheVariants.{Done, No}
-use Rattle.event_loop.specs.Limits.{most_written, most_held, full, too_many_files}
-use Rattle.event_loop.specs.Files.{has_room}
-use Rattle.event_loop.specs.Desktop.{DesktopOver, Desktop, in_look, filed, held}
+use Rattle.event_loop_laws.specs.declared.reply.Reply.{Reply}
+use Rattle.event_loop_laws.specs.declared.reply.Reply.TheVariants.{Done, No}
+use Rattle.event_loop_laws.specs.Limits.{most_written, most_held, full, too_many_files}
+use Rattle.event_loop_laws.specs.Tables.{has_room}
+use Rattle.event_loop_laws.specs.Desktop.{DesktopOver, Desktop, in_look, filed, held}
 
 module _ {X : Type 0} where
   -- within the limits on characters

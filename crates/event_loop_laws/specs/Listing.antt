@@ -1,9 +1,9 @@
 -- What a listing of a desktop says.
 use Rattle.std.specs.Prelude.{ℕ, List, [], ◌∷◌, ◌++◌, length, map}
 use Rattle.piece_ring.specs.Text.{Text}
-use Rattle.event_loop.specs.declared.entry.Entry.{Entry}
-use Rattle.event_loop.specs.declared.entry.Entry.TheVariants.{File, Written}
-use Rattle.event_loop.specs.Desktop.{DesktopOver}
+use Rattle.event_loop_laws.specs.declared.entry.Entry.{Entry}
+use Rattle.event_loop_laws.specs.declared.entry.Entry.TheVariants.{File, Written}
+use Rattle.event_loop_laws.specs.Desktop.{DesktopOver}
 
 module _ {X : Type 0} where
   abbrev pub file_entry : List ℕ × Text X → Entry

@@ -3,8 +3,8 @@ use Rattle.std.specs.Prelude.{ℕ, suc, List, [], ◌∷◌, map, slice_index}
 use Rattle.piece_ring.specs.Renaming.{renamed}
 use Rattle.event_bytes.specs.declared.event.Event.{Event}
 use Rattle.event_bytes.specs.declared.event.Event.TheVariants.{File}
-use Rattle.event_loop.specs.Desktop.{DesktopOver, Desktop, KeptDesktop}
-use Rattle.event_loop.specs.Files.{Files}
+use Rattle.event_loop_laws.specs.Desktop.{DesktopOver, Desktop, KeptDesktop}
+use Rattle.event_loop_laws.specs.Tables.{Files}
 
 -- f of each character
 abbrev pub renamed_files : {X Y : Type 0} → (X → Y) → Files X → Files Y

@@ -2,9 +2,9 @@
 ghost use Rattle.std.specs.Prelude.{◌≡◌, ℕ, List, [], ◌∷◌, ◌++◌};
 ghost use Rattle.event_bytes.specs.declared.event.Event.{Event};
 ghost use Rattle.event_bytes.specs.Spelling.{IsEvent};
-ghost use Rattle.event_loop.specs.Desktop.{Desktop, empty_desktop};
-ghost use Rattle.event_loop.specs.Step.{step, steps};
-ghost use Rattle.event_loop.specs.Sound.{IsSound};
+ghost use Rattle.event_loop_laws.specs.Desktop.{Desktop, empty_desktop};
+ghost use Rattle.event_loop_laws.specs.Step.{step, steps};
+ghost use Rattle.event_loop_laws.specs.Sound.{IsSound};
 
 /// The empty desktop is sound.
 pub fn empty_is_sound()

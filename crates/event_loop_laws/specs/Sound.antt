@@ -4,9 +4,9 @@ use Rattle.std.specs.List.{All}
 use Rattle.std.specs.List.Sorted.{IsStrictlySortedBy}
 use Rattle.event_bytes.specs.Bytes.{is_name}
 use Rattle.piece_ring.specs.Offsets.{AreWithin}
-use Rattle.event_loop.specs.Limits.{most_files, most_written, most_held}
-use Rattle.event_loop.specs.Files.{name_cmp, names, texts}
-use Rattle.event_loop.specs.Desktop.{DesktopOver, KeptDesktop, held}
+use Rattle.event_loop_laws.specs.Limits.{most_files, most_written, most_held}
+use Rattle.event_loop_laws.specs.Tables.{name_cmp, names, texts}
+use Rattle.event_loop_laws.specs.Desktop.{DesktopOver, KeptDesktop, held}
 
 pub record IsSound {X : Type 0} (d : DesktopOver X) : Type 0 where
   pub named : All (λ name. IsTrue (is_name name)) (names d.files)

@@ -20,12 +20,12 @@ use Rattle.piece_ring.specs.Look.{default_look}
 use Rattle.piece_ring.specs.Text.{Text}
 use Rattle.event_bytes.specs.Bytes.{is_name}
 use Rattle.event_bytes.specs.Spelling.{IsEvent}
-use Rattle.event_loop.specs.declared.reply.Reply.{Reply}
-use Rattle.event_loop.specs.declared.reply.Reply.TheVariants.{Done, No}
-use Rattle.event_loop.specs.Files.{name_cmp, text_of, has_room, put, names}
-use Rattle.event_loop.specs.Desktop.{DesktopOver, Desktop, empty_desktop, in_look, filed, held}
-use Rattle.event_loop.specs.Step.{raw, fits, settled, step_over, itself, step}
-use Rattle.event_loop.specs.Sound.{IsSound, IsKeptWhole}
+use Rattle.event_loop_laws.specs.declared.reply.Reply.{Reply}
+use Rattle.event_loop_laws.specs.declared.reply.Reply.TheVariants.{Done, No}
+use Rattle.event_loop_laws.specs.Tables.{name_cmp, text_of, has_room, put, names}
+use Rattle.event_loop_laws.specs.Desktop.{DesktopOver, Desktop, empty_desktop, in_look, filed, held}
+use Rattle.event_loop_laws.specs.Step.{raw, fits, settled, step_over, itself, step}
+use Rattle.event_loop_laws.specs.Sound.{IsSound, IsKeptWhole}
 
 -- ---- a put in order
 

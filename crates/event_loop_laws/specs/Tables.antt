@@ -6,7 +6,7 @@ use Rattle.std.specs.declared.cmp.Ordering.{Ordering}
 use Rattle.std.specs.Cmp.Lexicographic.{slice_cmp}
 use Rattle.std.specs.BTreeMap.{is_at, insert_entry}
 use Rattle.piece_ring.specs.Text.{Text}
-use Rattle.event_loop.specs.Limits.{most_files}
+use Rattle.event_loop_laws.specs.Limits.{most_files}
 
 -- A file is a name and its text. Files stand by rising names, one of a name.
 abbrev pub Files : Type 0 → Type 0

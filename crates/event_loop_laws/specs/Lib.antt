@@ -1,0 +1,9 @@
+pub mod Limits
+pub mod Tables
+pub mod Desktop
+pub mod Seen
+pub mod Step
+pub mod Sound
+pub mod Soundness
+pub mod Listing
+pub mod Shown
