@@ -8,7 +8,7 @@ folder=$(mktemp -d -p "${2:-$top}")
 trap 'rm -rf "$folder"' EXIT
 cc -O2 -o "$folder/bare" "$top/bench/durable.c"
 "$top/oberon" < /dev/null
-program=$top/crates/oberon_main/out/oberon_main
+program=$top/crates/oberon/out/oberon
 for k in $(seq 256); do echo 'file A.Text hello'; done > "$folder/script"
 
 # Nanoseconds that a command takes.

@@ -28,7 +28,7 @@ play() {
     LD_PRELOAD=./refuse.so REFUSE=$number REFUSED=refused "$program" "$@" < "$tests/scripts/hello.in" > got 2> said
 }
 
-program=$(dirname "$OBERON")/crates/oberon_main/out/oberon_main
+program=$(dirname "$OBERON")/crates/oberon/out/oberon
 for order in memory file; do
     number=0
     while :; do

@@ -3,7 +3,7 @@ pub mod Feeds
 pub mod Gathering
 pub mod LongLines
 pub mod Percent
-pub mod Playing
+pub mod Played
 pub mod Sessions
 pub mod Splitting
 pub mod Stretches

@@ -2,8 +2,8 @@
 -- reader has left.
 use Rattle.std.specs.Prelude.{◌≡◌, ◌≢◌, ℕ, List, [], ◌∷◌, ◌++◌, Option, Some, codes}
 use Rattle.std.specs.Io.KnownBytes.{Appends, Consumes, Keeps}
-use Rattle.oberon_main.specs.declared.play.PlayEnd.{PlayEnd}
-use Rattle.oberon_main.specs.declared.play.PlayEnd.TheVariants.{Done, Fault, Memory, Input, Output}
+use Rattle.oberon_main.specs.declared.playing.PlayEnd.{PlayEnd}
+use Rattle.oberon_main.specs.declared.playing.PlayEnd.TheVariants.{Done, Fault, Memory, Input, Output}
 use Rattle.oberon_main.specs.Script.{ended, IsSplit, lines_at_end, BeginsWith}
 use Rattle.oberon_main.specs.declared.request.Request.{Request}
 use Rattle.oberon_main.specs.declared.request.Request.TheVariants.{Malformed}

@@ -3,8 +3,8 @@ use Rattle.std.specs.Prelude.{ℕ, List, ◌++◌, codes}
 use Rattle.std.specs.Fmt.{decimal}
 use Rattle.desk_journal.specs.declared.error.Error.{Error}
 use Rattle.desk_journal.specs.declared.error.Error.TheVariants.{NoMemory, NotAStore, Damaged}
-use Rattle.oberon_main.specs.declared.play.PlayEnd.{PlayEnd}
-use Rattle.oberon_main.specs.declared.play.PlayEnd.TheVariants.{Done, Memory}
+use Rattle.oberon_main.specs.declared.playing.PlayEnd.{PlayEnd}
+use Rattle.oberon_main.specs.declared.playing.PlayEnd.TheVariants.{Done, Memory}
 use Rattle.oberon_main.specs.Script.{ended}
 
 -- a store that can be used: its layout, its epoch, and how many events its journal has

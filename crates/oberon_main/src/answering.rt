@@ -2,7 +2,7 @@
 ghost use Rattle.std.specs.Prelude.{◌≡◌, ◌⊎◌, ◌<◌, ◌↔◌, false, IfOk, IfErr, IsOk, OnOk, IsErrOf};
 ghost use Rattle.event_bytes.specs.declared.event.Event.{Event as AnEvent};
 ghost use Rattle.oberon_main.specs.declared.request.Request.TheVariants.{Post, Show, Listing, Display, Malformed};
-ghost use Rattle.oberon_main.specs.declared.play.PlayEnd.TheVariants as ends;
+ghost use Rattle.oberon_main.specs.declared.playing.PlayEnd.TheVariants as ends;
 ghost use Rattle.oberon_main.specs.Session.{answer, after};
 ghost use Rattle.oberon_main.specs.Opened.{session_of};
 ghost use Rattle.oberon_main.specs.Worked.{bytes_of};
@@ -10,7 +10,7 @@ ghost use Rattle.oberon_main.specs.Worked.{bytes_of};
 use crate::answer::{
     ShortLine, list_bytes, refusal_bytes, reply_bytes, screen_bytes, short_line, text_bytes,
 };
-use crate::play::PlayEnd;
+use crate::playing::PlayEnd;
 use crate::request::Request;
 use desk_journal::{Error, Store};
 use event_bytes::{Event, Name};

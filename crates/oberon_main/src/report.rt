@@ -1,12 +1,12 @@
 //! What is said of a store, and the statuses of the program.
 ghost use Rattle.std.specs.Prelude.{◌≡◌, ◌⊎◌, ◌++◌, false, OnOk, OnErr};
 ghost use Rattle.std.specs.Io.KnownBytes.{Appends};
-ghost use Rattle.oberon_main.specs.declared.play.PlayEnd.TheVariants as ends;
+ghost use Rattle.oberon_main.specs.declared.playing.PlayEnd.TheVariants as ends;
 ghost use Rattle.screen_cells.specs.Sent.{AppendsFront};
 ghost use Rattle.oberon_main.specs.Report.{check_line, refusal_line, refusal_status, end_status};
 
 use crate::answer::{ShortLine, decimal_digits, numbered_line, short_line};
-use crate::play::PlayEnd;
+use crate::playing::PlayEnd;
 use crate::sending::{OutputFault, send};
 use arrayvec::ArrayVec;
 use desk_journal::{Error, Store};

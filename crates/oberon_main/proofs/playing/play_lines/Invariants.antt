@@ -1,8 +1,8 @@
 use Rattle.std.proofs.Common.{◌≡◌, false}
 use Rattle.oberon_main.specs.Reading.{most_lines}
 use Rattle.oberon_main.specs.Opened.{session_of}
-use Rattle.oberon_main.proofs.Playing.{HasPlayed}
-use Rattle.oberon_main.proofs.play.play_lines.Given as goal
+use Rattle.oberon_main.proofs.Played.{HasPlayed}
+use Rattle.oberon_main.proofs.playing.play_lines.Given as goal
 
 abbrev pub invariant-loop-line : goal.invariant-loop-line
 invariant-loop-line g l = record {

@@ -1,7 +1,7 @@
 //! Playing a script over a store.
 ghost use Rattle.std.specs.Prelude.{◌≡◌, ◌<◌, ◌↔◌, ◌⊎◌, ℕ, List, [], false, OnOk, OnErr, IsOk, IfErr, IsErrOf, IfSome};
 ghost use Rattle.std.specs.Io.KnownBytes.{Appends, Keeps};
-ghost use Rattle.oberon_main.specs.declared.play.PlayEnd.TheVariants as ends;
+ghost use Rattle.oberon_main.specs.declared.playing.PlayEnd.TheVariants as ends;
 ghost use Rattle.screen_cells.specs.Sent.{AppendsFront};
 ghost use Rattle.oberon_main.specs.Request.{request_of};
 ghost use Rattle.oberon_main.specs.Reading.{Holds};

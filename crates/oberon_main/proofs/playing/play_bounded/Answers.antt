@@ -1,6 +1,6 @@
 use Rattle.std.proofs.lemmas.Bool.{false≢true}
-use Rattle.oberon_main.proofs.Playing.{said, unsaid}
-use Rattle.oberon_main.proofs.play.play_bounded.Goals as goal
+use Rattle.oberon_main.proofs.Played.{said, unsaid}
+use Rattle.oberon_main.proofs.playing.play_bounded.Goals as goal
 
 pub returns-in-Err-clause-told : goal.returns-in-Err-clause-told
 returns-in-Err-clause-told g c = λ honest. unsaid c.play_lines-end.result _ _ _ _ _ _ _

@@ -1,6 +1,6 @@
 use Rattle.std.proofs.Common.{refl, ◌∙◌}
-use Rattle.oberon_main.proofs.Playing.{played_none, played_more, stopped_in_line, ended_with_rest, cut_off}
-use Rattle.oberon_main.proofs.play.play_lines.Goals as goal
+use Rattle.oberon_main.proofs.Played.{played_none, played_more, stopped_in_line, ended_with_rest, cut_off}
+use Rattle.oberon_main.proofs.playing.play_lines.Goals as goal
 
 pub returns-in-Err-clause-told : goal.returns-in-Err-clause-told
 returns-in-Err-clause-told g c = stopped_in_line _ c.in-Err.end _ _ _ _ _ _ _ _ _ _ _ _ c.loop-line.invariant.played (c.in-Feed.ensures.line refl)

@@ -4,8 +4,8 @@ use Rattle.std.specs.List.{AllByRecursion, flat_map}
 use Rattle.std.specs.Io.KnownBytes.{Appends, Consumes, Keeps, IsAtEnd}
 use Rattle.std.proofs.KnownBytes.{Consumes-nil, Consumes-trans, Appends-nil, Appends-trans, Appends-kept}
 use Rattle.std.proofs.lemmas.List.Concat.{flat_map-append}
-use Rattle.oberon_main.specs.declared.play.PlayEnd.{PlayEnd}
-use Rattle.oberon_main.specs.declared.play.PlayEnd.TheVariants.{Done, Fault, Memory, Input, Output}
+use Rattle.oberon_main.specs.declared.playing.PlayEnd.{PlayEnd}
+use Rattle.oberon_main.specs.declared.playing.PlayEnd.TheVariants.{Done, Fault, Memory, Input, Output}
 use Rattle.oberon_main.specs.declared.request.Request.TheVariants.{Malformed}
 use Rattle.oberon_main.specs.declared.line.Line.{Line}
 use Rattle.oberon_main.specs.Script.{ended, IsLine, IsSplit, lines_at_end, BeginsWith}

@@ -1,0 +1,128 @@
+//! The Oberon desktop as a program: `arguments` reads what it is asked to do, `host` locks the store's file, and the rest is the library's.
+#![tactic(auto)]
+
+mod arguments;
+mod host;
+
+use crate::arguments::{Order, Refusal, order_of, words};
+use crate::host::{lock_alone, lock_or_make, lock_shared, sync_folder};
+use desk_journal::{Error, Store};
+use oberon_main::{check, play, refuse, send, status};
+use screen_cells::Screen;
+use sector_disk::{Disk, FileDisk, MemoryDisk};
+use std::process::ExitCode;
+
+/// How many sectors a store in memory has.
+const SECTORS: u32 = 15_621;
+
+/// The status where the arguments are none of the program's.
+const USAGE: u8 = 2;
+
+/// The status where the disk, the input or the output failed.
+const FAULT: u8 = 4;
+
+/// The program. Its status is 0 when done, 2 for other arguments, 3 where there is no store or a damaged one, 4 after a fault of the disk, the input or the output, and 5 for want of memory.
+fn main(rt: HostRuntime) -> ExitCode {
+    ExitCode::from(run(&rt))
+}
+
+/// Does what the arguments ask for, and returns the status.
+fn run(rt: &HostRuntime) -> u8 {
+    let words = match words(rt) {
+        Ok(words) => words,
+        Err(refusal) => return decline(rt, refusal),
+    };
+    let done = match order_of(rt.alloc(), words.as_slice()) {
+        Ok(Order::PlayInMemory) => play_in_memory(rt),
+        Ok(Order::Format(path)) => format_file(rt, path),
+        Ok(Order::Play(path)) => play_file(rt, path),
+        Ok(Order::Screen(path)) => print_file(rt, path),
+        Ok(Order::Check(path)) => check_file(rt, path),
+        Err(refusal) => return decline(rt, refusal),
+    };
+    match done {
+        Ok(status) => status,
+        Err(error) => refuse(&mut rt.stderr(), &error),
+    }
+}
+
+/// Says on standard error why the arguments weren't taken, and returns the status.
+fn decline(rt: &HostRuntime, refusal: Refusal) -> u8 {
+    match refusal {
+        Refusal::Memory => refuse(&mut rt.stderr(), &Error::NoMemory),
+        Refusal::Usage => {
+            let _ = eprintln!(rt; "usage: oberon format|play|screen|check PATH");
+            USAGE
+        }
+    }
+}
+
+/// Plays the script on standard input over a new store in memory.
+fn play_in_memory(rt: &HostRuntime) -> Result<u8, Error> {
+    let disk = MemoryDisk::new(rt.alloc(), SECTORS)?;
+    match Store::format(disk) {
+        Ok(disk) => play_over(rt, disk),
+        Err((error, _disk)) => Err(error),
+    }
+}
+
+/// Makes a new store in the file, and says so when the store and the file's name are durable.
+fn format_file(rt: &HostRuntime, path: &str) -> Result<u8, Error> {
+    let _lock = lock_or_make(rt, path)?;
+    let disk = FileDisk::create(rt, path)?;
+    if let Err((error, _disk)) = Store::format(disk) {
+        return Err(error);
+    }
+    sync_folder(rt, path)?;
+    match send(&mut rt.stdout(), b"ok\n") {
+        Ok(()) => Ok(0),
+        Err(_) => Ok(FAULT),
+    }
+}
+
+/// Plays the script on standard input over the store in the file.
+fn play_file(rt: &HostRuntime, path: &str) -> Result<u8, Error> {
+    let _lock = lock_alone(rt, path)?;
+    play_over(rt, FileDisk::open(rt, path)?)
+}
+
+/// Prints the screen of the store in the file.
+fn print_file(rt: &HostRuntime, path: &str) -> Result<u8, Error> {
+    let _lock = lock_shared(rt, path)?;
+    match Store::open(rt.alloc(), FileDisk::open(rt, path)?) {
+        Ok(mut store) => print_screen(rt, &mut store),
+        Err((error, _disk)) => Err(error),
+    }
+}
+
+/// Prints the screen of a store on standard output.
+fn print_screen<D: Disk>(rt: &HostRuntime, store: &mut Store<D>) -> Result<u8, Error> {
+    let mut screen = Screen::new();
+    store.screen(rt.alloc(), &mut screen)?;
+    match screen.print(&mut rt.stdout()) {
+        Ok(()) => Ok(0),
+        Err(_) => Ok(FAULT),
+    }
+}
+
+/// Says of the store in the file that it can be used.
+fn check_file(rt: &HostRuntime, path: &str) -> Result<u8, Error> {
+    let _lock = lock_shared(rt, path)?;
+    match Store::open(rt.alloc(), FileDisk::open(rt, path)?) {
+        Ok(store) => Ok(status(&check(&mut rt.stdout(), &store))),
+        Err((error, _disk)) => Err(error),
+    }
+}
+
+/// Plays the script on standard input over the store on a disk.
+fn play_over<D: Disk + Drop>(rt: &HostRuntime, disk: D) -> Result<u8, Error> {
+    match Store::open(rt.alloc(), disk) {
+        Ok(mut store) => Ok(status(&play(
+            rt.alloc(),
+            &mut rt.stdin(),
+            &mut rt.stdout(),
+            &mut store,
+        ))),
+        Err((error, _disk)) => Err(error),
+    }
+}
