@@ -3,3 +3,8 @@
 //! They stand in one crate at the top, since a crate with tests is proved twice. What a module tests is what no clause says: worked rows, texts
 //! as they are printed, that a call can succeed, and what happens where a device or an allocation fails in mid-stream.
 #![tactic(auto)]
+
+#[cfg(test)]
+mod disks;
+#[cfg(test)]
+mod tracks;

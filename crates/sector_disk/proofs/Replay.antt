@@ -1,5 +1,32 @@
 -- One call more.
-use Rattle.std.proofs.Common.{◌≡◌, ◌⊎◌, inl, inr, ℕ, ◌+◌, ◌≤◌, List, [], ◌∷◌, ◌++◌, length, take, Result, Ok, Err, OnOk, OnErr, IsOk, refl, sym, ◌∙◌, ap, subst, arith, false}
+use Rattle.std.proofs.Common.{
+  ◌≡◌,
+  ◌⊎◌,
+  inl,
+  inr,
+  ℕ,
+  ◌+◌,
+  ◌≤◌,
+  List,
+  [],
+  ◌∷◌,
+  ◌++◌,
+  length,
+  take,
+  Result,
+  Ok,
+  Err,
+  OnOk,
+  OnErr,
+  IsOk,
+  refl,
+  sym,
+  ◌∙◌,
+  ap,
+  subst,
+  arith,
+  false,
+}
 use Rattle.std.proofs.lemmas.List.{length-append, take-append-le}
 use Rattle.std.proofs.Math.Seq.{take-length}
 use Rattle.std.proofs.lemmas.Bool.Decides.{nat_tests}
@@ -9,7 +36,8 @@ use Rattle.sector_disk.specs.Confined.{IsConfined}
 use Rattle.sector_disk.specs.Memory.{Recorded, blank, after, replayed, trail_of}
 use Rattle.sector_disk.proofs.Touching.{stays_put}
 
-pub replayed-append : (calls : List Call) (call : Call) (m : Moment) → replayed (calls ++ call ∷ []) m ≡ after call (replayed calls m)
+pub replayed-append : (calls : List Call) (call : Call) (m : Moment) → replayed (calls ++ call ∷ []) m ≡ after call
+    (replayed calls m)
 replayed-append [] call m = refl
 replayed-append (c ∷ calls) call m = replayed-append calls call (after c m)
 
@@ -26,12 +54,14 @@ module _ (calls new : List Call) (call : Call) (is : new ≡ calls ++ call ∷ [
   long = ap length is ∙ length-append calls (call ∷ [])
 
   pub now_after : now (trail_of new) ≡ after call (now (trail_of calls))
-  now_after = now-trail new ∙ ap (λ l. replayed l blank) is ∙ replayed-append calls call blank ∙ ap (after call) (sym (now-trail calls))
+  now_after = now-trail new ∙ ap (λ l. replayed l blank) is ∙ replayed-append calls call blank
+      ∙ ap (after call) (sym (now-trail calls))
 
   pub past : (t : ℕ) → t ≤ length calls → (trail_of new).at t ≡ (trail_of calls).at t
   past t le = ap (λ l. replayed l blank) (ap (take t) is ∙ take-append-le t calls (call ∷ []) le)
 
-  pub goes_on : (area : ℕ → Type 0) → Stays area (now (trail_of calls)) (after call (now (trail_of calls))) → Touches area (trail_of calls) (trail_of new)
+  pub goes_on : (area : ℕ → Type 0) → Stays area (now (trail_of calls)) (after call (now (trail_of calls)))
+      → Touches area (trail_of calls) (trail_of new)
   goes_on area step = record {
     later = omega (arith, long);
     kept = past;
@@ -49,34 +79,53 @@ module _ (calls new : List Call) (call : Call) (is : new ≡ calls ++ call ∷ [
       near t above below = grind (arith, long)
 
 pub write_stays : (m : Moment) (n : ℕ) (bytes : List ℕ) → Stays (Only n) m (written m n bytes)
-write_stays m n bytes = record { reads = λ k other. grind (arith, nat_tests); settled = λ k other was. grind (arith, nat_tests) }
+write_stays m n bytes = record {
+  reads = λ k other. grind (arith, nat_tests);
+  settled = λ k other was. grind (
+    arith,
+    nat_tests,
+  );
+}
 
 pub sync_stays : (m : Moment) → Stays Nowhere m (settled m)
 sync_stays m = record { reads = λ k other. refl; settled = λ k other was. refl }
 
--- a disk in memory that recorded a call where it answered Ok, and nothing where it answered an error, is confined to the sectors that the call writes
-pub confined : {E : Type 0} (result : Result (Unit {0}) E) (area : ℕ → Type 0) (old new : Recorded) (call : Call) → new.size ≡ old.size
-    → OnOk result (new.calls ≡ old.calls ++ call ∷ []) → OnErr result (new.calls ≡ old.calls) → ((m : Moment) → Stays area m (after call m))
+-- a disk in memory that recorded a call where it returned Ok, and nothing where it returned an error, is confined to
+-- the sectors that the call writes
+pub confined : {E : Type 0} (result : Result (Unit {0}) E) (area : ℕ → Type 0) (old new : Recorded) (call : Call)
+    → new.size ≡ old.size
+    → OnOk result (new.calls ≡ old.calls ++ call ∷ []) → OnErr result (new.calls ≡ old.calls)
+    → ((m : Moment) → Stays area m (after call m))
     → IsConfined (λ d. d.size) (λ _. Unit {0}) (λ d. trail_of d.calls) area old new
-confined (Ok _) area old new call as_large is none stays = record { as_large = as_large; still = λ h. h; already = λ h. h; moments = λ _. goes_on old.calls new.calls call is area (stays _) }
+confined (Ok _) area old new call as_large is none stays = record {
+  as_large = as_large;
+  still = λ h. h;
+  already = λ h. h;
+  moments = λ _. goes_on old.calls new.calls call is area (stays _);
+}
 confined (Err _) area old new call as_large some is stays = record {
   as_large = as_large;
   still = λ h. h;
   already = λ h. h;
-  moments = λ _. subst (λ calls. Touches area (trail_of old.calls) (trail_of calls)) (sym is) (stays_put area (trail_of old.calls));
+  moments = λ _. subst (λ calls. Touches area (trail_of old.calls) (trail_of calls)) (sym is)
+      (stays_put area (trail_of old.calls));
 }
 
 -- what it holds then
-pub happened : {E : Type 0} (result : Result (Unit {0}) E) (old new : List Call) (call : Call) → OnOk result (new ≡ old ++ call ∷ []) → OnOk result (Unit {0} → now (trail_of new) ≡ after call (now (trail_of old)))
+pub happened : {E : Type 0} (result : Result (Unit {0}) E) (old new : List Call) (call : Call)
+    → OnOk result (new ≡ old ++ call ∷ [])
+    → OnOk result (Unit {0} → now (trail_of new) ≡ after call (now (trail_of old)))
 happened (Ok _) old new call is = λ _. now_after old new call is
 happened (Err _) old new call none = none
 
-pub nothing_happened : {E : Type 0} (result : Result (Unit {0}) E) (old new : List Call) → OnErr result (new ≡ old) → OnErr result (Unit {0} → now (trail_of new) ≡ now (trail_of old))
+pub nothing_happened : {E : Type 0} (result : Result (Unit {0}) E) (old new : List Call) → OnErr result (new ≡ old)
+    → OnErr result (Unit {0} → now (trail_of new) ≡ now (trail_of old))
 nothing_happened (Ok _) old new some = some
 nothing_happened (Err _) old new is = λ _. ap (λ calls. now (trail_of calls)) is
 
 -- a call that always succeeds counts no fault
-pub counts_none : {T E : Type 0} (result : Result T E) (old new : ℕ) → IsOk result → new ≡ old → CountsFault result old new
+pub counts_none : {T E : Type 0} (result : Result T E) (old new : ℕ) → IsOk result → new ≡ old
+    → CountsFault result old new
 counts_none (Ok _) old new done same = same
 counts_none (Err _) old new done same = absurd (cc)
 

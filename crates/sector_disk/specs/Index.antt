@@ -1,5 +1,19 @@
 -- The index of a record of calls: for each sector that was written, the places in the record at which its bytes stand.
-use Rattle.std.specs.Prelude.{◌≡◌, ◌<◌, ℕ, List, Bool, false, if◌then◌else◌, nat_lt, nat_le, length, IfSome, get_or, IfSome}
+use Rattle.std.specs.Prelude.{
+  ◌≡◌,
+  ◌<◌,
+  ℕ,
+  List,
+  Bool,
+  false,
+  if◌then◌else◌,
+  nat_lt,
+  nat_le,
+  length,
+  IfSome,
+  get_or,
+  IfSome,
+}
 use Rattle.std.specs.declared.option.Option.{Option}
 use Rattle.std.specs.declared.option.Option.TheVariants.{None, Some}
 use Rattle.std.specs.Ordering.{nat_cmp}

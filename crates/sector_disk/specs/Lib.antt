@@ -3,7 +3,5 @@ pub mod Confined
 pub mod Memory
 pub mod Index
 pub mod File
-pub mod Blocked
-pub mod Fuse
-pub mod OneFault
+pub mod Failing
 pub mod Faults

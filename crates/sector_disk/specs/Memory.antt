@@ -1,6 +1,22 @@
 -- A disk in memory, seen as its size, the writes and syncs that it recorded, and how many calls failed.
 -- Its trail is the replay of what it recorded, one moment a call.
-use Rattle.std.specs.Prelude.{◌≡◌, ◌<◌, ◌≤◌, ℕ, List, [], ◌∷◌, length, take, replicate, true, false, if◌then◌else◌, reverse, nat_eq}
+use Rattle.std.specs.Prelude.{
+  ◌≡◌,
+  ◌<◌,
+  ◌≤◌,
+  ℕ,
+  List,
+  [],
+  ◌∷◌,
+  length,
+  take,
+  replicate,
+  true,
+  false,
+  if◌then◌else◌,
+  reverse,
+  nat_eq,
+}
 use Rattle.std.specs.Map.{lookup}
 use Rattle.std.specs.Option.{unwrap_or}
 use Rattle.sector_disk.specs.declared.call.Call.{Call}

@@ -3,7 +3,7 @@ ghost use Rattle.std.specs.Prelude.{◌≡◌, ◌<◌, ℕ, OnOk, OnErr};
 ghost use Rattle.sector_disk.specs.Trail.{Trail, now, Nowhere, Only, written, settled, CountsFault};
 ghost use Rattle.sector_disk.specs.Confined.{IsConfined};
 
-/// The device didn't do what the call asked of it.
+/// The error of a call that the device didn't do.
 #[derive(Clone, Copy, Debug, PartialEq, Eq)]
 pub struct Fault;
 
@@ -13,7 +13,7 @@ pub type Sector = [u8; 1024];
 /// Sectors of 1,024 bytes, numbered from 0.
 ///
 /// What a call promises of contents stands under `honest`. What holds of every disk stands under nothing: how large
-/// it is, and that its failures rise exactly where a call answers `Fault`.
+/// it is, and that its failures rise exactly where a call returns `Fault`.
 pub trait Disk {
     /// How many sectors there are.
     ghost size: { Self → ℕ };
@@ -43,7 +43,8 @@ pub trait Disk {
         requires { n < size self.old }
         ensures kept { IsConfined size honest trail (Only n) self.old self.new }
         ensures cause { CountsFault result (failures self.old) (failures self.new) }
-        ensures written { OnOk result (honest self.old → now (trail self.new) ≡ written (now (trail self.old)) n bytes.now) };
+        ensures written { OnOk result (honest self.old
+            → now (trail self.new) ≡ written (now (trail self.old)) n bytes.now) };
 
     /// Settles every pending sector. After a `Fault` they are all still pending.
     fn sync(&mut self) -> Result<(), Fault>

@@ -8,19 +8,15 @@
 mod call;
 mod count;
 mod disk;
+mod failing;
 mod file;
-mod fuse;
 mod history;
 mod index;
 mod memory;
-mod one_fault;
-#[cfg(test)]
-mod tests;
 
 pub use call::Call;
 pub use disk::{Disk, Fault, Sector};
+pub use failing::{FailingDisk, Fuse, OneFault};
 pub use file::{FILE_SECTORS, FileDisk};
-pub use fuse::Fuse;
 pub use memory::MemoryDisk;
-pub use one_fault::OneFault;
 pub use std::alloc::AllocError as NoMemory;

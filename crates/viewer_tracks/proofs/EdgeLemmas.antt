@@ -1,5 +1,32 @@
 -- What an edit of the edges makes of the viewers with their heights.
-use Rattle.std.proofs.Common.{◌≡◌, ℕ, suc, zero, ◌+◌, ◌-◌, ◌<◌, ◌≤◌, nat_le, List, [], ◌∷◌, length, take, get_or, set, map, refl, ap, sym, ◌∙◌, add-one, zero-add, sub-one, arith, sum_by}
+use Rattle.std.proofs.Common.{
+  ◌≡◌,
+  ℕ,
+  suc,
+  zero,
+  ◌+◌,
+  ◌-◌,
+  ◌<◌,
+  ◌≤◌,
+  nat_le,
+  List,
+  [],
+  ◌∷◌,
+  length,
+  take,
+  get_or,
+  set,
+  map,
+  refl,
+  ap,
+  sym,
+  ◌∙◌,
+  add-one,
+  zero-add,
+  sub-one,
+  arith,
+  sum_by,
+}
 use Rattle.std.specs.Prelude.{insert, remove}
 use Rattle.std.specs.List.{position_or_len}
 use Rattle.std.proofs.lemmas.List.{ext_get_or, get_or-map, length-map}
@@ -77,7 +104,8 @@ Rises-top b (e ∷ es) (suc i) d rising within =
 pub entries_from-insert : (b : ℕ) (es : List Edge) (i h : ℕ) (v : ViewerId) (top : ℕ) → i ≤ length es
     → b + bottom_of (entries_from b es) i + h ≡ top → Rises b es
     → entries_from b (insert es i (record { viewer = v; top = top }))
-    ≡ insert (with_entry (λ e. with_height (e.height - h) e) (entries_from b es) i) i (record { viewer = v.0; height = h })
+    ≡ insert (with_entry (λ e. with_height (e.height - h) e) (entries_from b es) i) i
+    (record { viewer = v.0; height = h })
 entries_from-insert b [] zero h v top within at rising =
     let height : top - b ≡ h = omega arith in rw height refl
 entries_from-insert b [] (suc i) h v top within at rising = absurd (omega arith)
@@ -102,7 +130,8 @@ Rises-insert b (e ∷ es) (suc i) v top d within above below fits rising =
 
 -- another viewer at an edge
 pub entries_from-with_viewer : (b : ℕ) (es : List Edge) (i : ℕ) (v : ViewerId) (d : Edge)
-    → entries_from b (set es i (record { viewer = v; top = (get_or es i d).top })) ≡ with_entry (with_viewer v.0) (entries_from b es) i
+    → entries_from b (set es i (record { viewer = v; top = (get_or es i d).top })) ≡ with_entry (with_viewer v.0)
+    (entries_from b es) i
 entries_from-with_viewer b [] i v d = refl
 entries_from-with_viewer b (e ∷ es) zero v d = refl
 entries_from-with_viewer b (e ∷ es) (suc i) v d =
@@ -133,7 +162,8 @@ entries_from-with_top b (e ∷ es) (suc i) h k z d within at above rising =
     (entries_from-with_top e.top es i h k z d (omega arith) (omega arith) (λ less. above (omega arith)) rising.1)
 
 pub Rises-with_top : (b : ℕ) (es : List Edge) (i z : ℕ) (v : ViewerId) (d : Edge) → i < length es
-    → b + bottom_of (entries_from b es) i < z → (suc i < length es → z < (get_or es (suc i) d).top) → z ≤ ROWS → Rises b es
+    → b + bottom_of (entries_from b es) i < z → (suc i < length es → z < (get_or es (suc i) d).top) → z ≤ ROWS
+    → Rises b es
     → Rises b (set es i (record { viewer = v; top = z }))
 Rises-with_top b [] i z v d within below above fits rising = absurd (omega arith)
 Rises-with_top b (e ∷ []) zero z v d within below above fits rising = (omega arith, fits)
@@ -173,7 +203,8 @@ bottom_of-le es (suc i) rising within =
     omega arith
 
 -- edges that rise are a track
-heights : (b : ℕ) (es : List Edge) (k : ℕ) (d : Entry) → Rises b es → k < length es → 0 < (get_or (entries_from b es) k d).height
+heights : (b : ℕ) (es : List Edge) (k : ℕ) (d : Entry) → Rises b es → k < length es
+    → 0 < (get_or (entries_from b es) k d).height
 heights b [] k d rising within = absurd (omega arith)
 heights b (e ∷ es) zero d rising within = omega arith
 heights b (e ∷ es) (suc k) d rising within = heights e.top es k d rising.1 (omega arith)
@@ -181,7 +212,8 @@ heights b (e ∷ es) (suc k) d rising within = heights e.top es k d rising.1 (om
 heights_fit : (b : ℕ) (es : List Edge) → Rises b es → b + sum_by (λ e. e.height) (entries_from b es) ≤ ROWS
 heights_fit b [] rising = omega arith
 heights_fit b (e ∷ es) rising =
-    let first = sum_by-cons (λ (x : Entry). x.height) (record { viewer = e.viewer.0; height = e.top - b }) (entries_from e.top es) in
+    let first = sum_by-cons (λ (x : Entry). x.height) (record { viewer = e.viewer.0; height = e.top - b })
+    (entries_from e.top es) in
     let rest = heights_fit e.top es rising.1 in
     omega arith
 

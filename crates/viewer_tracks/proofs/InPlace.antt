@@ -1,9 +1,38 @@
 -- The first n elements of an array, as an edit of the array leaves them.
-use Rattle.std.proofs.Common.{◌≡◌, ℕ, suc, ◌+◌, ◌-◌, ◌<◌, ◌≤◌, List, ◌∷◌, ◌++◌, length, take, drop, set, ap, sym, ◌∙◌, add-one, arith}
+use Rattle.std.proofs.Common.{
+  ◌≡◌,
+  ℕ,
+  suc,
+  ◌+◌,
+  ◌-◌,
+  ◌<◌,
+  ◌≤◌,
+  List,
+  ◌∷◌,
+  ◌++◌,
+  length,
+  take,
+  drop,
+  set,
+  ap,
+  sym,
+  ◌∙◌,
+  add-one,
+  arith,
+}
 use Rattle.std.specs.Prelude.{insert, remove}
 use Rattle.std.specs.List.{copy_within}
 use Rattle.std.proofs.Math.Seq.{take-set-lt}
-use Rattle.std.proofs.lemmas.List.{take-take, take-append-le, drop-take, drop_at, set_split, length-take-le, length-drop, length-append}
+use Rattle.std.proofs.lemmas.List.{
+  take-take,
+  take-append-le,
+  drop-take,
+  drop_at,
+  set_split,
+  length-take-le,
+  length-drop,
+  length-append,
+}
 use Rattle.std.proofs.lemmas.List.Edits.{take-paste}
 
 -- those behind i moved down by one
@@ -35,7 +64,8 @@ moved_up s n i x within room =
     let of_front : length front ≡ i + 1 = length-take-le (i + 1) s (omega arith) in
     let of_both = length-append front back in
     let low : take i (front ++ back) ≡ take i (take n s) =
-    take-append-le i front back (omega arith) ∙ take-take i (i + 1) s (omega arith) ∙ sym (take-take i n s (omega arith)) in
+    take-append-le i front back (omega arith) ∙ take-take i (i + 1) s (omega arith)
+    ∙ sym (take-take i n s (omega arith)) in
     let high : drop (suc i) (front ++ back) ≡ drop i (take n s) =
     drop_at front back (suc i) (omega arith) ∙ sym (drop-take i m s) ∙ ap (λ k. drop i (take k s)) all in
     ap (λ k. take k (set moved i x)) more

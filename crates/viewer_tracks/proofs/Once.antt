@@ -1,10 +1,43 @@
 -- A viewer stands at most once on the display, whatever is opened, moved or closed.
-use Rattle.std.proofs.Common.{◌≡◌, ℕ, suc, zero, ◌+◌, ◌-◌, ◌≤◌, Bool, true, false, cond, ◌==◌, nat_lt, List, [], ◌∷◌, refl, ap, sym, ◌∙◌, arith}
+use Rattle.std.proofs.Common.{
+  ◌≡◌,
+  ℕ,
+  suc,
+  zero,
+  ◌+◌,
+  ◌-◌,
+  ◌≤◌,
+  Bool,
+  true,
+  false,
+  cond,
+  ◌==◌,
+  nat_lt,
+  List,
+  [],
+  ◌∷◌,
+  refl,
+  ap,
+  sym,
+  ◌∙◌,
+  arith,
+}
 use Rattle.std.specs.Prelude.{insert, remove}
 use Rattle.std.proofs.lemmas.List.Sums.{sum_by-cons, sum_by-insert}
 use Rattle.std.proofs.lemmas.Bool.{eqb-true}
 use Rattle.viewer_tracks.specs.Viewers.{Entry, bottom_of, top_of, times_in}
-use Rattle.viewer_tracks.specs.Edits.{with_entry, with_height, with_viewer, takes_place, open_entry, open_top, opened, change_top, changed, closed}
+use Rattle.viewer_tracks.specs.Edits.{
+  with_entry,
+  with_height,
+  with_viewer,
+  takes_place,
+  open_entry,
+  open_top,
+  opened,
+  change_top,
+  changed,
+  closed,
+}
 
 -- one more where the viewers are the same
 abbrev pub one_if : ℕ → ℕ → ℕ
@@ -19,7 +52,8 @@ pub times_in-with_height : (w : ℕ) (h : Entry → ℕ) (t : List Entry) (i : �
 times_in-with_height w h [] i = refl
 times_in-with_height w h (e ∷ t) zero = times_in-cons w (with_height (h e) e) t ∙ sym (times_in-cons w e t)
 times_in-with_height w h (e ∷ t) (suc i) =
-    times_in-cons w e (with_entry (λ x. with_height (h x) x) t i) ∙ ap (λ n. one_if e.viewer w + n) (times_in-with_height w h t i) ∙ sym (times_in-cons w e t)
+    times_in-cons w e (with_entry (λ x. with_height (h x) x) t i)
+    ∙ ap (λ n. one_if e.viewer w + n) (times_in-with_height w h t i) ∙ sym (times_in-cons w e t)
 
 times_in-with_viewer : (v w : ℕ) (t : List Entry) (i : ℕ)
     → times_in w (with_entry (with_viewer v) t i) ≤ times_in w t + one_if v w
@@ -51,7 +85,8 @@ times_in-opened v w t y =
     let h = open_top t y - bottom_of t i in
     let lower = with_entry (λ e. with_height (e.height - h) e) t i in
     let at : Entry = record { viewer = v; height = h } in
-    elim (takes_place t i (open_top t y)) as (λ b. times_in w (cond b (with_entry (with_viewer v) t i) (insert lower i at)) ≤ times_in w t + one_if v w) [
+    elim (takes_place t i (open_top t y)) as
+    (λ b. times_in w (cond b (with_entry (with_viewer v) t i) (insert lower i at)) ≤ times_in w t + one_if v w) [
       | true ↦ times_in-with_viewer v w t i
       | false ↦ (
           let more = sum_by-insert (λ (x : Entry). one_if x.viewer w) lower i at in
@@ -65,7 +100,8 @@ times_in-changed w t i y =
     let z = change_top t i y in
     let first = with_entry (with_height (z - bottom_of t i)) t i in
     let k = top_of t (i + 1) - z in
-    elim (nat_lt (bottom_of t i) z) as (λ b. times_in w (cond b (with_entry (with_height k) first (i + 1)) t) ≡ times_in w t) [
+    elim (nat_lt (bottom_of t i) z) as (λ b. times_in w (cond b (with_entry (with_height k) first (i + 1)) t)
+    ≡ times_in w t) [
       | true ↦ times_in-with_height w (λ _. k) first (i + 1) ∙ times_in-with_height w (λ _. z - bottom_of t i) t i
       | false ↦ refl
     ]

@@ -1,18 +1,74 @@
 -- Where a viewer opens, read off the edges.
-use Rattle.std.proofs.Common.{◌≡◌, ◌≢◌, ℕ, suc, zero, ◌+◌, ◌-◌, ◌<◌, ◌≤◌, true, false, cond, not, nat_le, List, [], ◌∷◌, length, get_or, set, refl, ap, sym, subst, ◌∙◌, arith, min, max, Some, None, ⊎_elim, eqb}
+use Rattle.std.proofs.Common.{
+  ◌≡◌,
+  ◌≢◌,
+  ℕ,
+  suc,
+  zero,
+  ◌+◌,
+  ◌-◌,
+  ◌<◌,
+  ◌≤◌,
+  true,
+  false,
+  cond,
+  not,
+  nat_le,
+  List,
+  [],
+  ◌∷◌,
+  length,
+  get_or,
+  set,
+  refl,
+  ap,
+  sym,
+  subst,
+  ◌∙◌,
+  arith,
+  min,
+  max,
+  Some,
+  None,
+  ⊎_elim,
+  eqb,
+}
 use Rattle.std.specs.Prelude.{insert}
 use Rattle.std.specs.List.{position_or_len}
 use Rattle.std.proofs.lemmas.List.Sums.{prefix_len-le-length, fails_before_first, passes_at_first}
 use Rattle.std.proofs.lemmas.List.Edits.{length-insert}
 use Rattle.std.proofs.lemmas.Bool.{leb-true, leb-false, eqb-true, eq-eqb, cases_lt, false≢true}
 use Rattle.std.proofs.lemmas.Bool.Decides.{nat_tests}
+use Rattle.std.proofs.lemmas.Grind.{common_steps}
 use Rattle.viewer_tracks.specs.declared.viewer_id.ViewerId.{ViewerId}
 use Rattle.viewer_tracks.specs.declared.edges.Edge.{Edge}
 use Rattle.viewer_tracks.specs.declared.display.TheConstants.{ROWS}
 use Rattle.viewer_tracks.specs.Viewers.{bottom_of, viewer_of}
-use Rattle.viewer_tracks.specs.Edits.{with_entry, with_height, with_viewer, open_entry, open_top, takes_place, put_into, opened, replaced}
+use Rattle.viewer_tracks.specs.Edits.{
+  with_entry,
+  with_height,
+  with_viewer,
+  open_entry,
+  open_top,
+  takes_place,
+  put_into,
+  opened,
+  replaced,
+}
 use Rattle.viewer_tracks.specs.Edges.{entries_from, Rises}
-use Rattle.viewer_tracks.proofs.EdgeLemmas.{length-entries_from, bottom_of-cons, bottom_of-entries_from, bottom_of_edge, bottom_of-le, lowest_reaching-entries_from, Rises-within, entries_from-insert, Rises-insert, entries_from-with_viewer, Rises-with_viewer}
+use Rattle.viewer_tracks.proofs.EdgeLemmas.{
+  length-entries_from,
+  bottom_of-cons,
+  bottom_of-entries_from,
+  bottom_of_edge,
+  bottom_of-le,
+  lowest_reaching-entries_from,
+  Rises-within,
+  entries_from-insert,
+  Rises-insert,
+  entries_from-with_viewer,
+  Rises-with_viewer,
+}
 
 -- the viewer whose top is put at row `top` goes to edge i
 pub record Opening (es : List Edge) (y i top : ℕ) : Type 0 where
@@ -108,7 +164,8 @@ leaves es y i top d o other =
     grind (arith, nat_tests)
 
 -- v replaces the viewer at edge i
-pub opened-taking : (es : List Edge) (y i top : ℕ) (v : ViewerId) (d : Edge) → Opening es y i top → i < length es → (get_or es i d).top ≡ top
+pub opened-taking : (es : List Edge) (y i top : ℕ) (v : ViewerId) (d : Edge) → Opening es y i top → i < length es
+    → (get_or es i d).top ≡ top
     → (entries_from 0 (set es i (record { viewer = v; top = (get_or es i d).top })) ≡ opened (entries_from 0 es) v.0 y)
     × (Some (get_or es i d).viewer.0 ≡ replaced (entries_from 0 es) y)
 unfolding opened replaced
@@ -126,7 +183,8 @@ opened-taking es y i top v d o within same =
     )
 
 -- v takes the lower rows of the entry at edge i
-pub opened-inserting : (es : List Edge) (y i top : ℕ) (v : ViewerId) (d : Edge) → Opening es y i top → (i < length es → (get_or es i d).top ≢ top)
+pub opened-inserting : (es : List Edge) (y i top : ℕ) (v : ViewerId) (d : Edge) → Opening es y i top
+    → (i < length es → (get_or es i d).top ≢ top)
     → (entries_from 0 (insert es i (record { viewer = v; top = top })) ≡ opened (entries_from 0 es) v.0 y)
     × (None ≡ replaced (entries_from 0 es) y)
 unfolding opened replaced
@@ -136,14 +194,16 @@ opened-inserting es y i top v d o other =
     let no = leaves es y i top d o other in
     let above = o.above in (
       entries_from-insert 0 es i h v top o.within (omega arith) o.rising
-          ∙ sym (ap (λ b. cond b (with_entry (with_viewer v.0) t i) (insert (with_entry (λ e. with_height (e.height - h) e) t i) i (record { viewer = v.0; height = h }))) no)
+          ∙ sym (ap (λ b. cond b (with_entry (with_viewer v.0) t i)
+          (insert (with_entry (λ e. with_height (e.height - h) e) t i) i (record { viewer = v.0; height = h }))) no)
           ∙ (λ k. put_into t v.0 (o.entry k) (o.raised k)),
       sym (ap (λ b. cond b (viewer_of t i) None) no)
           ∙ (λ k. cond (takes_place t (o.entry k) (o.raised k)) (viewer_of t (o.entry k)) None),
     )
 
 -- the edges still rise, and there was room for one more
-pub opening-Rises : (es : List Edge) (y i top : ℕ) (v : ViewerId) (d : Edge) → Opening es y i top → (i < length es → (get_or es i d).top ≢ top)
+pub opening-Rises : (es : List Edge) (y i top : ℕ) (v : ViewerId) (d : Edge) → Opening es y i top
+    → (i < length es → (get_or es i d).top ≢ top)
     → Rises 0 (insert es i (record { viewer = v; top = top })) × (length es < ROWS)
 opening-Rises es y i top v d o other =
     let rising = Rises-insert 0 es i v top d o.within (omega (arith, o.above))
@@ -174,7 +234,8 @@ filler_left es i top past =
     let many = length-entries_from 0 es in
     grind (arith, nat_tests)
 
-pub opening_at : (es : List Edge) (y : ℕ) → Rises 0 es → Opening es y (open_entry (entries_from 0 es) y) (open_top (entries_from 0 es) y)
+pub opening_at : (es : List Edge) (y : ℕ) → Rises 0 es → Opening es y (open_entry (entries_from 0 es) y)
+    (open_top (entries_from 0 es) y)
 opening_at es y rising =
     let t = entries_from 0 es in
     opening es y (open_entry t y) (open_top t y) rising (lowest_entry es y rising) refl
@@ -185,7 +246,8 @@ entry_within es y rising = (opening_at es y rising).within
 pub taken_within : (es : List Edge) (i top : ℕ) → takes_place (entries_from 0 es) i top ≡ true → i < length es
 taken_within es i top whole =
     let many = length-entries_from 0 es in
-    ⊎_elim (λ within. within) (λ past. absurd (false≢true (sym (filler_left es i top past) ∙ whole))) (cases_lt i (length es))
+    ⊎_elim (λ within. within) (λ past. absurd (false≢true (sym (filler_left es i top past) ∙ whole)))
+    (cases_lt i (length es))
 
 -- the edge of the viewer that one opening at row y replaces ends where the new one does
 pub same_top : (es : List Edge) (y : ℕ) (d : Edge) → Rises 0 es
@@ -199,7 +261,8 @@ same_top es y d rising whole =
 
 pub taken_track : (es : List Edge) (y : ℕ) (v : ViewerId) → Rises 0 es
     → takes_place (entries_from 0 es) (open_entry (entries_from 0 es) y) (open_top (entries_from 0 es) y) ≡ true
-    → opened (entries_from 0 es) v.0 y ≡ entries_from 0 (set es (open_entry (entries_from 0 es) y) (record { viewer = v; top = open_top (entries_from 0 es) y }))
+    → opened (entries_from 0 es) v.0 y ≡ entries_from 0 (set es (open_entry (entries_from 0 es) y)
+    (record { viewer = v; top = open_top (entries_from 0 es) y }))
 taken_track es y v rising whole =
     let t = entries_from 0 es in
     let i = open_entry t y in
@@ -215,7 +278,8 @@ taken_replaced es y d rising whole =
     let t = entries_from 0 es in
     let i = open_entry t y in
     let within = taken_within es i (open_top t y) whole in
-    sym (opened-taking es y i (open_top t y) (record { 0 = 0 }) d (opening_at es y rising) within (same_top es y d rising whole)).1
+    sym (opened-taking es y i (open_top t y) (record { 0 = 0 }) d (opening_at es y rising) within
+    (same_top es y d rising whole)).1
 
 pub taken_rises : (es : List Edge) (y : ℕ) (v : ViewerId) → Rises 0 es
     → takes_place (entries_from 0 es) (open_entry (entries_from 0 es) y) (open_top (entries_from 0 es) y) ≡ true
@@ -228,9 +292,11 @@ taken_rises es y v rising whole =
 
 pub inserted : (es : List Edge) (y : ℕ) (v : ViewerId) → Rises 0 es
     → takes_place (entries_from 0 es) (open_entry (entries_from 0 es) y) (open_top (entries_from 0 es) y) ≡ false
-    → (opened (entries_from 0 es) v.0 y ≡ entries_from 0 (insert es (open_entry (entries_from 0 es) y) (record { viewer = v; top = open_top (entries_from 0 es) y })))
+    → (opened (entries_from 0 es) v.0 y ≡ entries_from 0 (insert es (open_entry (entries_from 0 es) y)
+    (record { viewer = v; top = open_top (entries_from 0 es) y })))
     × (replaced (entries_from 0 es) y ≡ None)
-    × Rises 0 (insert es (open_entry (entries_from 0 es) y) (record { viewer = v; top = open_top (entries_from 0 es) y }))
+    × Rises 0 (insert es (open_entry (entries_from 0 es) y)
+    (record { viewer = v; top = open_top (entries_from 0 es) y }))
 inserted es y v rising part =
     let t = entries_from 0 es in
     let i = open_entry t y in
@@ -241,7 +307,8 @@ inserted es y v rising part =
     (sym both.0, sym both.1, (opening-Rises es y i (open_top t y) v no_edge o other).0)
 
 pub room : (es : List Edge) (y : ℕ) → Rises 0 es
-    → takes_place (entries_from 0 es) (open_entry (entries_from 0 es) y) (open_top (entries_from 0 es) y) ≡ false → length es < ROWS
+    → takes_place (entries_from 0 es) (open_entry (entries_from 0 es) y) (open_top (entries_from 0 es) y) ≡ false
+    → length es < ROWS
 room es y rising part =
     let t = entries_from 0 es in
     let i = open_entry t y in
@@ -256,5 +323,23 @@ inserted_replaced es y rising part = (inserted es y (record { 0 = 0 }) rising pa
 
 pub inserted_rises : (es : List Edge) (y : ℕ) (v : ViewerId) → Rises 0 es
     → takes_place (entries_from 0 es) (open_entry (entries_from 0 es) y) (open_top (entries_from 0 es) y) ≡ false
-    → Rises 0 (insert es (open_entry (entries_from 0 es) y) (record { viewer = v; top = open_top (entries_from 0 es) y }))
+    → Rises 0 (insert es (open_entry (entries_from 0 es) y)
+    (record { viewer = v; top = open_top (entries_from 0 es) y }))
 inserted_rises es y v rising part = (inserted es y v rising part).2
+
+-- what closes the goals of Viewers::open
+pub ruleset opening_steps = (
+  taken_track,
+  taken_replaced,
+  taken_within,
+  taken_rises,
+  inserted,
+  inserted_replaced,
+  inserted_rises,
+  room,
+  entry_within,
+  common_steps,
+)
+
+-- what closes the goals of takes_place
+pub ruleset place_tests = (edge_taken, filler_left, nat_tests)

@@ -1,5 +1,36 @@
 -- Who is placed after an edit, and where a viewer is that is seen.
-use Rattle.std.proofs.Common.{◌≡◌, ℕ, suc, zero, ◌+◌, ◌-◌, ◌<◌, ◌≤◌, Bool, true, false, cond, not, ◌==◌, ◌&&◌, nat_le, List, [], ◌∷◌, length, refl, ap, sym, subst, ◌∙◌, arith, Option, Some, None, ⊎_elim}
+use Rattle.std.proofs.Common.{
+  ◌≡◌,
+  ℕ,
+  suc,
+  zero,
+  ◌+◌,
+  ◌-◌,
+  ◌<◌,
+  ◌≤◌,
+  Bool,
+  true,
+  false,
+  cond,
+  not,
+  ◌==◌,
+  ◌&&◌,
+  nat_le,
+  List,
+  [],
+  ◌∷◌,
+  length,
+  refl,
+  ap,
+  sym,
+  subst,
+  ◌∙◌,
+  arith,
+  Option,
+  Some,
+  None,
+  ⊎_elim,
+}
 use Rattle.std.specs.Prelude.{insert, remove, IfSome}
 use Rattle.viewer_tracks.specs.declared.viewer_id.ViewerId.{ViewerId}
 use Rattle.std.specs.List.{position_or_len}
@@ -9,9 +40,43 @@ use Rattle.viewer_tracks.specs.declared.edges.Edge.{Edge}
 use Rattle.viewer_tracks.specs.declared.display.Track.{Track}
 use Rattle.viewer_tracks.specs.declared.display.Track.TheVariants.{User, System}
 use Rattle.viewer_tracks.specs.Display.{track_at}
-use Rattle.viewer_tracks.specs.Viewers.{Entry, IsTrack, bottom_of, top_of, lowest_reaching, viewer_of, viewer_at, times_in, entry_of, number_of}
-use Rattle.viewer_tracks.specs.Edits.{with_entry, with_height, with_viewer, open_entry, open_top, takes_place, opened, replaced, closed}
-use Rattle.viewer_tracks.specs.Columns.{Columns, IsColumns, IsPlaced, times_placed, times_meant, shown, StandsAt, seen_at, replaced_at, after_open, after_change, after_close}
+use Rattle.viewer_tracks.specs.Viewers.{
+  Entry,
+  IsTrack,
+  bottom_of,
+  top_of,
+  lowest_reaching,
+  viewer_of,
+  viewer_at,
+  times_in,
+  entry_of,
+  number_of,
+}
+use Rattle.viewer_tracks.specs.Edits.{
+  with_entry,
+  with_height,
+  with_viewer,
+  open_entry,
+  open_top,
+  takes_place,
+  opened,
+  replaced,
+  closed,
+}
+use Rattle.viewer_tracks.specs.Columns.{
+  Columns,
+  IsColumns,
+  IsPlaced,
+  times_placed,
+  times_meant,
+  shown,
+  StandsAt,
+  seen_at,
+  replaced_at,
+  after_open,
+  after_change,
+  after_close,
+}
 use Rattle.viewer_tracks.specs.Edges.{entries_from, Rises}
 use Rattle.viewer_tracks.proofs.Positions.{counted}
 use Rattle.viewer_tracks.proofs.Once.{one_if, times_in-cons, times_in-with_height, times_in-changed}
@@ -19,7 +84,21 @@ use Rattle.viewer_tracks.proofs.EdgeLemmas.{lowest_reaching-entries_from}
 use Rattle.viewer_tracks.proofs.Opening.{no_edge, viewer_of-past, reaches, begins_below}
 use Rattle.viewer_tracks.proofs.Moving.{top_of-entries_from}
 use Rattle.viewer_tracks.proofs.TrackLemmas.{for_tracks}
-use Rattle.viewer_tracks.proofs.ColumnLemmas.{columns, for_columns, user_track, system_track, track_of_user, track_of_system, in_system, after_open_user, after_open_system, after_change_user, after_change_system, after_close_user, after_close_system}
+use Rattle.viewer_tracks.proofs.ColumnLemmas.{
+  columns,
+  for_columns,
+  user_track,
+  system_track,
+  track_of_user,
+  track_of_system,
+  in_system,
+  after_open_user,
+  after_open_system,
+  after_change_user,
+  after_change_system,
+  after_close_user,
+  after_close_system,
+}
 
 -- the number of viewers and who they are, under edits of one entry
 length-with_entry : (f : Entry → Entry) (t : List Entry) (i : ℕ) → length (with_entry f t i) ≡ length t
@@ -27,7 +106,8 @@ length-with_entry f [] i = refl
 length-with_entry f (e ∷ t) zero = refl
 length-with_entry f (e ∷ t) (suc i) = ap suc (length-with_entry f t i)
 
-viewer_of-with_height : (h : Entry → ℕ) (t : List Entry) (i j : ℕ) → viewer_of (with_entry (λ e. with_height (h e) e) t j) i ≡ viewer_of t i
+viewer_of-with_height : (h : Entry → ℕ) (t : List Entry) (i j : ℕ)
+    → viewer_of (with_entry (λ e. with_height (h e) e) t j) i ≡ viewer_of t i
 viewer_of-with_height h [] i j = refl
 viewer_of-with_height h (e ∷ t) zero zero = refl
 viewer_of-with_height h (e ∷ t) zero (suc j) = refl
@@ -35,7 +115,8 @@ viewer_of-with_height h (e ∷ t) (suc i) zero = refl
 viewer_of-with_height h (e ∷ t) (suc i) (suc j) = viewer_of-with_height h t i j
 
 renamed : (v w : ℕ) (t : List Entry) (i : ℕ) → i < length t
-    → times_in w (with_entry (with_viewer v) t i) + times_meant w (viewer_of t i) ≡ times_in w t + times_meant w (Some v)
+    → times_in w (with_entry (with_viewer v) t i) + times_meant w (viewer_of t i) ≡ times_in w t + times_meant w
+    (Some v)
 renamed v w [] i within = absurd (omega arith)
 renamed v w (e ∷ t) zero within =
     let after = times_in-cons w (with_viewer v e) t in
@@ -47,7 +128,8 @@ renamed v w (e ∷ t) (suc i) within =
     let rest = renamed v w t i (omega arith) in
     omega arith
 
-taken_out : (w : ℕ) (t : List Entry) (i : ℕ) → i < length t → times_in w (remove t i) + times_meant w (viewer_of t i) ≡ times_in w t
+taken_out : (w : ℕ) (t : List Entry) (i : ℕ) → i < length t → times_in w (remove t i) + times_meant w (viewer_of t i)
+    ≡ times_in w t
 taken_out w [] i within = absurd (omega arith)
 taken_out w (e ∷ t) zero within = let before = times_in-cons w e t in omega arith
 taken_out w (e ∷ t) (suc i) within =
@@ -73,7 +155,12 @@ opened_counts v w t y true whole =
     let lower = insert (with_entry (λ e. with_height (e.height - h) e) t i) i (record { viewer = v; height = h }) in
     let track : opened t v y ≡ named = ap (λ b. cond b named lower) whole in
     let gone : replaced t y ≡ viewer_of t i = ap (λ b. cond b (viewer_of t i) None) whole in
-    omega (arith, ap (times_in w) track, ap (times_meant w) gone, renamed v w t i (taken_inside t i (open_top t y) whole))
+    omega (
+      arith,
+      ap (times_in w) track,
+      ap (times_meant w) gone,
+      renamed v w t i (taken_inside t i (open_top t y) whole),
+    )
 opened_counts v w t y false part =
     let i = open_entry t y in
     let h = open_top t y - bottom_of t i in
@@ -90,7 +177,8 @@ opened_counts v w t y false part =
       times_in-with_height w (λ e. e.height - h) t i,
     )
 
-closed_counts : (w : ℕ) (t : List Entry) (i : ℕ) → i < length t → times_in w (closed t i) + times_meant w (viewer_of t i) ≡ times_in w t
+closed_counts : (w : ℕ) (t : List Entry) (i : ℕ) → i < length t
+    → times_in w (closed t i) + times_meant w (viewer_of t i) ≡ times_in w t
 unfolding closed
 closed_counts w t i within =
     let h = top_of t i - bottom_of t i in
@@ -103,7 +191,8 @@ closed_counts w t i within =
     )
 
 -- a viewer stands at its entry
-found_first : (x : Entry) (t : List Entry) (v n : ℕ) (b : Bool) → (x.viewer == v) ≡ b → (b ≡ false → viewer_of t n ≡ Some v)
+found_first : (x : Entry) (t : List Entry) (v n : ℕ) (b : Bool) → (x.viewer == v) ≡ b
+    → (b ≡ false → viewer_of t n ≡ Some v)
     → viewer_of (x ∷ t) (cond (not b) (1 + n) 0) ≡ Some v
 found_first x t v n true same rest = ap (λ (k : ℕ). Some k) (eqb-true x.viewer v same)
 found_first x t v n false other rest = let next : 1 + n ≡ suc n = omega arith in ap (viewer_of (x ∷ t)) next ∙ rest refl
@@ -137,7 +226,8 @@ only_there v (e ∷ t) (suc i) once is =
     first_case (e.viewer == v) (entry_of t v) i (times_in v t) (omega arith) some (only_there v t i (omega arith) is)
 
 -- the entry that is seen at a row has that row
-seen_edges : (v r : ℕ) (es : List Edge) → Rises 0 es → viewer_of (entries_from 0 es) (lowest_reaching (entries_from 0 es) (r + 1)) ≡ Some v
+seen_edges : (v r : ℕ) (es : List Edge) → Rises 0 es
+    → viewer_of (entries_from 0 es) (lowest_reaching (entries_from 0 es) (r + 1)) ≡ Some v
     → (bottom_of (entries_from 0 es) (lowest_reaching (entries_from 0 es) (r + 1)) ≤ r)
     × (r < top_of (entries_from 0 es) (lowest_reaching (entries_from 0 es) (r + 1)))
 seen_edges v r es rising is =
@@ -176,7 +266,8 @@ seen_in t v r track is =
 
 -- the same in the columns
 opened_placed : (v x y w : ℕ) (u s : List Entry) (k : Track) → track_at x ≡ k
-    → times_placed w (after_open (columns u s) v x y) + times_meant w (replaced_at (columns u s) x y) ≡ times_placed w (columns u s) + times_meant w (Some v)
+    → times_placed w (after_open (columns u s) v x y) + times_meant w (replaced_at (columns u s) x y) ≡ times_placed w
+    (columns u s) + times_meant w (Some v)
 opened_placed v x y w u s User at =
     omega (
       arith,
@@ -193,23 +284,31 @@ opened_placed v x y w u s System at =
     )
 
 pub open_places : (c : Columns) (v x y w : ℕ) → IsColumns c
-    → times_placed w (after_open c v x y) + times_meant w (replaced_at c x y) ≡ times_placed w c + times_meant w (Some v)
+    → times_placed w (after_open c v x y) + times_meant w (replaced_at c x y) ≡ times_placed w c + times_meant w
+    (Some v)
 open_places c v x y w =
     for_columns
-    (λ c. times_placed w (after_open c v x y) + times_meant w (replaced_at c x y) ≡ times_placed w c + times_meant w (Some v))
+    (λ c. times_placed w (after_open c v x y) + times_meant w (replaced_at c x y) ≡ times_placed w c + times_meant w
+    (Some v))
     (λ u s sound. opened_placed v x y w u s _ refl) c
 
-pub change_places : (c : Columns) (v y w : ℕ) → IsColumns c → IsPlaced v c → times_placed w (after_change c v y) ≡ times_placed w c
+pub change_places : (c : Columns) (v y w : ℕ) → IsColumns c → IsPlaced v c → times_placed w (after_change c v y)
+    ≡ times_placed w c
 change_places c v y w =
     for_columns (λ c. IsPlaced v c → times_placed w (after_change c v y) ≡ times_placed w c)
     (λ u s sound placed.
     ⊎_elim
     (λ some. omega (arith, ap (times_placed w) (after_change_user u s v y some), times_in-changed w u (entry_of u v) y))
-    (λ none. omega (arith, ap (times_placed w) (after_change_system u s v y none), times_in-changed w s (entry_of s v) y))
+    (λ none. omega (
+      arith,
+      ap (times_placed w) (after_change_system u s v y none),
+      times_in-changed w s (entry_of s v) y,
+    ))
     (cases_lt 0 (times_in v u)))
     c
 
-closed_one : (v w : ℕ) (t : List Entry) → 0 < times_in v t → times_in w (closed t (entry_of t v)) + times_meant w (Some v) ≡ times_in w t
+closed_one : (v w : ℕ) (t : List Entry) → 0 < times_in v t → times_in w (closed t (entry_of t v)) + times_meant w
+    (Some v) ≡ times_in w t
 closed_one v w t some =
     omega (
       arith,
@@ -217,31 +316,47 @@ closed_one v w t some =
       ap (times_meant w) (at_its_entry v t some),
     )
 
-pub close_places : (c : Columns) (v w : ℕ) → IsColumns c → IsPlaced v c → times_placed w (after_close c v) + times_meant w (Some v) ≡ times_placed w c
+pub close_places : (c : Columns) (v w : ℕ) → IsColumns c → IsPlaced v c
+    → times_placed w (after_close c v) + times_meant w (Some v) ≡ times_placed w c
 close_places c v w =
     for_columns (λ c. IsPlaced v c → times_placed w (after_close c v) + times_meant w (Some v) ≡ times_placed w c)
     (λ u s sound placed.
     ⊎_elim
     (λ some. omega (arith, ap (times_placed w) (after_close_user u s v some), closed_one v w u some))
-    (λ none. omega (arith, ap (times_placed w) (after_close_system u s v none), closed_one v w s (in_system u s v placed none)))
+    (λ none. omega (
+      arith,
+      ap (times_placed w) (after_close_system u s v none),
+      closed_one v w s (in_system u s v placed none),
+    ))
     (cases_lt 0 (times_in v u)))
     c
 
-seen_case : (v x y : ℕ) (u s : List Entry) (k : Track) → track_at x ≡ k → IsColumns (columns u s) → seen_at (columns u s) x y ≡ Some v
+seen_case : (v x y : ℕ) (u s : List Entry) (k : Track) → track_at x ≡ k → IsColumns (columns u s)
+    → seen_at (columns u s) x y ≡ Some v
     → StandsAt (columns u s) v x y
 seen_case v x y u s User at sound is =
-    let seen = seen_in u v y (user_track u s sound) (sym (ap (λ (k : Track). viewer_at (shown (columns u s) k) y) at) ∙ is) in
+    let seen = seen_in u v y (user_track u s sound) (sym (ap (λ (k : Track). viewer_at (shown (columns u s) k) y) at)
+    ∙ is) in
     let once = sound.once v in
     let one : times_in v u ≤ 1 = omega arith in
     let k = track_of_user u s v seen.some in
     record {
       placed = omega (arith, seen.some);
       track = k ∙ sym at;
-      from = omega (arith, seen.from one, ap (λ (k : Track). bottom_of (shown (columns u s) k) (entry_of (shown (columns u s) k) v)) k);
-      before = omega (arith, seen.before one, ap (λ (k : Track). top_of (shown (columns u s) k) (entry_of (shown (columns u s) k) v)) k);
+      from = omega (
+        arith,
+        seen.from one,
+        ap (λ (k : Track). bottom_of (shown (columns u s) k) (entry_of (shown (columns u s) k) v)) k,
+      );
+      before = omega (
+        arith,
+        seen.before one,
+        ap (λ (k : Track). top_of (shown (columns u s) k) (entry_of (shown (columns u s) k) v)) k,
+      );
     }
 seen_case v x y u s System at sound is =
-    let seen = seen_in s v y (system_track u s sound) (sym (ap (λ (k : Track). viewer_at (shown (columns u s) k) y) at) ∙ is) in
+    let seen = seen_in s v y (system_track u s sound)
+    (sym (ap (λ (k : Track). viewer_at (shown (columns u s) k) y) at) ∙ is) in
     let once = sound.once v in
     let some = seen.some in
     let one : times_in v s ≤ 1 = omega arith in
@@ -250,8 +365,16 @@ seen_case v x y u s System at sound is =
     record {
       placed = omega arith;
       track = k ∙ sym at;
-      from = omega (arith, seen.from one, ap (λ (k : Track). bottom_of (shown (columns u s) k) (entry_of (shown (columns u s) k) v)) k);
-      before = omega (arith, seen.before one, ap (λ (k : Track). top_of (shown (columns u s) k) (entry_of (shown (columns u s) k) v)) k);
+      from = omega (
+        arith,
+        seen.from one,
+        ap (λ (k : Track). bottom_of (shown (columns u s) k) (entry_of (shown (columns u s) k) v)) k,
+      );
+      before = omega (
+        arith,
+        seen.before one,
+        ap (λ (k : Track). top_of (shown (columns u s) k) (entry_of (shown (columns u s) k) v)) k,
+      );
     }
 
 pub seen_placed : (c : Columns) (v x y : ℕ) → IsColumns c → seen_at c x y ≡ Some v → StandsAt c v x y
@@ -259,7 +382,8 @@ seen_placed c v x y =
     for_columns (λ c. seen_at c x y ≡ Some v → StandsAt c v x y) (λ u s sound is. seen_case v x y u s _ refl sound is) c
 
 -- for `at`, whose result is the viewer that is seen in the track k
-pub seen_stands : (u s : List Entry) (k : Track) (c : Columns) (found : Option ViewerId) (x y : ℕ) → IsColumns (columns u s) → columns u s ≡ c
+pub seen_stands : (u s : List Entry) (k : Track) (c : Columns) (found : Option ViewerId) (x y : ℕ)
+    → IsColumns (columns u s) → columns u s ≡ c
     → k ≡ track_at x → number_of found ≡ viewer_at (shown (columns u s) k) y → IfSome found (λ v. StandsAt c v.0 x y)
 seen_stands u s k c None x y sound whole at is = tt
 seen_stands u s k c (Some v) x y sound whole at is =

@@ -1,5 +1,41 @@
 -- The tallest viewer, found on the way up.
-use Rattle.std.proofs.Common.{◌≡◌, ℕ, suc, zero, ◌+◌, ◌-◌, ◌/◌, ◌<◌, ◌≤◌, Bool, true, false, cond, not, ◌==◌, max, List, [], ◌∷◌, ◌++◌, length, take, get_or, refl, ap, sym, subst, ◌∙◌, inl, inr, ◌⊎◌, ⊎_elim, add-one, arith, sum_by}
+use Rattle.std.proofs.Common.{
+  ◌≡◌,
+  ℕ,
+  suc,
+  zero,
+  ◌+◌,
+  ◌-◌,
+  ◌/◌,
+  ◌<◌,
+  ◌≤◌,
+  Bool,
+  true,
+  false,
+  cond,
+  not,
+  ◌==◌,
+  max,
+  List,
+  [],
+  ◌∷◌,
+  ◌++◌,
+  length,
+  take,
+  get_or,
+  refl,
+  ap,
+  sym,
+  subst,
+  ◌∙◌,
+  inl,
+  inr,
+  ◌⊎◌,
+  ⊎_elim,
+  add-one,
+  arith,
+  sum_by,
+}
 use Rattle.std.specs.Prelude.{fold}
 use Rattle.std.specs.List.{position_or_len}
 use Rattle.std.proofs.lemmas.List.{take_at, take_all, take-append-le}
@@ -41,7 +77,8 @@ attained a (x ∷ t) =
     let g = fold (λ n (e : Entry). max n e.height) (max a x.height) t in
     ⊎_elim
     (λ same. ⊎_elim
-    (λ up. inr (subst (λ b. cond (not b) (1 + first_of g t) 0 < suc (length t)) (sym (eq-eqb x.height g (omega arith))) (omega arith)))
+    (λ up. inr (subst (λ b. cond (not b) (1 + first_of g t) 0 < suc (length t))
+    (sym (eq-eqb x.height g (omega arith))) (omega arith)))
     (λ low. inl (omega arith))
     (cases_lt a x.height))
     (λ less. inr (within_more (x.height == g) (first_of g t) (length t) less))
@@ -91,7 +128,8 @@ tallest_same t e b g m so less =
     let at : first_of g' (t ++ e ∷ []) ≡ first_of g' t =
     position_or_len_push (λ (x : Entry). x.height == g') t e
     ∙ ⊎_elim
-    (λ zero. let here : (e.height == g') ≡ true = eq-eqb e.height g' (omega (arith, so.most)) in grind (arith, nat_tests))
+    (λ zero. let here : (e.height == g') ≡ true = eq-eqb e.height g' (omega (arith, so.most)) in
+    grind (arith, nat_tests))
     (λ found. grind (arith, nat_tests))
     (attained 0 t) in
     record {
@@ -128,18 +166,21 @@ pub tallest_step : (es : List Edge) (n b g m : ℕ) (d : Edge) → n < length es
     → IsTallest (take n (entries_from 0 es)) b g m
     → (b < (get_or es n d).top)
     × (g < (get_or es n d).top - b
-    → IsTallest (take (n + 1) (entries_from 0 es)) (get_or es n d).top ((get_or es n d).top - b) (b + ((get_or es n d).top - b) / 2))
+    → IsTallest (take (n + 1) (entries_from 0 es)) (get_or es n d).top ((get_or es n d).top - b)
+    (b + ((get_or es n d).top - b) / 2))
     × ((get_or es n d).top - b ≤ g
     → IsTallest (take (n + 1) (entries_from 0 es)) (get_or es n d).top g m)
 tallest_step es n b g m d within rising so =
     let t = take n (entries_from 0 es) in
     let e : Entry = record { viewer = (get_or es n d).viewer.0; height = (get_or es n d).top - b } in
     let grows = bottom_of-grows 0 es n d rising within in
-    let longer = ap (λ k. take k (entries_from 0 es)) (add-one n) ∙ take-entries_from 0 es n b d within rising (omega (arith, so.sum)) in
+    let longer = ap (λ k. take k (entries_from 0 es)) (add-one n) ∙ take-entries_from 0 es n b d within rising
+    (omega (arith, so.sum)) in
     let up : b + e.height ≡ (get_or es n d).top = omega (arith, so.sum) in (
       omega (arith, so.sum),
       λ more. subst (λ (u : List Entry). IsTallest u (get_or es n d).top e.height (b + e.height / 2)) (sym longer)
-          (subst (λ (k : ℕ). IsTallest (t ++ e ∷ []) k e.height (b + e.height / 2)) up (tallest_more t e b g m so more)),
+          (subst (λ (k : ℕ). IsTallest (t ++ e ∷ []) k e.height (b + e.height / 2)) up
+          (tallest_more t e b g m so more)),
       λ less. subst (λ (u : List Entry). IsTallest u (get_or es n d).top g m) (sym longer)
           (subst (λ (k : ℕ). IsTallest (t ++ e ∷ []) k g m) up (tallest_same t e b g m so less)),
     )
@@ -147,7 +188,8 @@ tallest_step es n b g m d within rising so =
 -- after the last edge
 pub tallest_all : (es : List Edge) (n b g m : ℕ) → length es ≤ n → Rises 0 es
     → IsTallest (take n (entries_from 0 es)) b g m
-    → (m ≡ bottom_of (entries_from 0 es) (tallest (entries_from 0 es)) + greatest_height (entries_from 0 es) / 2) × (m ≤ ROWS)
+    → (m ≡ bottom_of (entries_from 0 es) (tallest (entries_from 0 es)) + greatest_height (entries_from 0 es) / 2)
+    × (m ≤ ROWS)
 tallest_all es n b g m end rising so =
     let t = entries_from 0 es in
     let many = length-entries_from 0 es in
@@ -159,7 +201,8 @@ tallest_all es n b g m end rising so =
     )
 
 -- where a new viewer finds room, in the filler or in the middle of the tallest viewer
-pub free_row_filler : (es : List Edge) → bottom_of (entries_from 0 es) (length es) + 4 ≤ ROWS → free_row (entries_from 0 es) ≡ ROWS
+pub free_row_filler : (es : List Edge) → bottom_of (entries_from 0 es) (length es) + 4 ≤ ROWS
+    → free_row (entries_from 0 es) ≡ ROWS
 unfolding free_row
 free_row_filler es room =
     let t = entries_from 0 es in
@@ -167,7 +210,8 @@ free_row_filler es room =
     ap (λ b. cond b ROWS (bottom_of t (tallest t) + greatest_height t / 2)) (le-leb _ _ (omega arith))
 
 pub free_row_divided : (es : List Edge) → ROWS < bottom_of (entries_from 0 es) (length es) + 4
-    → free_row (entries_from 0 es) ≡ bottom_of (entries_from 0 es) (tallest (entries_from 0 es)) + greatest_height (entries_from 0 es) / 2
+    → free_row (entries_from 0 es) ≡ bottom_of (entries_from 0 es) (tallest (entries_from 0 es)) + greatest_height
+    (entries_from 0 es) / 2
 unfolding free_row
 free_row_divided es full =
     let t = entries_from 0 es in

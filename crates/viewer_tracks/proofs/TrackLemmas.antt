@@ -1,5 +1,27 @@
 -- Every track is made by edges that rise, so what edits do to tracks is read off what they do to edges.
-use Rattle.std.proofs.Common.{◌≡◌, ℕ, suc, zero, ◌+◌, ◌-◌, ◌<◌, ◌≤◌, Bool, true, false, List, [], ◌∷◌, length, refl, sym, subst, arith, ⊎_elim, sum_by}
+use Rattle.std.proofs.Common.{
+  ◌≡◌,
+  ℕ,
+  suc,
+  zero,
+  ◌+◌,
+  ◌-◌,
+  ◌<◌,
+  ◌≤◌,
+  Bool,
+  true,
+  false,
+  List,
+  [],
+  ◌∷◌,
+  length,
+  refl,
+  sym,
+  subst,
+  arith,
+  ⊎_elim,
+  sum_by,
+}
 use Rattle.std.specs.Prelude.{All}
 use Rattle.std.proofs.lemmas.List.Sums.{sum_by-cons}
 use Rattle.std.proofs.lemmas.Bool.{cases_lt}
@@ -24,7 +46,8 @@ entries_from-edges_of b (e ∷ t) =
     let rest = entries_from-edges_of (b + e.height) t in
     λ k. record { viewer = e.viewer; height = height k } ∷ rest k
 
-Rises-edges_of : (b : ℕ) (t : List Entry) → All (λ e. 0 < e.height) t → b + sum_by (λ e. e.height) t ≤ ROWS → Rises b (edges_of b t)
+Rises-edges_of : (b : ℕ) (t : List Entry) → All (λ e. 0 < e.height) t → b + sum_by (λ e. e.height) t ≤ ROWS
+    → Rises b (edges_of b t)
 Rises-edges_of b [] some fits = omega arith
 Rises-edges_of b (e ∷ t) some fits =
     let here : 0 < e.height = some zero e (omega arith) in
@@ -32,17 +55,22 @@ Rises-edges_of b (e ∷ t) some fits =
     (omega arith, Rises-edges_of (b + e.height) t (λ k d within. some (suc k) d (omega arith)) (omega arith))
 
 -- what holds of all rising edges holds of all tracks
-pub for_tracks : (P : List Entry → Type 0) → ((es : List Edge) → Rises 0 es → P (entries_from 0 es)) → (t : List Entry) → IsTrack t → P t
+pub for_tracks : (P : List Entry → Type 0) → ((es : List Edge) → Rises 0 es → P (entries_from 0 es))
+    → (t : List Entry) → IsTrack t → P t
 for_tracks P each t track =
-    subst P (entries_from-edges_of 0 t) (each (edges_of 0 t) (Rises-edges_of 0 t track.some (omega (arith, track.fits))))
+    subst P (entries_from-edges_of 0 t)
+    (each (edges_of 0 t) (Rises-edges_of 0 t track.some (omega (arith, track.fits))))
 
 -- an edit of a track leaves a track
 opened_case : (v y : ℕ) (es : List Edge) (b : Bool) → Rises 0 es
-    → takes_place (entries_from 0 es) (open_entry (entries_from 0 es) y) (open_top (entries_from 0 es) y) ≡ b → IsTrack (opened (entries_from 0 es) v y)
+    → takes_place (entries_from 0 es) (open_entry (entries_from 0 es) y) (open_top (entries_from 0 es) y) ≡ b
+    → IsTrack (opened (entries_from 0 es) v y)
 opened_case v y es true rising whole =
-    subst IsTrack (sym (taken_track es y (record { 0 = v }) rising whole)) (is_track _ (taken_rises es y (record { 0 = v }) rising whole))
+    subst IsTrack (sym (taken_track es y (record { 0 = v }) rising whole))
+    (is_track _ (taken_rises es y (record { 0 = v }) rising whole))
 opened_case v y es false rising part =
-    subst IsTrack (sym (inserted es y (record { 0 = v }) rising part).0) (is_track _ (inserted_rises es y (record { 0 = v }) rising part))
+    subst IsTrack (sym (inserted es y (record { 0 = v }) rising part).0)
+    (is_track _ (inserted_rises es y (record { 0 = v }) rising part))
 
 opened_edges : (v y : ℕ) (es : List Edge) → Rises 0 es → IsTrack (opened (entries_from 0 es) v y)
 opened_edges v y es rising = opened_case v y es _ rising refl
@@ -50,19 +78,22 @@ opened_edges v y es rising = opened_case v y es _ rising refl
 pub IsTrack-opened : (t : List Entry) (v y : ℕ) → IsTrack t → IsTrack (opened t v y)
 IsTrack-opened t v y = for_tracks (λ t. IsTrack (opened t v y)) (opened_edges v y) t
 
-changed_edges : (i y : ℕ) (es : List Edge) → Rises 0 es → i < length (entries_from 0 es) → IsTrack (changed (entries_from 0 es) i y)
+changed_edges : (i y : ℕ) (es : List Edge) → Rises 0 es → i < length (entries_from 0 es)
+    → IsTrack (changed (entries_from 0 es) i y)
 changed_edges i y es rising here =
     let t = entries_from 0 es in
     let within : i < length es = omega (arith, length-entries_from 0 es) in
     ⊎_elim
-    (λ up. subst IsTrack (changed_up es i y no_edge rising within up) (is_track _ (rises_changed es i y no_edge rising within up)))
+    (λ up. subst IsTrack (changed_up es i y no_edge rising within up)
+    (is_track _ (rises_changed es i y no_edge rising within up)))
     (λ low. subst IsTrack (sym (changed_not es i y rising within low)) (is_track es rising))
     (cases_lt (bottom_of t i) (change_top t i y))
 
 pub IsTrack-changed : (t : List Entry) (i y : ℕ) → IsTrack t → i < length t → IsTrack (changed t i y)
 IsTrack-changed t i y = for_tracks (λ t. i < length t → IsTrack (changed t i y)) (changed_edges i y) t
 
-closed_track : (i : ℕ) (es : List Edge) → Rises 0 es → i < length (entries_from 0 es) → IsTrack (closed (entries_from 0 es) i)
+closed_track : (i : ℕ) (es : List Edge) → Rises 0 es → i < length (entries_from 0 es)
+    → IsTrack (closed (entries_from 0 es) i)
 closed_track i es rising here =
     let within : i < length es = omega (arith, length-entries_from 0 es) in
     subst IsTrack (closed_edges es i rising within) (is_track _ (Rises-remove 0 es i within rising))

@@ -1,12 +1,35 @@
 -- What opening, changing and closing make of a track.
 --
--- Opening at row y looks for the least entry whose top reaches y. The new viewer gets the rows of that entry from its bottom up to y, and one
+-- Opening at row y looks for the least entry whose top reaches y. The new viewer gets the rows of that entry from its
+-- bottom up to y, and one
 -- row at least. If that is all that a viewer there had, that viewer is gone; otherwise the entry keeps the rest.
--- Changing moves the border between a viewer and the entry above it to row y, or as near as it can: a viewer above keeps a row, and the
+-- Changing moves the border between a viewer and the entry above it to row y, or as near as it can: a viewer above
+-- keeps a row, and the
 -- border never passes the display. Where y would leave the viewer itself no row, nothing changes.
 -- Closing gives a viewer's rows to the entry above it.
 -- No edit touches any other row, and a viewer that an edit doesn't speak of stays where it was.
-use Rattle.std.specs.Prelude.{ℕ, zero, suc, ◌+◌, ◌-◌, Bool, ◌&&◌, if◌then◌else◌, nat_lt, ◌==◌, min, max, Option, None, List, [], ◌∷◌, length, insert, remove}
+use Rattle.std.specs.Prelude.{
+  ℕ,
+  zero,
+  suc,
+  ◌+◌,
+  ◌-◌,
+  Bool,
+  ◌&&◌,
+  if◌then◌else◌,
+  nat_lt,
+  ◌==◌,
+  min,
+  max,
+  Option,
+  None,
+  List,
+  [],
+  ◌∷◌,
+  length,
+  insert,
+  remove,
+}
 use Rattle.viewer_tracks.specs.declared.display.TheConstants.{ROWS}
 use Rattle.viewer_tracks.specs.Viewers.{Entry, bottom_of, top_of, lowest_reaching, viewer_of}
 

@@ -1,4 +1,5 @@
--- Where a new viewer finds room in a track: in the filler while that has four rows, and otherwise in the tallest viewer, the lowest of several.
+-- Where a new viewer finds room in a track: in the filler while that has four rows, and otherwise in the tallest
+-- viewer, the lowest of several.
 use Rattle.std.specs.Prelude.{ℕ, ◌+◌, ◌/◌, if◌then◌else◌, nat_le, ◌==◌, max, List, length, fold}
 use Rattle.std.specs.List.{position_or_len}
 use Rattle.viewer_tracks.specs.declared.display.TheConstants.{ROWS}

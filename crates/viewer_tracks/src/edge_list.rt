@@ -28,6 +28,7 @@ impl Model for EdgeList {
 }
 
 impl EdgeList {
+    /// No edge.
     pub fn new() -> Self
         ensures { result ≡ [] }
     {
@@ -41,6 +42,7 @@ impl EdgeList {
         }
     }
 
+    /// The edges, from the lowest.
     pub fn as_slice(&self) -> &[Edge]
         ensures { result.now ≡ self.now }
     {
@@ -48,7 +50,7 @@ impl EdgeList {
     }
 
     #[tactic(auto, using(crate::proofs::InPlace::moved_up, crate::proofs::InPlace::as_many))]
-    /// Puts an edge in front of the one at `index`, or behind the last.
+    /// Puts an edge before the one at `index`, or after the last.
     pub fn insert(&mut self, index: usize, edge: Edge)
         requires in_bounds { index ≤ length self.old }
         requires room { length self.old < ROWS }
@@ -60,6 +62,7 @@ impl EdgeList {
     }
 
     #[tactic(auto, using(crate::proofs::InPlace::moved_down, crate::proofs::InPlace::as_many))]
+    /// Takes out the edge at `index`.
     pub fn remove(&mut self, index: usize)
         requires { index < length self.old }
         ensures { self.new ≡ remove self.old index }

@@ -1,4 +1,5 @@
-//! What is read off the edges of a track. An edge is a viewer with the row before which it ends, so that each viewer begins where the one under
+//! What is read off the edges of a track. An edge is a viewer with the row before which it ends, so that each viewer
+//! begins where the one under
 //! it ends; clauses speak of the viewers with their heights.
 ghost use Rattle.std.specs.Prelude.{◌≡◌, ◌+◌, ◌/◌, ◌<◌, ◌≤◌, ◌↔◌, length, nat_le};
 ghost use Rattle.std.specs.List.{position_or_len};
@@ -92,7 +93,7 @@ pub fn middle_of_tallest(edges: &[Edge]) -> u8
 }
 
 /// The row to which the top of a viewer comes that is to be moved to `y`.
-#[tactic(auto, using(crate::proofs::Moving::change_top_below, crate::proofs::Moving::change_top_last, crate::proofs::Moving::top_positive))]
+#[tactic(auto, using(crate::proofs::Moving::change_tops))]
 pub fn change_top(edges: &[Edge], index: usize, y: u8) -> u8
     requires rising { Rises 0 edges.now }
     requires in_bounds { index < length edges.now }
@@ -124,7 +125,7 @@ pub fn open_top(edges: &[Edge], y: u8) -> u8
 }
 
 /// Whether a viewer that ends before row `top` takes the whole place of the entry's viewer.
-#[tactic(auto, using(crate::proofs::Opening::edge_taken, crate::proofs::Opening::filler_left, std::proofs::lemmas::Bool::Decides::nat_tests))]
+#[tactic(auto, using(crate::proofs::Opening::place_tests))]
 pub fn takes_place(edges: &[Edge], index: usize, top: u8) -> bool
     requires { Rises 0 edges.now }
     ensures { result ≡ takes_place (entries_from 0 edges.now) index top }

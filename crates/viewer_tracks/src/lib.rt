@@ -1,8 +1,10 @@
 //! Where viewers stand on the display.
 //!
-//! A column of the display, the user's or the system's, shows a track: viewers over one another with their heights, and over them the
-//! filler. `Tracks` holds the tracks of both columns. A clause sees it as the record `Columns` of `specs/Columns.antt`, and what the calls do to
-//! a track is said in `specs/Edits.antt`; this crate knows nothing of what a viewer shows.
+//! A column of the display, the user's or the system's, shows a track: viewers over one another with their heights, and
+//! over them the filler. `Tracks` holds the tracks of both columns. A clause sees it as the record `Columns` of
+//! `specs/Columns.antt`, and what the calls do to a track is said in `specs/Edits.antt`; this crate knows nothing of
+//! what
+//! a viewer shows.
 #![tactic(auto)]
 
 mod display;
@@ -20,6 +22,3 @@ pub use laws::{
 };
 pub use tracks::{Place, Tracks};
 pub use viewer_id::ViewerId;
-
-#[cfg(test)]
-mod tests;

@@ -9,7 +9,8 @@ use crate::viewer_id::ViewerId;
 use crate::viewers::Viewers;
 use std::marker::Model;
 
-/// The tracks of the display, each viewer in one place at most. They take no memory. A clause sees them as two columns, each the list of its
+/// The tracks of the display, each viewer in one place at most. They take no memory. A clause sees them as two
+/// columns, each the list of its
 /// tracks, and a track as the list of its viewers with their heights.
 #[derive(Debug, Drop)]
 pub struct Tracks {
@@ -40,7 +41,9 @@ pub struct Place {
 }
 
 impl Tracks {
-    ghost use Rattle.viewer_tracks.specs.Columns.{Columns, IsColumns, IsPlaced, no_viewers, track_of, placed_bottom, placed_top, StandsAt, seen_at, after_open, replaced_at, after_change, after_close, allocated};
+    ghost use Rattle.viewer_tracks.specs.Columns.{Columns, IsColumns, IsPlaced, no_viewers, track_of, placed_bottom};
+    ghost use Rattle.viewer_tracks.specs.Columns.{placed_top, StandsAt, seen_at, allocated};
+    ghost use Rattle.viewer_tracks.specs.Columns.{after_open, replaced_at, after_change, after_close};
 
     /// Two tracks that are all filler.
     pub fn new() -> Self
@@ -62,8 +65,9 @@ impl Tracks {
     }
 
     #[tactic(auto, using(crate::proofs::ColumnLemmas::after_open_user, crate::proofs::ColumnLemmas::after_open_system))]
-    /// Opens a viewer in the track of column `x`, up to row `y` (any row above the display is its upper edge), and answers the viewer whose
-    /// whole place it took.
+    /// Opens a viewer in the track of column `x`, up to row `y` (any row above the display is its upper edge), and
+    /// returns
+    /// the viewer whose whole place it took.
     pub fn open(&mut self, viewer: ViewerId, x: u8, y: u8) -> Option<ViewerId>
         requires fresh { ¬ IsPlaced viewer.0 self.old }
         requires in_display { x < COLUMNS }
@@ -77,8 +81,9 @@ impl Tracks {
         }
     }
 
-    #[tactic(auto, using(crate::proofs::ColumnLemmas::after_change_user, crate::proofs::ColumnLemmas::after_change_system))]
-    /// Moves the top of a viewer to row `y`, or as near to it as the display and a viewer above let it. Where `y` would leave the viewer no
+    #[tactic(auto, using(crate::proofs::ColumnLemmas::after_changes))]
+    /// Moves the top of a viewer to row `y`, or as near to it as the display and a viewer above let it. Where `y`
+    /// would leave the viewer no
     /// row, nothing changes.
     pub fn change(&mut self, viewer: ViewerId, y: u8)
         requires { IsPlaced viewer.0 self.old }
@@ -92,7 +97,7 @@ impl Tracks {
         }
     }
 
-    #[tactic(auto, using(crate::proofs::ColumnLemmas::after_close_user, crate::proofs::ColumnLemmas::after_close_system))]
+    #[tactic(auto, using(crate::proofs::ColumnLemmas::after_closes))]
     /// Takes a viewer away. The viewer above it, or the filler, gets its rows.
     pub fn close(&mut self, viewer: ViewerId)
         requires { IsPlaced viewer.0 self.old }
@@ -141,7 +146,8 @@ impl Tracks {
         }
     }
 
-    /// The cell, as column and row, at which to open a new viewer: right above the marker, in whichever track that is, or without a marker in
+    /// The cell, as column and row, at which to open a new viewer: right above the marker, in whichever track that
+    /// is, or without a marker in
     /// the left column of `track` where that has room.
     pub fn allocate(&self, track: Track, marker: Option<(u8, u8)>) -> (u8, u8)
         requires { ForSome marker (λ m. (m.0 < COLUMNS) × (m.1 < ROWS)) }

@@ -15,6 +15,7 @@ use std::ops::Range;
 /// How many rows the filler has where a new viewer goes there.
 const ROOM: u8 = 4;
 
+/// The viewers of a track, each with the row before which it ends.
 #[derive(Debug, Drop)]
 pub struct Viewers {
     edges: EdgeList,
@@ -33,6 +34,7 @@ impl Model for Viewers {
 }
 
 impl Viewers {
+    /// No viewer.
     pub fn new() -> Self
         ensures { result ≡ [] }
     {
@@ -41,6 +43,7 @@ impl Viewers {
         }
     }
 
+    /// Whether a viewer stands in the track.
     pub fn contains(&self, viewer: ViewerId) -> bool
         ensures { IsTrue result ↔ (0 < times_in viewer.0 self.now) }
     {
@@ -48,8 +51,8 @@ impl Viewers {
         edges::index_of(edges, viewer) < edges.len()
     }
 
-    /// Opens a viewer at row `y`, and answers the one whose whole place it took.
-    #[tactic(auto, using(crate::proofs::Opening::taken_track, crate::proofs::Opening::taken_replaced, crate::proofs::Opening::taken_within, crate::proofs::Opening::taken_rises, crate::proofs::Opening::inserted, crate::proofs::Opening::inserted_replaced, crate::proofs::Opening::inserted_rises, crate::proofs::Opening::room, crate::proofs::Opening::entry_within, std::proofs::lemmas::Grind::common_steps))]
+    /// Opens a viewer at row `y`, and returns the one whose whole place it took.
+    #[tactic(auto, using(crate::proofs::Opening::opening_steps))]
     pub fn open(&mut self, viewer: ViewerId, y: u8) -> Option<ViewerId>
         ensures track { self.new ≡ opened self.old viewer.0 y }
         ensures replaced { number_of result ≡ replaced self.old y }
@@ -68,7 +71,7 @@ impl Viewers {
     }
 
     /// Moves the top of a viewer to row `y`, or as near to it as may be.
-    #[tactic(auto, using(crate::proofs::Moving::changed_up, crate::proofs::Moving::changed_not, crate::proofs::Moving::rises_changed, std::proofs::lemmas::Grind::common_steps))]
+    #[tactic(auto, using(crate::proofs::Moving::changing_steps))]
     pub fn change(&mut self, viewer: ViewerId, y: u8)
         requires { 0 < times_in viewer.0 self.old }
         ensures track { self.new ≡ changed self.old (entry_of self.old viewer.0) y }

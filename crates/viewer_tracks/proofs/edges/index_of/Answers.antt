@@ -11,7 +11,8 @@ pub returns : goal.returns
 returns c =
     let edges = c.args.edges.now in
     let p = λ (e : Edge). e.viewer.0 == c.args.viewer.0 in
-    let found = position_from_yields_List p _ _ c.position.result c.position.ensures.ran (YieldsList-from_slice edges cc) (λ x b q k. search (rules, tests)) in
+    let found = position_from_yields_List p _ _ c.position.result c.position.ensures.ran
+    (YieldsList-from_slice edges cc) (λ x b q k. search (rules, tests)) in
     let is : c.unwrap_or.result ≡ position_or_len p edges =
     c.unwrap_or.ensures ∙ ap (λ o. unwrap_or o (length edges)) found ∙ unwrap_or_position p edges in
     record {

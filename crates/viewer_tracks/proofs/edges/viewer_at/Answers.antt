@@ -10,7 +10,8 @@ pub returns-in_err-edge : goal.returns-in_err-edge
 unfolding viewer_at
 returns-in_err-edge c =
     let edges = c.args.edges.now in
-    let lowest = c.reaching.ensures.lowest ∙ sym (lowest_reaching-entries_from edges (c.args.y + 1) c.requires.rising) in
+    let lowest = c.reaching.ensures.lowest
+    ∙ sym (lowest_reaching-entries_from edges (c.args.y + 1) c.requires.rising) in
     ap number_of c.from_residual.ensures ∙ sym (viewer_of-past 0 edges c.reaching.result c.in_err-edge.ensures.lookup.3)
     ∙ ap (viewer_of (entries_from 0 edges)) lowest
 
@@ -18,7 +19,8 @@ pub returns : goal.returns
 unfolding viewer_at
 returns c =
     let edges = c.args.edges.now in
-    let lowest = c.reaching.ensures.lowest ∙ sym (lowest_reaching-entries_from edges (c.args.y + 1) c.requires.rising) in
+    let lowest = c.reaching.ensures.lowest
+    ∙ sym (lowest_reaching-entries_from edges (c.args.y + 1) c.requires.rising) in
     ap (λ (e : Edge). Some e.viewer.0) c.in_ok-edge.ensures.lookup.1
     ∙ sym (viewer_of-entries_from 0 edges c.reaching.result c.in_ok-edge.edge.now c.in_ok-edge.ensures.lookup.3.0)
     ∙ ap (viewer_of (entries_from 0 edges)) lowest

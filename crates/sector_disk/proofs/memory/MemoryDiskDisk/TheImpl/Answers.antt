@@ -4,27 +4,41 @@ use Rattle.sector_disk.specs.Trail.{Nowhere, Only}
 use Rattle.sector_disk.specs.Confined.{IsConfined}
 use Rattle.sector_disk.specs.Memory.{trail_of}
 use Rattle.sector_disk.proofs.Confinement.{stays_put}
-use Rattle.sector_disk.proofs.Replay.{counts_none, always, confined, happened, nothing_happened, write_stays, sync_stays}
+use Rattle.sector_disk.proofs.Replay.{
+  counts_none,
+  always,
+  confined,
+  happened,
+  nothing_happened,
+  write_stays,
+  sync_stays,
+}
 use Rattle.sector_disk.proofs.memory.MemoryDiskDisk.TheImpl.Goals as goal
 
 pub read-tells : goal.read-tells
 read-tells c = record {
-  kept = subst (IsConfined (λ d. d.size) (λ _. Unit {0}) (λ d. trail_of d.calls) Nowhere c.args.self.now) (sym c.ensures.unchanged) (stays_put (λ d. d.size) (λ _. Unit {0}) (λ d. trail_of d.calls) Nowhere c.args.self.now);
-  cause = counts_none c.result c.args.self.now.failures c.new.self.now.failures c.ensures.done (ap (λ d. d.failures) c.ensures.unchanged);
+  kept = subst (IsConfined (λ d. d.size) (λ _. Unit {0}) (λ d. trail_of d.calls) Nowhere c.args.self.now)
+      (sym c.ensures.unchanged) (stays_put (λ d. d.size) (λ _. Unit {0})
+      (λ d. trail_of d.calls) Nowhere c.args.self.now);
+  cause = counts_none c.result c.args.self.now.failures c.new.self.now.failures c.ensures.done
+      (ap (λ d. d.failures) c.ensures.unchanged);
   bytes = always c.result _ (λ _. c.ensures.bytes);
 }
 
 pub write-tells : goal.write-tells
 write-tells c =
     let call = Write c.args.n c.args.bytes.now in record {
-      kept = confined c.result (Only c.args.n) c.args.self.now c.new.self.now call c.ensures.size c.ensures.recorded c.ensures.refused (λ m. write_stays m c.args.n c.args.bytes.now);
+      kept = confined c.result
+          (Only c.args.n) c.args.self.now c.new.self.now call c.ensures.size c.ensures.recorded c.ensures.refused
+          (λ m. write_stays m c.args.n c.args.bytes.now);
       cause = c.ensures.cause;
       written = happened c.result c.args.self.now.calls c.new.self.now.calls call c.ensures.recorded;
     }
 
 pub sync-tells : goal.sync-tells
 sync-tells c = record {
-  kept = confined c.result Nowhere c.args.self.now c.new.self.now Sync c.ensures.size c.ensures.recorded c.ensures.refused sync_stays;
+  kept = confined c.result Nowhere c.args.self.now c.new.self.now Sync c.ensures.size c.ensures.recorded
+      c.ensures.refused sync_stays;
   cause = c.ensures.cause;
   settled = happened c.result c.args.self.now.calls c.new.self.now.calls Sync c.ensures.recorded;
   unsettled = nothing_happened c.result c.args.self.now.calls c.new.self.now.calls c.ensures.refused;

@@ -18,11 +18,13 @@ invariant_of-self-else-contains c =
     let placed = subst (IsPlaced c.args.viewer.0) (sym c.self.view_is) c.requires in
     let none = not_in c.args.viewer.0 c.self.inside.user c.if-contains.ensures.1 in
     subst (λ t. IsColumns (columns c.self.inside.user t)) (sym c.change-else-contains.ensures.track)
-    (changed_system _ _ _ _ c.self.invariant (in_system c.self.inside.user c.self.inside.system c.args.viewer.0 placed none))
+    (changed_system _ _ _ _ c.self.invariant
+    (in_system c.self.inside.user c.self.inside.system c.args.viewer.0 placed none))
 
 pub returns-else-contains-clause-sound : goal.returns-else-contains-clause-sound
 returns-else-contains-clause-sound c =
     let placed = subst (IsPlaced c.args.viewer.0) (sym c.self.view_is) c.requires in
     let none = not_in c.args.viewer.0 c.self.inside.user c.if-contains.ensures.1 in
     subst (λ t. IsColumns (columns c.self.inside.user t)) (sym c.change-else-contains.ensures.track)
-    (changed_system _ _ _ _ c.self.invariant (in_system c.self.inside.user c.self.inside.system c.args.viewer.0 placed none))
+    (changed_system _ _ _ _ c.self.invariant
+    (in_system c.self.inside.user c.self.inside.system c.args.viewer.0 placed none))

@@ -1,24 +1,28 @@
 //! Worked rows, and opening against a plain program over the rows of a track.
 ghost use Rattle.std.specs.Prelude.{◌≡◌, length};
 
-use crate::{ROWS, Track, Tracks, ViewerId};
 use std::process::Abort;
+use viewer_tracks::{ROWS, Track, Tracks, ViewerId};
 
+/// Opens a viewer in the user track.
 fn open(rt: &impl Abort, tracks: &mut Tracks, viewer: u8, y: u8) -> Option<ViewerId> {
     assert!(rt; !tracks.contains(ViewerId(viewer)));
     tracks.open(ViewerId(viewer), 0, y)
 }
 
+/// Moves the top of a viewer that is placed.
 fn change(rt: &impl Abort, tracks: &mut Tracks, viewer: u8, y: u8) {
     assert!(rt; tracks.contains(ViewerId(viewer)));
     tracks.change(ViewerId(viewer), y);
 }
 
+/// Closes a viewer that is placed.
 fn close(rt: &impl Abort, tracks: &mut Tracks, viewer: u8) {
     assert!(rt; tracks.contains(ViewerId(viewer)));
     tracks.close(ViewerId(viewer));
 }
 
+/// The rows of a viewer that is placed.
 fn rows(rt: &impl Abort, tracks: &Tracks, viewer: u8) -> (u8, u8) {
     assert!(rt; tracks.contains(ViewerId(viewer)));
     let place = tracks.place_of(ViewerId(viewer));
@@ -93,8 +97,9 @@ fn two_tracks(rt: HostRuntime) {
     assert_eq!(rt; tracks.place_of(ViewerId(2)).x, 50);
 }
 
-// Opens a viewer in a track that is told by the viewer of each row, 0 in the filler, and answers the viewer that is gone, or 0. The new viewer
-// gets the rows of the one that has the row under y, the lowest row where y is 0, from its first row up to y.
+/// Opens a viewer in a track that is told by the viewer of each row, 0 in the filler, and returns the viewer that is
+/// gone, or 0. The new viewer gets the rows of the one that has the row under y, the lowest row where y is 0, from its
+/// first row up to y.
 fn open_in_rows(rows: &mut [u8], viewer: u8, y: u8) -> u8
     requires { length rows.old ≡ 32 }
 {
@@ -113,7 +118,7 @@ fn open_in_rows(rows: &mut [u8], viewer: u8, y: u8) -> u8
     }
 }
 
-// Opens viewers 1, 2, .. at rows ys in an empty track, and compares with the program over rows.
+/// Opens viewers 1, 2, .. at rows ys in an empty track, and compares with the program over rows.
 fn opens_as_in_rows(rt: &impl Abort, ys: &[u8]) {
     let mut tracks = Tracks::new();
     let mut rows = [0; 32];
