@@ -49,6 +49,20 @@ impl Clone for Name {
     }
 }
 
+/// The name `A`, a blank that no list shows: the places of an array that holds no name yet have this value.
+impl Default for Name {
+    ghost use Rattle.std.specs.Prelude.{◌≡◌, [], ◌∷◌};
+
+    ghost is_default = { λ name. name ≡ 65 ∷ [] };
+
+    #[tactic(auto, unfolding(crate::specs::Bytes::is_letter, crate::specs::Bytes::is_digit, crate::specs::Bytes::is_name_byte))]
+    fn default() -> Name {
+        let mut bytes = ArrayVec::new();
+        bytes.push(b'A');
+        Name { bytes }
+    }
+}
+
 impl Name {
     /// The name of these bytes. None exactly where they are no name.
     pub fn new(bytes: &[u8]) -> Option<Name>
