@@ -5,6 +5,8 @@
 #![tactic(auto)]
 
 #[cfg(test)]
+mod desktops;
+#[cfg(test)]
 mod disks;
 #[cfg(test)]
 mod tracks;

@@ -1,5 +1,3 @@
-pub mod FileLemmas
-pub mod StepLemmas
-pub mod SeenLemmas
+pub mod EmptyLemmas
 pub mod ListLemmas
-pub mod MadeLemmas
+pub mod StopLemmas

@@ -1,18 +1,24 @@
 -- A listing speaks of lengths alone.
-use Rattle.std.proofs.Common.{◌≡◌, ℕ, List, [], ◌∷◌, ◌++◌, map, length, refl, ap, slice_index}
-use Rattle.std.proofs.lemmas.List.{length-map}
-use Rattle.piece_ring.specs.declared.piece.Look.{Look}
+use Rattle.std.proofs.Common.{◌≡◌, ℕ, List, [], ◌∷◌, ◌++◌, map, length, refl, ap, sym, subst, ◌∙◌, append_assoc}
+use Rattle.piece_ring.specs.declared.piece.Piece.{Piece}
+use Rattle.piece_ring.specs.Flat.{flat}
 use Rattle.event_loop_laws.specs.declared.entry.Entry.{Entry}
-use Rattle.event_loop_laws.specs.declared.entry.Entry.TheVariants.{File, Written}
+use Rattle.event_loop_laws.specs.declared.entry.Entry.TheVariants.{File}
 use Rattle.event_loop_laws.specs.Tables.{Files}
-use Rattle.event_loop_laws.specs.Desktop.{KeptDesktop}
-use Rattle.event_loop_laws.specs.Seen.{renamed_files, seen}
-use Rattle.event_loop_laws.specs.Listing.{file_entry, entries_of}
+use Rattle.event_loop_laws.specs.TableLaws.{length_seen_text}
+use Rattle.event_loop_laws.specs.Seen.{seen_table}
+use Rattle.event_loop_laws.specs.Listing.{file_entry}
 
-listed : {X Y : Type 0} (f : X → Y) (files : Files X) → map file_entry (renamed_files f files) ≡ map file_entry files
-listed {X} {Y} f [] = refl
-listed {X} {Y} f (e ∷ es) = λ k. File e.0 (length-map {B = Y × Look} e.1 (λ (c : X × Look). (f c.0, c.1)) k) ∷ listed f es k
+-- the entry of a file that is kept
+abbrev pub kept_entry : List ℕ × List Piece → Entry
+kept_entry file = File file.0 (length (flat file.1))
 
-pub seen_entries : (d : KeptDesktop) (characters : List ℕ) → entries_of (seen characters d) ≡ entries_of d
-unfolding entries_of seen
-seen_entries d characters = ap (λ (es : List Entry). es ++ Written d.written ∷ []) (listed (λ offset. slice_index characters offset) d.files)
+pub entries_seen : (characters : List ℕ) (files : Files (List Piece)) → map file_entry (seen_table characters files) ≡ map kept_entry files
+entries_seen characters [] = refl
+entries_seen characters (e ∷ es) = λ k. File e.0 (length_seen_text characters e.1 k) ∷ entries_seen characters es k
+
+pub entry_more : (before after : List Entry) (name : List ℕ) (len : ℕ) (e : List ℕ × List Piece) (rest now : Files (List Piece)) (all : List Entry)
+    → after ≡ before ++ File name len ∷ [] → name ≡ e.0 → len ≡ length (flat e.1) → now ≡ e ∷ rest → before ++ map kept_entry now ≡ all
+    → after ++ map kept_entry rest ≡ all
+entry_more before after name len e rest now all pushed same_name same_len next listed =
+    rw (pushed, same_name, same_len, append_assoc) (subst (λ (es : Files (List Piece)). before ++ map kept_entry es ≡ all) next listed)

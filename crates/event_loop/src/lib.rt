@@ -1,20 +1,18 @@
 //! The desktop, and what events do to it.
 //!
-//! A desktop is a fold over events. It is told here as files by name; `step` is what one event does to it, and what it answers.
+//! A desktop is a fold over events. `Desktop::step` does one event to it and returns the reply. What a desktop is, and what an event does to
+//! it, the definitions of `event_loop_laws` say: rules over bytes alone.
 //!
 //! A desktop keeps texts, and a text keeps offsets: the characters stand in a source, which each call that makes or reads them is handed.
-//! What an event does is defined over the characters (`specs/Step.antt`), and the calls promise it of the desktop as it is seen through its
-//! source (`specs/Seen.antt`).
+//! The calls promise what the definitions say of the desktop as it is seen among its characters.
 #![tactic(auto)]
 
+mod desk;
 mod desktop;
 mod files;
-mod made;
+mod held;
 mod stop;
 
 pub use desktop::Desktop;
 pub use event_loop_laws::{Entry, Reply, codes};
 pub use stop::{NoMemory, Stop};
-
-#[cfg(test)]
-mod tests;

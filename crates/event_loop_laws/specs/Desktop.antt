@@ -1,38 +1,109 @@
--- The desktop: files by name, and how many characters were ever written. X is what stands for a character: the byte that
--- it is, or the offset at which it is kept.
-use Rattle.std.specs.Prelude.{ℕ, ◌+◌, List, [], length, map, Option}
+-- The desktop: texts by number, of which text 0 is the log; viewers on the display, each with a menu and a main text; what is marked in
+-- them; and files by name. T is the type of a text.
+use Rattle.std.specs.Prelude.{ℕ, ◌+◌, List, [], ◌∷◌, length, Option, None}
 use Rattle.piece_ring.specs.declared.piece.Look.{Look}
+use Rattle.piece_ring.specs.declared.piece.Piece.{Piece}
+use Rattle.piece_ring.specs.Look.{default_look}
 use Rattle.piece_ring.specs.Text.{Text}
-use Rattle.event_loop_laws.specs.Tables.{Files, text_of, put, characters}
+use Rattle.viewer_tracks.specs.declared.display.Track.{Track}
+use Rattle.viewer_tracks.specs.Columns.{Columns, no_viewers}
+use Rattle.event_loop_laws.specs.Tables.{Texts, Files, named, with_values, lengths}
 
-pub record DesktopOver (X : Type 0) : Type 0 where
-  pub files : Files X
+-- the numbers of the texts that a viewer shows, and the position in the main one from which it shows it
+pub record Viewer : Type 0 where
+  pub menu : ℕ
+  pub main : ℕ
+  pub org : ℕ
+
+-- a place between two characters of a viewer's main text
+pub record Caret : Type 0 where
+  pub viewer : ℕ
+  pub position : ℕ
+
+-- the characters of a viewer's main text from `beg` up to before `end`
+pub record Selection : Type 0 where
+  pub viewer : ℕ
+  pub beg : ℕ
+  pub end : ℕ
+
+-- the viewer that was closed last, with the column in which it stood and the row of its top
+pub record Kept : Type 0 where
+  pub viewer : ℕ
+  pub track : Track
+  pub top : ℕ
+
+pub record DesktopOf (T : Type 0) : Type 0 where
+  -- by rising numbers
+  pub texts : Texts T
+  -- by rising ids, the one that was closed last among them
+  pub viewers : List (ℕ × Viewer)
+  pub columns : Columns
+  pub caret : Option Caret
+  -- from the oldest to the newest
+  pub selections : List Selection
+  -- a column of characters and a row of the display
+  pub marker : Option (ℕ × ℕ)
+  pub kept : Option Kept
+  -- by rising names
+  pub files : Files T
+  -- the buffers of what was copied and of what was deleted last
+  pub copied : T
+  pub deleted : T
+  -- the bytes for which a text was searched last
+  pub pattern : List ℕ
+  -- in which characters are typed
+  pub look : Look
+  -- how many characters were ever written
   pub written : ℕ
 
--- the desktop as it is seen, each character a byte
+-- the desktop as it is seen: a text is bytes in their looks
 abbrev pub Desktop : Type 0
-Desktop = DesktopOver ℕ
+Desktop = DesktopOf (Text ℕ)
 
--- the desktop as it is kept, each character an offset
+-- the desktop as it is kept: a text is pieces of the characters
 abbrev pub KeptDesktop : Type 0
-KeptDesktop = DesktopOver ℕ
+KeptDesktop = DesktopOf (List Piece)
 
-module _ {X : Type 0} where
-  unfoldable pub empty_desktop : DesktopOver X
-  empty_desktop = record { files = []; written = 0 }
+-- an empty log, and nothing else
+unfoldable pub empty_desktop : {X : Type 0} → DesktopOf (List X)
+empty_desktop = record {
+  texts = (0, []) ∷ [];
+  viewers = [];
+  columns = no_viewers;
+  caret = None;
+  selections = [];
+  marker = None;
+  kept = None;
+  files = [];
+  copied = [];
+  deleted = [];
+  pattern = [];
+  look = default_look;
+  written = 0;
+}
 
-  -- the text of the file of a name
-  unfoldable pub file_of : DesktopOver X → List ℕ → Option (Text X)
-  file_of d name = text_of d.files name
+-- the desktop with f of each text
+abbrev pub with_texts : {T U : Type 0} → (T → U) → DesktopOf T → DesktopOf U
+with_texts f d = record {
+  texts = with_values f d.texts;
+  viewers = d.viewers;
+  columns = d.columns;
+  caret = d.caret;
+  selections = d.selections;
+  marker = d.marker;
+  kept = d.kept;
+  files = with_values f d.files;
+  copied = f d.copied;
+  deleted = f d.deleted;
+  pattern = d.pattern;
+  look = d.look;
+  written = d.written;
+}
 
-  -- characters in one look
-  abbrev pub in_look : Look → List X → Text X
-  in_look look characters = map (λ c. (c, look)) characters
+-- the text of the file of a name
+unfoldable pub file_of : {T : Type 0} → DesktopOf T → List ℕ → Option T
+file_of d name = named d.files name
 
-  -- the file of that name becomes this text, which was written anew
-  unfoldable pub filed : DesktopOver X → List ℕ → Text X → DesktopOver X
-  filed d name text = record { files = put d.files name text; written = d.written + length text }
-
-  -- the characters that it holds
-  unfoldable pub held : DesktopOver X → ℕ
-  held d = characters d.files
+-- how many characters stand in all texts, files and both buffers
+unfoldable pub held : Desktop → ℕ
+held d = lengths d.texts + lengths d.files + length d.copied + length d.deleted

@@ -4,6 +4,10 @@ pub mod Desktop
 pub mod Seen
 pub mod Step
 pub mod Sound
-pub mod Soundness
 pub mod Listing
 pub mod Shown
+pub mod Outcome
+pub mod TableLaws
+pub mod SeenLaws
+pub mod StepLaws
+pub mod OutcomeLaws

@@ -1,13 +1,18 @@
 //! What a desktop is and what events do to it, in definitions, with their laws and the types that the definitions speak of.
 //!
-//! `specs/Desktop.antt` says what a desktop is, `specs/Step.antt` what one event does to it, `specs/Seen.antt` how a desktop that is kept is
-//! seen among its characters. The crate `event_loop` has the code.
+//! A desktop is a fold over events. `specs/Desktop.antt` says what it has, and `specs/Step.antt` what one event does to it: rules over
+//! bytes alone. A desktop that is kept has texts of pieces, which name characters that stand in a source; `specs/Seen.antt` says how it is
+//! seen among them, `specs/Sound.antt` what holds of it at all times, and `specs/Outcome.antt` what a call promises that does an event.
+//! The crate `event_loop` has the code.
 #![tactic(auto)]
 
+pub mod codes;
 mod entry;
 mod laws;
+mod limits;
 mod reply;
 
 pub use entry::Entry;
-pub use laws::{empty_is_sound, step_keeps_sound, steps_of_more};
-pub use reply::{Reply, codes};
+pub use laws::{empty_is_sound, more_change_nothing, steps_of_more};
+pub use limits::{MOST_FILES, MOST_HELD, MOST_WRITTEN};
+pub use reply::Reply;

@@ -1,19 +1,10 @@
-//! What an event is answered.
+//! What the desktop replies to an event.
 
-/// What an event is answered.
+/// What the desktop replies to an event.
 #[derive(Clone, Copy, Debug, PartialEq, Eq)]
 pub enum Reply {
     /// It was done.
     Done,
     /// It was refused, with one of the `codes`: the desktop is as it was.
     No(u8),
-}
-
-/// Why an event is refused. The numbers are this profile's.
-pub mod codes {
-    /// The desktop after the event would pass a limit: 4,194,304 characters ever written, or 262,144 held. Of all refusals this comes last.
-    pub const FULL: u8 = 6;
-
-    /// There is no file of that name, and there are 256 files.
-    pub const TOO_MANY_FILES: u8 = 8;
 }

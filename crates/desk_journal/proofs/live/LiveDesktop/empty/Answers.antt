@@ -1,12 +1,9 @@
-use Rattle.std.proofs.Common.{◌≡◌, ◌∙◌, length, refl, sym, ap}
-use Rattle.event_loop_laws.specs.Desktop.{KeptDesktop, Desktop, empty_desktop}
-use Rattle.event_loop_laws.specs.Seen.{seen}
+use Rattle.std.proofs.Common.{ℕ, ◌∙◌, List, sym, ap, subst}
+use Rattle.event_loop_laws.specs.Sound.{IsOver}
 use Rattle.desk_journal.proofs.live.LiveDesktop.empty.Goals as goal
 
 pub returns-clause-empty : goal.returns-clause-empty
-unfolding seen empty_desktop
-returns-clause-empty c = ap (λ (d : KeptDesktop). seen c.new.result d) c.in_ok-empty.ensures
+returns-clause-empty c = c.in_ok-empty.ensures.seen c.new.result
 
 pub returns-clause-whole : goal.returns-clause-whole
-unfolding empty_desktop
-returns-clause-whole c = ap length c.new.ensures ∙ ap (λ (d : KeptDesktop). d.written) (sym c.in_ok-empty.ensures)
+returns-clause-whole c = subst (λ (characters : List ℕ). IsOver characters c.in_ok-empty.field-0) (sym c.new.ensures) c.in_ok-empty.ensures.over

@@ -1,5 +1,5 @@
 use Rattle.std.proofs.Common.{ℕ, ◌∙◌, ap, None}
-use Rattle.viewer_tracks.specs.Columns.{Columns, no_viewers}
+use Rattle.viewer_tracks.specs.Columns.{Columns}
 use Rattle.screen_cells.specs.Picture.{picture}
 use Rattle.screen_cells.specs.Screen.{screen_of, cell_at}
 use Rattle.event_loop_laws.specs.Shown.{shown_screen}

@@ -1,7 +1,24 @@
-use Rattle.event_loop.proofs.SeenLemmas.{seen_result}
+use Rattle.std.proofs.Common.{◌∙◌, ap, refl, subst, IfOk, Result}
+use Rattle.std.proofs.lemmas.Result.{IfOk-weaker}
+use Rattle.event_loop_laws.specs.declared.reply.Reply.{Reply}
+use Rattle.event_loop_laws.specs.declared.reply.Reply.TheVariants.{No}
+use Rattle.event_loop_laws.specs.Desktop.{KeptDesktop}
+use Rattle.event_loop_laws.specs.Seen.{seen}
+use Rattle.event_loop_laws.specs.Step.{step}
+use Rattle.event_loop_laws.specs.Outcome.{IsAnswered, IsUnchanged}
+use Rattle.event_loop.specs.declared.stop.Stop.{Stop}
+use Rattle.event_loop.specs.Kept.{kept}
 use Rattle.event_loop.proofs.desktop.Desktop.step.Goals as goal
 
 pub returns-clause-done : goal.returns-clause-done
-returns-clause-done g c =
-    seen_result (g.S.CharSource.honest c.args.source.now) c.act.result c.args.self.now c.act.new.self (g.S.CharSource.characters c.args.source.now) (g.S.CharSource.characters c.act.new.source) c.args.event.now
-    c.act.ensures.before c.requires c.act.ensures.kept c.act.ensures.done c.act.ensures.refusal c.act.ensures.stays
+returns-clause-done g c = IfOk-weaker c.act.result _ _ (λ reply answered. λ honest.
+    answered.exact honest ∙ ap (λ (d : KeptDesktop). step (seen (g.S.CharSource.characters c.args.source.now) d) c.args.event.now) c.self.view_is) c.act.ensures.answered
+
+pub returns-clause-refusal : goal.returns-clause-refusal
+returns-clause-refusal g c = λ code is.
+    let old = g.S.CharSource.characters c.args.source.now in
+    let new = g.S.CharSource.characters c.act.new.source in
+    let d = kept c.self.inside.desk in
+    let answered : IsAnswered (g.S.CharSource.honest c.args.source.now) old new d (kept c.act.new.self) (step (seen old d) c.args.event.now) (No code) =
+    subst (λ (r : Result Reply Stop). IfOk r (λ reply. IsAnswered (g.S.CharSource.honest c.args.source.now) old new d (kept c.act.new.self) (step (seen old d) c.args.event.now) reply)) is c.act.ensures.answered in
+    subst (λ (d : KeptDesktop). IsUnchanged old new d (kept c.act.new.self)) c.self.view_is (answered.refusal code refl)

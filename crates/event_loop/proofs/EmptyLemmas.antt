@@ -1,0 +1,61 @@
+-- The empty desktop.
+use Rattle.std.proofs.Common.{◌≡◌, ℕ, zero, suc, List, [], ◌∷◌, None, refl, sym, ap, subst, ◌∙◌, arith}
+use Rattle.viewer_tracks.specs.Columns.{no_viewers}
+use Rattle.piece_ring.specs.declared.piece.Piece.{Piece}
+use Rattle.piece_ring.specs.Flat.{flat}
+use Rattle.piece_ring.specs.Look.{default_look}
+use Rattle.piece_ring.specs.Offsets.{AreWithin}
+use Rattle.piece_ring.specs.Text.{Text}
+use Rattle.readers_scanners.specs.Reading.{contents}
+use Rattle.event_loop_laws.specs.Tables.{Texts, Files}
+use Rattle.event_loop_laws.specs.Desktop.{KeptDesktop, empty_desktop}
+use Rattle.event_loop_laws.specs.Seen.{seen, seen_table}
+use Rattle.event_loop_laws.specs.Sound.{IsSound, IsOver, AllWithin}
+use Rattle.event_loop_laws.specs.StepLaws.{empty_sound}
+
+module _ (texts : Texts (List Piece)) (files : Files (List Piece)) (text : List Piece) (texts_is : texts ≡ (0, text) ∷ []) (none : files ≡ []) (is : flat text ≡ []) where
+  abbrev new_desktop : KeptDesktop
+  new_desktop = record {
+    texts = texts;
+    viewers = [];
+    columns = no_viewers;
+    caret = None;
+    selections = [];
+    marker = None;
+    kept = None;
+    files = files;
+    copied = [];
+    deleted = [];
+    pattern = [];
+    look = default_look;
+    written = 0;
+  }
+
+  pub empty_seen : (characters : List ℕ) → seen characters new_desktop ≡ empty_desktop
+  unfolding seen empty_desktop
+  empty_seen characters = λ k. record (seen characters new_desktop) {
+    texts = (ap (seen_table characters) texts_is ∙ ap (λ (t : Text ℕ). (0, contents characters t) ∷ []) is) k;
+    files = (ap (seen_table characters) none) k;
+  }
+
+  nothing : AreWithin 0 (flat text)
+  nothing = subst (AreWithin 0) (sym is) (λ i d low. absurd (omega (arith, low)))
+
+  one : AllWithin {K = ℕ} 0 ((0, text) ∷ [])
+  one zero d low = nothing
+  one (suc i) d low = absurd (omega (arith, low))
+
+  no_files : AllWithin {K = List ℕ} 0 []
+  no_files i d low = absurd (omega (arith, low))
+
+  pub empty_over : IsOver [] new_desktop
+  empty_over = record {
+    counted = refl;
+    whole = record {
+      texts = subst (AllWithin 0) (sym texts_is) one;
+      files = subst (AllWithin 0) (sym none) no_files;
+      copied = λ i d low. absurd (omega (arith, low));
+      deleted = λ i d low. absurd (omega (arith, low));
+      sound = λ characters. subst IsSound (sym (empty_seen characters)) empty_sound;
+    };
+  }

@@ -1,0 +1,12 @@
+//! How much a desktop may hold.
+
+use char_file::MOST_CHARACTERS;
+
+/// How many characters may ever be written.
+pub const MOST_WRITTEN: u32 = MOST_CHARACTERS;
+
+/// How many characters a desktop may hold at one time, in its texts, its files and both buffers.
+pub const MOST_HELD: u32 = 262_144;
+
+/// How many files there may be.
+pub const MOST_FILES: u32 = 256;
