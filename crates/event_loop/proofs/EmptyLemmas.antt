@@ -13,7 +13,8 @@ use Rattle.event_loop_laws.specs.Seen.{seen, seen_table}
 use Rattle.event_loop_laws.specs.Sound.{IsSound, IsOver, AllWithin}
 use Rattle.event_loop_laws.specs.StepLaws.{empty_sound}
 
-module _ (texts : Texts (List Piece)) (files : Files (List Piece)) (text : List Piece) (texts_is : texts ≡ (0, text) ∷ []) (none : files ≡ []) (is : flat text ≡ []) where
+module _ (texts : Texts (List Piece)) (files : Files (List Piece)) (text : List Piece)
+    (texts_is : texts ≡ (0, text) ∷ []) (none : files ≡ []) (is : flat text ≡ []) where
   abbrev new_desktop : KeptDesktop
   new_desktop = record {
     texts = texts;

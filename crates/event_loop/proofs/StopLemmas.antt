@@ -14,7 +14,8 @@ named : {T : Type 0} (result : Result T Stop) → IfErr result IsStop
 named (Ok x) = search rules
 named (Err stop) = let is = is_stop stop in search rules
 
-pub never_fails : {T : Type 0} (result : Result T Stop) (old new : ℕ) → ¬ IsErrOf result stops.Fault → new ≡ old → FailsAs stops.Fault IsStop result old new
+pub never_fails : {T : Type 0} (result : Result T Stop) (old new : ℕ) → ¬ IsErrOf result stops.Fault → new ≡ old
+    → FailsAs stops.Fault IsStop result old new
 never_fails result old new never same = record {
   rose = λ fault. absurd (never fault);
   calm = λ not. same;

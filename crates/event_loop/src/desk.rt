@@ -57,7 +57,8 @@ impl Desk {
     ) -> Result<Reply, Stop>
         requires { IsOver (S.characters source.old) (kept self.old) }
         ensures answered { IfOk result (λ reply.
-            IsAnswered (S.honest source.old) (S.characters source.old) (S.characters source.new) (kept self.old) (kept self.new)
+            IsAnswered (S.honest source.old) (S.characters source.old) (S.characters source.new)
+            (kept self.old) (kept self.new)
             (step (seen (S.characters source.old) (kept self.old)) event.now) reply) }
         ensures grows { S.honest source.old → Grows (S.characters source.old) (S.characters source.new) }
         ensures source { IsSameSource S.failures S.honest S.same_ground source.old source.new }
@@ -78,7 +79,8 @@ impl Desk {
     ) -> Result<Reply, Stop>
         requires { IsOver (S.characters source.old) (kept self.old) }
         ensures answered { IfOk result (λ reply.
-            IsAnswered (S.honest source.old) (S.characters source.old) (S.characters source.new) (kept self.old) (kept self.new)
+            IsAnswered (S.honest source.old) (S.characters source.old) (S.characters source.new)
+            (kept self.old) (kept self.new)
             (step (seen (S.characters source.old) (kept self.old)) (File name.now bytes.now)) reply) }
         ensures grows { Grows (S.characters source.old) (S.characters source.new) }
         ensures source { IsSameSource S.failures S.honest S.same_ground source.old source.new }

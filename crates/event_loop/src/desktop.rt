@@ -29,9 +29,10 @@ use viewer_tracks::Tracks;
 
 /// A desktop: texts by number, files by name, and how many characters were ever written.
 ///
-/// A clause sees it as it is kept (`KeptDesktop` in `specs/Desktop.antt` of `event_loop_laws`), each text as pieces that name characters.
-/// These stand in a source, among which the desktop is `seen`. Each call that makes or reads characters is handed the source, and asks that
-/// the desktop is over it (`IsOver`): the source has just the characters that were written.
+/// A clause sees it as it is kept (`KeptDesktop` in `specs/Desktop.antt` of `event_loop_laws`), each text as pieces
+/// that name characters. These stand in a source, among which the desktop is `seen`. Each call that makes or reads
+/// characters is handed the source, and asks that the desktop is over it (`IsOver`): the source has just the characters
+/// that were written.
 #[derive(Drop)]
 pub struct Desktop {
     desk: Desk,
@@ -57,10 +58,12 @@ impl Desktop {
         Ok(Desktop { desk })
     }
 
-    /// Does the event, by this profile's rules, and returns Done, or No with the code of a refusal, which leaves the desktop and the length
-    /// of the source. The source has just the characters that were written, before and after any reply.
+    /// Does the event, by this profile's rules, and returns Done, or No with the code of a refusal, which leaves the
+    /// desktop and the length of the source. The source has just the characters that were written, before and after any
+    /// reply.
     ///
-    /// NoMemory where an allocation is refused; Fault where a character could not be read. The desktop isn't used again after either.
+    /// NoMemory where an allocation is refused; Fault where a character could not be read. The desktop isn't used again
+    /// after either.
     pub fn step<S: CharSource>(
         &mut self,
         alloc: Global,
@@ -68,8 +71,8 @@ impl Desktop {
         source: &mut S,
     ) -> Result<Reply, Stop>
         requires { IsOver (S.characters source.old) self.old }
-        ensures done { IfOk result (λ reply. S.honest source.old
-            → (seen (S.characters source.new) self.new, reply) ≡ step (seen (S.characters source.old) self.old) event.now) }
+        ensures done { IfOk result (λ reply. S.honest source.old → (seen (S.characters source.new) self.new, reply)
+            ≡ step (seen (S.characters source.old) self.old) event.now) }
         ensures over { OnOk result (IsOver (S.characters source.new) self.new) }
         ensures replies { IfOk result IsReply }
         ensures refusal { (code : ℕ) → result ≡ Ok (No code)
@@ -84,8 +87,8 @@ impl Desktop {
     /// The text of the file of that name. None exactly where there is no file of that name.
     pub fn file(&self, name: &Name) -> Option<&Text>
         ensures kept { option_map (λ text. text.now) result ≡ file_of self.now name.now }
-        ensures seen { (characters : List ℕ)
-            → option_map (λ text. contents characters (flat text.now)) result ≡ file_of (seen characters self.now) name.now }
+        ensures seen { (characters : List ℕ) → option_map (λ text. contents characters (flat text.now)) result
+            ≡ file_of (seen characters self.now) name.now }
         ensures within { (characters : List ℕ) → IsOver characters self.now
             → IfSome result (λ text. AreWithin (length characters) (flat text.now)) }
     {
@@ -94,7 +97,8 @@ impl Desktop {
 
     /// An entry for each file, by rising names, and at last one for how many characters were ever written.
     ///
-    /// NoMemory where an allocation is refused; Fault where a character could not be read. The desktop stays, whatever is returned.
+    /// NoMemory where an allocation is refused; Fault where a character could not be read. The desktop stays, whatever
+    /// is returned.
     pub fn list<S: CharSource>(&mut self, alloc: Global, source: &mut S) -> Result<Vec<Entry>, Stop>
         requires { IsOver (S.characters source.old) self.old }
         ensures entries { IfOk result (λ entries. S.honest source.old
@@ -111,8 +115,8 @@ impl Desktop {
 
     /// Paints what the desktop shows: all filler, since no event opens a viewer or sets the marker yet.
     ///
-    /// NoMemory where an allocation is refused; Fault where a character could not be read, and the screen may then show anything. The
-    /// desktop stays, whatever is returned.
+    /// NoMemory where an allocation is refused; Fault where a character could not be read, and the screen may then show
+    /// anything. The desktop stays, whatever is returned.
     pub fn screen<S: CharSource>(
         &mut self,
         alloc: Global,

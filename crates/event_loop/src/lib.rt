@@ -1,10 +1,10 @@
 //! The desktop, and what events do to it.
 //!
-//! A desktop is a fold over events. `Desktop::step` does one event to it and returns the reply. What a desktop is, and what an event does to
-//! it, the definitions of `event_loop_laws` say: rules over bytes alone.
+//! A desktop is a fold over events. `Desktop::step` does one event to it and returns the reply. What a desktop is, and
+//! what an event does to it, the definitions of `event_loop_laws` say: rules over bytes alone.
 //!
-//! A desktop keeps texts, and a text keeps offsets: the characters stand in a source, which each call that makes or reads them is handed.
-//! The calls promise what the definitions say of the desktop as it is seen among its characters.
+//! A desktop keeps texts, and a text keeps offsets: the characters stand in a source, which each call that makes or
+//! reads them is handed. The calls promise what the definitions say of the desktop as it is seen among its characters.
 #![tactic(auto)]
 
 mod desk;

@@ -1,4 +1,5 @@
--- The desktop: texts by number, of which text 0 is the log; viewers on the display, each with a menu and a main text; what is marked in
+-- The desktop: texts by number, of which text 0 is the log; viewers on the display, each with a menu and a main text;
+-- what is marked in
 -- them; and files by name. T is the type of a text.
 use Rattle.std.specs.Prelude.{ℕ, ◌+◌, List, [], ◌∷◌, length, Option, None}
 use Rattle.piece_ring.specs.declared.piece.Look.{Look}

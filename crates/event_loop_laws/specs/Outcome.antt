@@ -23,7 +23,8 @@ pub record IsUnchanged (old new : List ℕ) (before after : KeptDesktop) : Type 
   pub as_long : length new ≡ length old
 
 -- What a call leaves of a source of characters, whatever it returns.
-pub record IsSameSource {S : Type 0} (failures : S → ℕ) (honest : S → Type 0) (same_ground : S → S → Type 0) (old new : S) : Type 0 where
+pub record IsSameSource {S : Type 0} (failures : S → ℕ) (honest : S → Type 0) (same_ground : S → S → Type 0)
+    (old new : S) : Type 0 where
   -- it is honest exactly if it was
   pub premise : honest new ↔ honest old
   -- it stands on what it stood on
@@ -31,7 +32,8 @@ pub record IsSameSource {S : Type 0} (failures : S → ℕ) (honest : S → Type
   pub no_fewer : failures old ≤ failures new
 
 -- A reply, with the desktop and the characters after it, where the definitions say that they are to be this outcome.
-pub record IsAnswered (honest : Type 0) (old new : List ℕ) (before after : KeptDesktop) (outcome : Desktop × Reply) (reply : Reply) : Type 0 where
+pub record IsAnswered (honest : Type 0) (old new : List ℕ) (before after : KeptDesktop) (outcome : Desktop × Reply)
+    (reply : Reply) : Type 0 where
   -- what was read stood there, so desktop and reply are just this outcome
   pub exact : honest → (seen new after, reply) ≡ outcome
   -- whatever was read:

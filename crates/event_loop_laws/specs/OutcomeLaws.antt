@@ -25,7 +25,8 @@ use Rattle.event_loop_laws.specs.StepLaws.{file_done, filed_sound}
 use Rattle.event_loop_laws.specs.Sound.{IsSound, AllWithin, IsOver}
 use Rattle.event_loop_laws.specs.Outcome.{codes, IsAnswered}
 
-pub refused : (H : Type 0) (old : List ℕ) (d : KeptDesktop) (outcome : Desktop × Reply) (code : ℕ) → IsOver old d → OneOf codes code → (H → (seen old d, No code) ≡ outcome) → IsAnswered H old old d d outcome (No code)
+pub refused : (H : Type 0) (old : List ℕ) (d : KeptDesktop) (outcome : Desktop × Reply) (code : ℕ) → IsOver old d
+    → OneOf codes code → (H → (seen old d, No code) ≡ outcome) → IsAnswered H old old d d outcome (No code)
 refused H old d outcome code over known is = record {
   exact = is;
   over = over;
@@ -33,7 +34,8 @@ refused H old d outcome code over known is = record {
   refusal = λ c same. record { desktop = refl; as_long = refl };
 }
 
-pub acted : (H : Type 0) (old new : List ℕ) (d after : KeptDesktop) (outcome : Desktop × Reply) → IsOver new after → (H → (seen new after, Done) ≡ outcome) → IsAnswered H old new d after outcome Done
+pub acted : (H : Type 0) (old new : List ℕ) (d after : KeptDesktop) (outcome : Desktop × Reply) → IsOver new after
+    → (H → (seen new after, Done) ≡ outcome) → IsAnswered H old new d after outcome Done
 acted H old new d after outcome over is = record {
   exact = is;
   over = over;
@@ -46,7 +48,8 @@ length_plain bytes = length-map {B = ℕ × Look} bytes (λ (b : ℕ). (b, defau
 
 -- ---- a file
 
-module _ (H : Type 0) (old bytes new : List ℕ) (d : KeptDesktop) (name : List ℕ) (text : List Piece) (files : Files (List Piece)) (over : IsOver old d) (valid : IsTrue (is_name name)) (grown : new ≡ old ++ bytes)
+module _ (H : Type 0) (old bytes new : List ℕ) (d : KeptDesktop) (name : List ℕ) (text : List Piece)
+    (files : Files (List Piece)) (over : IsOver old d) (valid : IsTrue (is_name name)) (grown : new ≡ old ++ bytes)
     (is : flat text ≡ run d.written (length bytes) default_look) (put_is : files ≡ put d.files name text) where
   -- the desktop that is kept, with that file
   abbrev with_file : KeptDesktop
@@ -55,14 +58,16 @@ module _ (H : Type 0) (old bytes new : List ℕ) (d : KeptDesktop) (name : List 
   long : (characters : List ℕ) → length (seen_text characters text) ≡ length bytes
   long characters = length_seen_text characters text ∙ ap length is ∙ length-run d.written (length bytes) default_look
 
-  file_read : (characters : List ℕ) → seen characters with_file ≡ filed (seen characters d) name (seen_text characters text)
+  file_read : (characters : List ℕ)
+      → seen characters with_file ≡ filed (seen characters d) name (seen_text characters text)
   unfolding seen filed
   file_read characters = λ k. record (seen characters d) {
     files = (ap (seen_table characters) put_is ∙ insert_seen (seen_text characters) name_cmp d.files name text) k;
     written = d.written + sym (long characters) k;
   }
 
-  module _ (fit : (characters : List ℕ) (text : Text ℕ) → length text ≡ length bytes → fits (filed (seen characters d) name text) ≡ true)
+  module _ (fit : (characters : List ℕ) (text : Text ℕ) → length text ≡ length bytes
+      → fits (filed (seen characters d) name text) ≡ true)
       (room : (characters : List ℕ) → has_room (seen_table characters d.files) name ≡ true) where
     room_seen : (characters : List ℕ) → has_room (seen characters d).files name ≡ true
     unfolding seen
@@ -73,19 +78,28 @@ module _ (H : Type 0) (old bytes new : List ℕ) (d : KeptDesktop) (name : List 
       counted = ap length grown ∙ length-append old bytes ∙ ap (λ n. n + length bytes) over.counted;
       whole = record {
         texts = longer d.written (d.written + length bytes) d.texts (omega arith) over.whole.texts;
-        files = subst (AllWithin (d.written + length bytes)) (sym put_is) (put_within d.written (d.written + length bytes) d.files name text (omega arith) over.whole.files
-            (subst (AreWithin (d.written + length bytes)) (sym is) (run-AreWithin (d.written + length bytes) d.written (length bytes) default_look (omega arith))));
+        files = subst (AllWithin (d.written + length bytes)) (sym put_is)
+            (put_within d.written (d.written + length bytes) d.files name text (omega arith) over.whole.files
+            (subst (AreWithin (d.written + length bytes)) (sym is)
+            (run-AreWithin (d.written + length bytes) d.written (length bytes) default_look (omega arith))));
         copied = AreWithin-longer d.written (d.written + length bytes) (flat d.copied) (omega arith) over.whole.copied;
-        deleted = AreWithin-longer d.written (d.written + length bytes) (flat d.deleted) (omega arith) over.whole.deleted;
+        deleted = AreWithin-longer d.written (d.written + length bytes) (flat d.deleted)
+            (omega arith) over.whole.deleted;
         sound = λ characters. subst IsSound (sym (file_read characters))
-            (filed_sound (seen characters d) name (seen_text characters text) (over.whole.sound characters) valid (room_seen characters) (fit characters _ (long characters)));
+            (filed_sound (seen characters d) name (seen_text characters text) (over.whole.sound characters) valid
+            (room_seen characters) (fit characters _ (long characters)));
       };
     }
 
     file_exact : (seen new with_file, Done) ≡ step (seen old d) (File name bytes)
     file_exact =
         (λ k. (file_read new k, Done))
-        ∙ (λ k. (filed ((ap (λ (l : List ℕ). seen l d) grown ∙ seen_longer old bytes d over) k) name ((ap (λ (l : List ℕ). seen_text l text) grown ∙ ap (contents (old ++ bytes)) is ∙ plain_read old bytes d over) k), Done))
+        ∙ (λ k. (
+          filed ((ap (λ (l : List ℕ). seen l d) grown ∙ seen_longer old bytes d over) k) name
+              ((ap (λ (l : List ℕ). seen_text l text) grown ∙ ap (contents (old ++ bytes)) is
+              ∙ plain_read old bytes d over) k),
+          Done,
+        ))
         ∙ file_done (seen old d) name bytes (room_seen old) (fit old (plain bytes) (length_plain bytes))
 
     pub file_answered : IsAnswered H old new d with_file (step (seen old d) (File name bytes)) Done

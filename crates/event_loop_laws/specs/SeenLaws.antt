@@ -19,15 +19,19 @@ use Rattle.event_loop_laws.specs.Seen.{seen_text, seen_table, seen}
 use Rattle.event_loop_laws.specs.Step.{plain}
 use Rattle.event_loop_laws.specs.Sound.{AllWithin, IsOver}
 
-pub contents_longer : (first more : List ℕ) (text : Text ℕ) → AreWithin (length first) text → contents (first ++ more) text ≡ contents first text
+pub contents_longer : (first more : List ℕ) (text : Text ℕ) → AreWithin (length first) text
+    → contents (first ++ more) text ≡ contents first text
 contents_longer first more [] within = refl
 contents_longer first more (c ∷ text) within = λ k.
-    (get_or_append_left first more 0 c.0 (within 0 c (omega arith)) k, c.1) ∷ contents_longer first more text (λ i d low. within (suc i) d (omega (arith, low))) k
+    (get_or_append_left first more 0 c.0 (within 0 c (omega arith)) k, c.1) ∷ contents_longer first more text
+    (λ i d low. within (suc i) d (omega (arith, low))) k
 
-table_longer : {K : Type 0} (first more : List ℕ) (table : List (K × List Piece)) → AllWithin (length first) table → seen_table (first ++ more) table ≡ seen_table first table
+table_longer : {K : Type 0} (first more : List ℕ) (table : List (K × List Piece)) → AllWithin (length first) table
+    → seen_table (first ++ more) table ≡ seen_table first table
 table_longer first more [] within = refl
 table_longer first more (e ∷ es) within = λ k.
-    (e.0, contents_longer first more (flat e.1) (within 0 e.1 (omega arith)) k) ∷ table_longer first more es (λ i d low. within (suc i) d (omega (arith, low))) k
+    (e.0, contents_longer first more (flat e.1) (within 0 e.1 (omega arith)) k) ∷ table_longer first more es
+    (λ i d low. within (suc i) d (omega (arith, low))) k
 
 -- a desktop over its characters is seen as before among more of them
 pub seen_longer : (first more : List ℕ) (d : KeptDesktop) → IsOver first d → seen (first ++ more) d ≡ seen first d
@@ -54,24 +58,32 @@ seen_longer first more d over =
       written = d.written;
     }
 
-read_new : (first bytes : List ℕ) (n : ℕ) → length first ≡ n → contents (first ++ bytes) (run n (length bytes) default_look) ≡ plain bytes
+read_new : (first bytes : List ℕ) (n : ℕ) → length first ≡ n
+    → contents (first ++ bytes) (run n (length bytes) default_look) ≡ plain bytes
 read_new first [] n long = refl
 read_new first (b ∷ bytes) n long =
-    let here : slice_index (first ++ b ∷ bytes) n ≡ b = subst (λ i. slice_index (first ++ b ∷ bytes) i ≡ b) long (get_or-append_seam first b bytes 0) in
-    let rest = read_new (first ++ b ∷ []) bytes (suc n) (let grown = length-append first (b ∷ []) in omega (arith, grown, long)) in
-    λ k. (here k, default_look) ∷ subst (λ (l : List ℕ). contents l (run (suc n) (length bytes) default_look) ≡ plain bytes) (append_assoc first (b ∷ []) bytes) rest k
+    let here : slice_index (first ++ b ∷ bytes) n
+    ≡ b = subst (λ i. slice_index (first ++ b ∷ bytes) i ≡ b) long (get_or-append_seam first b bytes 0) in
+    let rest = read_new (first ++ b ∷ []) bytes (suc n)
+    (let grown = length-append first (b ∷ []) in omega (arith, grown, long)) in
+    λ k. (here k, default_look) ∷ subst
+    (λ (l : List ℕ). contents l (run (suc n) (length bytes) default_look) ≡ plain bytes)
+    (append_assoc first (b ∷ []) bytes) rest k
 
 -- new characters read as the bytes of which they were made
-pub plain_read : (first bytes : List ℕ) (d : KeptDesktop) → IsOver first d → contents (first ++ bytes) (run d.written (length bytes) default_look) ≡ plain bytes
+pub plain_read : (first bytes : List ℕ) (d : KeptDesktop) → IsOver first d
+    → contents (first ++ bytes) (run d.written (length bytes) default_look) ≡ plain bytes
 plain_read first bytes d over = read_new first bytes d.written over.counted
 
 -- ---- a file that is found
 
-after_map : {A B C : Type 0} (f : A → B) (g : B → C) (found : Option A) → option_map (λ a. g (f a)) found ≡ option_map g (option_map f found)
+after_map : {A B C : Type 0} (f : A → B) (g : B → C) (found : Option A)
+    → option_map (λ a. g (f a)) found ≡ option_map g (option_map f found)
 after_map f g None = refl
 after_map f g (Some a) = refl
 
-pub found_among : {B : Type 0} (now : B → List Piece) (found : Option B) (d : KeptDesktop) (characters name : List ℕ) → option_map now found ≡ file_of d name
+pub found_among : {B : Type 0} (now : B → List Piece) (found : Option B) (d : KeptDesktop) (characters name : List ℕ)
+    → option_map now found ≡ file_of d name
     → option_map (λ b. seen_text characters (now b)) found ≡ file_of (seen characters d) name
 unfolding file_of seen
 found_among now found d characters name is =
@@ -79,15 +91,18 @@ found_among now found d characters name is =
     ∙ ap (option_map (seen_text characters)) is
     ∙ sym (lookup-map_values (seen_text characters) (is_at (name_cmp name)) d.files)
 
-of_found : {A B : Type 0} (now : B → A) (P : A → Type 0) (found : Option B) → IfSome (option_map now found) P → IfSome found (λ b. P (now b))
+of_found : {A B : Type 0} (now : B → A) (P : A → Type 0) (found : Option B) → IfSome (option_map now found) P
+    → IfSome found (λ b. P (now b))
 of_found now P None holds = holds
 of_found now P (Some b) holds = holds
 
-pub found_over : {B : Type 0} (now : B → List Piece) (found : Option B) (d : KeptDesktop) (characters name : List ℕ) → option_map now found ≡ file_of d name → IsOver characters d
+pub found_over : {B : Type 0} (now : B → List Piece) (found : Option B) (d : KeptDesktop) (characters name : List ℕ)
+    → option_map now found ≡ file_of d name → IsOver characters d
     → IfSome found (λ b. AreWithin (length characters) (flat (now b)))
 unfolding file_of
 found_over now found d characters name is over =
     let all = subst (λ n. AllWithin n d.files) (sym over.counted) over.whole.files in
     of_found now (λ pieces. AreWithin (length characters) (flat pieces)) found
     (subst (λ (o : Option (List Piece)). IfSome o (λ pieces. AreWithin (length characters) (flat pieces))) (sym is)
-    (IfSome-lookup_from_All (λ pieces. AreWithin (length characters) (flat pieces)) (is_at (name_cmp name)) d.files all))
+    (IfSome-lookup_from_All (λ pieces. AreWithin (length characters) (flat pieces))
+    (is_at (name_cmp name)) d.files all))

@@ -27,7 +27,8 @@ pub record IsSound (d : Desktop) : Type 0 where
 abbrev pub AllWithin : {K : Type 0} → ℕ → List (K × List Piece) → Type 0
 AllWithin n table = All (λ pieces. AreWithin n (flat pieces)) (values_of table)
 
--- A desktop that is kept: each character is one of those that were written, and the desktop is sound, whatever characters it is seen among.
+-- A desktop that is kept: each character is one of those that were written, and the desktop is sound, whatever
+-- characters it is seen among.
 pub record IsKeptWhole (d : KeptDesktop) : Type 0 where
   pub texts : AllWithin d.written d.texts
   pub files : AllWithin d.written d.files

@@ -1,5 +1,6 @@
 -- What an event does to the desktop, and the reply to it.
-use Rattle.std.specs.Prelude.{ℕ, ◌+◌, ◌&&◌, ◌||◌, nat_le, nat_lt, Bool, if◌then◌else◌, List, length, map, fold, is_some, Result, Ok, Err}
+use Rattle.std.specs.Prelude.{ℕ, ◌+◌, ◌&&◌, ◌||◌, nat_le, nat_lt, Bool, if◌then◌else◌, List, length, map, fold, is_some}
+use Rattle.std.specs.Prelude.{Result, Ok, Err}
 use Rattle.piece_ring.specs.Look.{default_look}
 use Rattle.piece_ring.specs.Text.{Text}
 use Rattle.event_bytes.specs.declared.event.Event.{Event}

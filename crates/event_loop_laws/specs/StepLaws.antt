@@ -1,5 +1,6 @@
 -- Laws of the step: each row by its cases, what it holds after a row, and that it leaves a sound desktop.
-use Rattle.std.specs.Prelude.{◌≡◌, ℕ, ◌+◌, ◌≤◌, ◌&&◌, nat_le, IsTrue, Bool, true, false, List, [], ◌∷◌, ◌++◌, length, fold}
+use Rattle.std.specs.Prelude.{◌≡◌, ℕ, ◌+◌, ◌≤◌, ◌&&◌, nat_le, IsTrue, Bool, true, false, List, [], ◌∷◌, ◌++◌, length}
+use Rattle.std.specs.Prelude.{fold}
 use Rattle.std.specs.List.Sorted.{IsStrictlySortedBy}
 use Rattle.std.proofs.Common.{refl, ap, arith, rules}
 use Rattle.std.proofs.lemmas.Bool.{leb-true}
@@ -21,21 +22,26 @@ module _ (d : Desktop) (name bytes : List ℕ) where
   unfolding step settled raw
   file_no_room none = rw none refl
 
-  pub file_full : has_room d.files name ≡ true → fits (filed d name (plain bytes)) ≡ false → (d, No full) ≡ step d (File name bytes)
+  pub file_full : has_room d.files name ≡ true → fits (filed d name (plain bytes)) ≡ false
+      → (d, No full) ≡ step d (File name bytes)
   unfolding step settled raw
   file_full room unfit = rw (room, unfit) refl
 
-  pub file_done : has_room d.files name ≡ true → fits (filed d name (plain bytes)) ≡ true → (filed d name (plain bytes), Done) ≡ step d (File name bytes)
+  pub file_done : has_room d.files name ≡ true → fits (filed d name (plain bytes)) ≡ true
+      → (filed d name (plain bytes), Done) ≡ step d (File name bytes)
   unfolding step settled raw
   file_done room fit = rw (room, fit) refl
 
 -- ---- the limits
 
 -- the limits, by numbers that are at hand
-pub fits_by : (d : Desktop) (written all : ℕ) → written ≡ d.written → all ≡ held d → (nat_le written most_written && nat_le all most_held) ≡ fits d
+pub fits_by : (d : Desktop) (written all : ℕ) → written ≡ d.written → all ≡ held d
+    → (nat_le written most_written && nat_le all most_held) ≡ fits d
 fits_by d written all w h = rw (w, h) refl
 
-pub held_filed : (d : Desktop) (name : List ℕ) (text : Text ℕ) (gone : ℕ) → lengths (put d.files name text) + gone ≡ lengths d.files + length text → held (filed d name text) + gone ≡ held d + length text
+pub held_filed : (d : Desktop) (name : List ℕ) (text : Text ℕ) (gone : ℕ)
+    → lengths (put d.files name text) + gone ≡ lengths d.files + length text
+    → held (filed d name text) + gone ≡ held d + length text
 unfolding filed held
 held_filed d name text gone sum = omega (arith, sum)
 
@@ -55,7 +61,8 @@ fit_held d fit = leb-true _ _ (both _ _ fit).1
 
 -- ---- what is sound stays so
 
-pub filed_sound : (d : Desktop) (name : List ℕ) (text : Text ℕ) → IsSound d → IsTrue (is_name name) → has_room d.files name ≡ true → fits (filed d name text) ≡ true → IsSound (filed d name text)
+pub filed_sound : (d : Desktop) (name : List ℕ) (text : Text ℕ) → IsSound d → IsTrue (is_name name)
+    → has_room d.files name ≡ true → fits (filed d name text) ≡ true → IsSound (filed d name text)
 unfolding filed
 filed_sound d name text sound valid room fit = record {
   log = sound.log;

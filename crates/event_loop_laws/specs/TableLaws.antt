@@ -1,5 +1,6 @@
 -- Laws of tables: what is done to a table is done to what is seen of it, and what a put leaves.
-use Rattle.std.specs.Prelude.{◌≡◌, ℕ, ◌+◌, ◌<◌, ◌≤◌, ◌||◌, nat_lt, Bool, true, false, cond, List, [], ◌∷◌, map, length, sum_by, slice_index, Option, Some, None, is_some}
+use Rattle.std.specs.Prelude.{◌≡◌, ℕ, ◌+◌, ◌<◌, ◌≤◌, ◌||◌, nat_lt, Bool, true, false, cond, List, [], ◌∷◌, map, length}
+use Rattle.std.specs.Prelude.{sum_by, slice_index, Option, Some, None, is_some}
 use Rattle.std.specs.Option.{option_map, unwrap_or}
 use Rattle.std.specs.List.{AllByRecursion}
 use Rattle.std.specs.List.Sorted.{IsStrictlySortedBy}
@@ -31,16 +32,20 @@ use Rattle.event_loop_laws.specs.Step.{has_room}
 -- ---- f of each text
 
 module _ {K T U : Type 0} (f : T → U) where
-  pub insert_seen : (cmp : K → K → Ordering) (es : List (K × T)) (k : K) (t : T) → with_values f (insert_entry cmp es k t) ≡ insert_entry cmp (with_values f es) k (f t)
+  pub insert_seen : (cmp : K → K → Ordering) (es : List (K × T)) (k : K) (t : T)
+      → with_values f (insert_entry cmp es k t) ≡ insert_entry cmp (with_values f es) k (f t)
   insert_seen cmp [] k t = refl
-  insert_seen cmp (e ∷ es) k t = elim (cmp k e.0) as (λ o. with_values f (match_ordering o ((k, t) ∷ e ∷ es) ((e.0, t) ∷ es) (e ∷ insert_entry cmp es k t))
-      ≡ match_ordering o ((k, f t) ∷ with_values f (e ∷ es)) ((e.0, f t) ∷ with_values f es) ((e.0, f e.1) ∷ insert_entry cmp (with_values f es) k (f t))) [
+  insert_seen cmp (e ∷ es) k t = elim (cmp k e.0) as
+      (λ o. with_values f (match_ordering o ((k, t) ∷ e ∷ es) ((e.0, t) ∷ es) (e ∷ insert_entry cmp es k t))
+      ≡ match_ordering o ((k, f t) ∷ with_values f (e ∷ es)) ((e.0, f t) ∷ with_values f es)
+      ((e.0, f e.1) ∷ insert_entry cmp (with_values f es) k (f t))) [
         | Less ↦ refl
         | Equal ↦ refl
         | Greater ↦ ap (λ (l : List (K × U)). (e.0, f e.1) ∷ l) (insert_seen cmp es k t)
       ]
 
-  pub lookup_seen : (test : K → Bool) (es : List (K × T)) → lookup test (with_values f es) ≡ option_map f (lookup test es)
+  pub lookup_seen : (test : K → Bool) (es : List (K × T))
+      → lookup test (with_values f es) ≡ option_map f (lookup test es)
   lookup_seen test es = lookup-map_values f test es
 
   pub length_seen : (es : List (K × T)) → length (with_values f es) ≡ length es
@@ -52,14 +57,17 @@ is_some_map f (Some x) = refl
 
 -- ---- lengths
 
-pub length_seen_text : (characters : List ℕ) (pieces : List Piece) → length (seen_text characters pieces) ≡ length (flat pieces)
-length_seen_text characters pieces = length-map {B = ℕ × Look} (flat pieces) (λ (c : ℕ × Look). (slice_index characters c.0, c.1))
+pub length_seen_text : (characters : List ℕ) (pieces : List Piece)
+    → length (seen_text characters pieces) ≡ length (flat pieces)
+length_seen_text characters pieces = length-map {B = ℕ × Look} (flat pieces)
+    (λ (c : ℕ × Look). (slice_index characters c.0, c.1))
 
 -- how many characters the texts of a table have that is kept
 abbrev pub kept_lengths : {K : Type 0} → List (K × List Piece) → ℕ
 kept_lengths table = sum_by (λ pieces. length (flat pieces)) (values_of table)
 
-pub lengths_seen : {K : Type 0} (characters : List ℕ) (table : List (K × List Piece)) → lengths (seen_table characters table) ≡ kept_lengths table
+pub lengths_seen : {K : Type 0} (characters : List ℕ) (table : List (K × List Piece))
+    → lengths (seen_table characters table) ≡ kept_lengths table
 lengths_seen characters [] = refl
 lengths_seen characters (e ∷ es) =
     sum_by-cons length (seen_text characters e.1) (values_of (seen_table characters es))
@@ -68,37 +76,50 @@ lengths_seen characters (e ∷ es) =
 
 -- ---- what is found
 
-pub found_seen : {K : Type 0} (test : K → Bool) (characters : List ℕ) (es : List (K × List Piece)) (text : List Piece) → lookup test es ≡ Some text → lookup test (seen_table characters es) ≡ Some (seen_text characters text)
-found_seen test characters es text found = lookup_seen (seen_text characters) test es ∙ ap (option_map (seen_text characters)) found
+pub found_seen : {K : Type 0} (test : K → Bool) (characters : List ℕ) (es : List (K × List Piece)) (text : List Piece)
+    → lookup test es ≡ Some text → lookup test (seen_table characters es) ≡ Some (seen_text characters text)
+found_seen test characters es text found = lookup_seen (seen_text characters) test es
+    ∙ ap (option_map (seen_text characters)) found
 
-pub missing_seen : {K : Type 0} (test : K → Bool) (characters : List ℕ) (es : List (K × List Piece)) → lookup test es ≡ None → lookup test (seen_table characters es) ≡ None
-missing_seen test characters es found = lookup_seen (seen_text characters) test es ∙ ap (option_map (seen_text characters)) found
+pub missing_seen : {K : Type 0} (test : K → Bool) (characters : List ℕ) (es : List (K × List Piece))
+    → lookup test es ≡ None → lookup test (seen_table characters es) ≡ None
+missing_seen test characters es found = lookup_seen (seen_text characters) test es
+    ∙ ap (option_map (seen_text characters)) found
 
 -- ---- a put in order
 
 module _ {K X : Type 0} {R : K → K → Ordering} (o : IsTotalOrder R) (k : K) (v : X) where
   -- what is below all keys of a table and the new one is below all keys after a put
-  above_put : (low : K) (es : List (K × X)) → R low k ≡ Less → AllByRecursion (λ y. R low y ≡ Less) (keys_of es) → AllByRecursion (λ y. R low y ≡ Less) (keys_of (insert_entry R es k v))
+  above_put : (low : K) (es : List (K × X)) → R low k ≡ Less → AllByRecursion (λ y. R low y ≡ Less) (keys_of es)
+      → AllByRecursion (λ y. R low y ≡ Less) (keys_of (insert_entry R es k v))
   above_put low [] less above = (less, tt)
-  above_put low (e ∷ es) less above = elim (R k e.0) as (λ r. AllByRecursion (λ y. R low y ≡ Less) (keys_of (match_ordering r ((k, v) ∷ e ∷ es) ((e.0, v) ∷ es) (e ∷ insert_entry R es k v)))) [
-    | Less ↦ (less, above)
-    | Equal ↦ above
-    | Greater ↦ (above.0, above_put low es less above.1)
-  ]
+  above_put low (e ∷ es) less above = elim (R k e.0) as
+      (λ r. AllByRecursion (λ y. R low y ≡ Less)
+      (keys_of (match_ordering r ((k, v) ∷ e ∷ es) ((e.0, v) ∷ es) (e ∷ insert_entry R es k v)))) [
+        | Less ↦ (less, above)
+        | Equal ↦ above
+        | Greater ↦ (above.0, above_put low es less above.1)
+      ]
 
   -- what is below the first key is below all
-  below_all : (low first : K) (ks : List K) → R low first ≡ Less → AllByRecursion (λ y. R first y ≡ Less) ks → AllByRecursion (λ y. R low y ≡ Less) ks
+  below_all : (low first : K) (ks : List K) → R low first ≡ Less → AllByRecursion (λ y. R first y ≡ Less) ks
+      → AllByRecursion (λ y. R low y ≡ Less) ks
   below_all low first [] less above = tt
   below_all low first (x ∷ ks) less above = (o.trans low first x less above.0, below_all low first ks less above.1)
 
-  pub rising_put : (es : List (K × X)) → IsStrictlySortedBy R (keys_of es) → IsStrictlySortedBy R (keys_of (insert_entry R es k v))
+  pub rising_put : (es : List (K × X)) → IsStrictlySortedBy R (keys_of es)
+      → IsStrictlySortedBy R (keys_of (insert_entry R es k v))
   unfolding IsStrictlySortedBy
   rising_put [] rising = (tt, tt)
-  rising_put (e ∷ es) rising = (elim (R k e.0) as (λ r. R k e.0 ≡ r → IsStrictlySortedBy R (keys_of (match_ordering r ((k, v) ∷ e ∷ es) ((e.0, v) ∷ es) (e ∷ insert_entry R es k v)))) [
-    | Less ↦ λ less. ((less, below_all k e.0 (keys_of es) less rising.0), rising)
-    | Equal ↦ λ equal. rising
-    | Greater ↦ λ greater. (above_put e.0 es (o.antisymm e.0 k ∙ ap ordering_reverse greater) rising.0, rising_put es rising.1)
-  ]) refl
+  rising_put (e ∷ es) rising =
+      (elim (R k e.0) as (λ r. R k e.0 ≡ r
+      → IsStrictlySortedBy R
+      (keys_of (match_ordering r ((k, v) ∷ e ∷ es) ((e.0, v) ∷ es) (e ∷ insert_entry R es k v)))) [
+        | Less ↦ λ less. ((less, below_all k e.0 (keys_of es) less rising.0), rising)
+        | Equal ↦ λ equal. rising
+        | Greater ↦ λ greater.
+            (above_put e.0 es (o.antisymm e.0 k ∙ ap ordering_reverse greater) rising.0, rising_put es rising.1)
+      ]) refl
 
 -- ---- how many files
 
@@ -106,37 +127,60 @@ count_values : {K X : Type 0} (es : List (K × X)) → sum_by (λ x. 1) (values_
 count_values [] = refl
 count_values (e ∷ es) = sum_by-cons (λ x. 1) e.1 (values_of es) ∙ ap (λ n. 1 + n) (count_values es) ∙ omega arith
 
-one_if : {X : Type 0} (found : Option X) → unwrap_or (option_map (λ x. 1) found) 0 ≡ (let n : ℕ = cond (is_some found) 1 0 in n)
+one_if : {X : Type 0} (found : Option X)
+    → unwrap_or (option_map (λ x. 1) found) 0 ≡ (let n : ℕ = cond (is_some found) 1 0 in n)
 one_if None = refl
 one_if (Some x) = refl
 
 -- a put of a name adds one file where there was none
-count_put : {T : Type 0} (files : Files T) (name : List ℕ) (text : T) → IsStrictlySortedBy name_cmp (keys_of files) → length (put files name text) + cond (is_some (named files name)) 1 0 ≡ length files + 1
+count_put : {T : Type 0} (files : Files T) (name : List ℕ) (text : T) → IsStrictlySortedBy name_cmp (keys_of files)
+    → length (put files name text) + cond (is_some (named files name)) 1 0 ≡ length files + 1
 count_put files name text rising =
-    omega (arith, sum_by-insert_entry (λ text. 1) (lists_total nat_cmp_total) files name text rising, count_values files, count_values (put files name text), one_if (named files name))
+    omega (
+      arith,
+      sum_by-insert_entry (λ text. 1)
+          (lists_total nat_cmp_total) files name text rising,
+      count_values files,
+      count_values
+          (put files name text),
+      one_if (named files name),
+    )
 
-room_for : (found : Bool) (count after : ℕ) → after + cond found 1 0 ≡ count + 1 → count ≤ most_files → found || nat_lt count most_files ≡ true → after ≤ most_files
+room_for : (found : Bool) (count after : ℕ) → after + cond found 1 0 ≡ count + 1 → count ≤ most_files
+    → found || nat_lt count most_files ≡ true → after ≤ most_files
 room_for true count after sum small room = omega arith
 room_for false count after sum small room = omega (arith, ltb-true count most_files room)
 
-pub put_few : (files : Files (Text ℕ)) (name : List ℕ) (text : Text ℕ) → IsStrictlySortedBy name_cmp (keys_of files) → length files ≤ most_files → has_room files name ≡ true → length (put files name text) ≤ most_files
+pub put_few : (files : Files (Text ℕ)) (name : List ℕ) (text : Text ℕ) → IsStrictlySortedBy name_cmp (keys_of files)
+    → length files ≤ most_files → has_room files name ≡ true → length (put files name text) ≤ most_files
 put_few files name text rising few room = room_for _ _ _ (count_put files name text rising) few room
 
 -- ---- a file that goes
 
-module _ (files : Files (List Piece)) (name : List ℕ) (characters : List ℕ) (text : Text ℕ) (rising : IsStrictlySortedBy name_cmp (keys_of files)) where
-  gone : lengths (put (seen_table characters files) name text) + unwrap_or (option_map length (named (seen_table characters files) name)) 0 ≡ lengths (seen_table characters files) + length text
-  gone = sum_by-insert_entry length (lists_total nat_cmp_total) (seen_table characters files) name text (subst (IsStrictlySortedBy name_cmp) (sym (keys_of-map_values (seen_text characters) files)) rising)
+module _ (files : Files (List Piece)) (name : List ℕ) (characters : List ℕ) (text : Text ℕ)
+    (rising : IsStrictlySortedBy name_cmp (keys_of files)) where
+  gone : lengths (put (seen_table characters files) name text)
+      + unwrap_or (option_map length (named (seen_table characters files) name)) 0
+      ≡ lengths (seen_table characters files) + length text
+  gone = sum_by-insert_entry length (lists_total nat_cmp_total) (seen_table characters files) name text
+      (subst (IsStrictlySortedBy name_cmp) (sym (keys_of-map_values (seen_text characters) files)) rising)
 
-  pub gone_none : named files name ≡ None → lengths (put (seen_table characters files) name text) + 0 ≡ lengths (seen_table characters files) + length text
-  gone_none none = subst (λ (found : Option (Text ℕ)). lengths (put (seen_table characters files) name text) + unwrap_or (option_map length found) 0 ≡ lengths (seen_table characters files) + length text)
+  pub gone_none : named files name ≡ None
+      → lengths (put (seen_table characters files) name text) + 0 ≡ lengths (seen_table characters files) + length text
+  gone_none none = subst
+      (λ (found : Option (Text ℕ)). lengths (put (seen_table characters files) name text)
+      + unwrap_or (option_map length found) 0 ≡ lengths (seen_table characters files) + length text)
       (missing_seen (is_at (name_cmp name)) characters files none) gone
 
-  pub gone_some : (old : List Piece) (size : ℕ) → named files name ≡ Some old → size ≡ length (flat old) → lengths (put (seen_table characters files) name text) + size ≡ lengths (seen_table characters files) + length text
+  pub gone_some : (old : List Piece) (size : ℕ) → named files name ≡ Some old → size ≡ length (flat old)
+      → lengths (put (seen_table characters files) name text) + size
+      ≡ lengths (seen_table characters files) + length text
   gone_some old size found is =
       let long = length_seen_text characters old in
-      let sum : lengths (put (seen_table characters files) name text) + length (seen_text characters old) ≡ lengths (seen_table characters files) + length text =
-      subst (λ (found : Option (Text ℕ)). lengths (put (seen_table characters files) name text) + unwrap_or (option_map length found) 0 ≡ lengths (seen_table characters files) + length text)
+      let sum : lengths (put (seen_table characters files) name text) + length (seen_text characters old)
+      ≡ lengths (seen_table characters files) + length text =
+      subst (λ (found : Option (Text ℕ)). lengths (put (seen_table characters files) name text)
+      + unwrap_or (option_map length found) 0 ≡ lengths (seen_table characters files) + length text)
       (found_seen (is_at (name_cmp name)) characters files old found) gone in
       omega (arith, sum, is, long)
 
@@ -145,5 +189,7 @@ module _ (files : Files (List Piece)) (name : List ℕ) (characters : List ℕ) 
 pub longer : {K : Type 0} (n m : ℕ) (table : List (K × List Piece)) → n ≤ m → AllWithin n table → AllWithin m table
 longer n m table low within = λ i d here. AreWithin-longer n m _ low (within i d here)
 
-pub put_within : (n m : ℕ) (files : Files (List Piece)) (name : List ℕ) (text : List Piece) → n ≤ m → AllWithin n files → AreWithin m (flat text) → AllWithin m (put files name text)
-put_within n m files name text low all here = All-values-insert_entry name_cmp name text (λ pieces. AreWithin m (flat pieces)) files (longer n m files low all) here
+pub put_within : (n m : ℕ) (files : Files (List Piece)) (name : List ℕ) (text : List Piece) → n ≤ m → AllWithin n files
+    → AreWithin m (flat text) → AllWithin m (put files name text)
+put_within n m files name text low all here = All-values-insert_entry name_cmp name text
+    (λ pieces. AreWithin m (flat pieces)) files (longer n m files low all) here

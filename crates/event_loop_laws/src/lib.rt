@@ -1,9 +1,9 @@
-//! What a desktop is and what events do to it, in definitions, with their laws and the types that the definitions speak of.
+//! What a desktop is and what events do to it, in definitions, with their laws and the types that they speak of.
 //!
-//! A desktop is a fold over events. `specs/Desktop.antt` says what it has, and `specs/Step.antt` what one event does to it: rules over
-//! bytes alone. A desktop that is kept has texts of pieces, which name characters that stand in a source; `specs/Seen.antt` says how it is
-//! seen among them, `specs/Sound.antt` what holds of it at all times, and `specs/Outcome.antt` what a call promises that does an event.
-//! The crate `event_loop` has the code.
+//! A desktop is a fold over events. `specs/Desktop.antt` says what it has, and `specs/Step.antt` what one event does to
+//! it: rules over bytes alone. A desktop that is kept has texts of pieces, which name characters of a source;
+//! `specs/Seen.antt` says how it is seen among them, `specs/Sound.antt` what holds of it at all times, and
+//! `specs/Outcome.antt` what a call promises that does an event. The crate `event_loop` has the code.
 #![tactic(auto)]
 
 pub mod codes;

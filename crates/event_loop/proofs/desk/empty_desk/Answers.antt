@@ -7,10 +7,14 @@ use Rattle.event_loop.proofs.desk.empty_desk.Goals as goal
 
 pub returns-clause-seen : goal.returns-clause-seen
 returns-clause-seen c =
-    empty_seen c.insert.new.self.entries c.new-2.result.entries c.in_ok-new.field-0 (c.in_ok-insert.ensures.entries ∙ ap (λ (es : List (ℕ × List Piece)). insert_entry nat_cmp es 0 c.in_ok-new.field-0) c.new-texts.ensures.empty)
+    empty_seen c.insert.new.self.entries c.new-2.result.entries c.in_ok-new.field-0
+    (c.in_ok-insert.ensures.entries
+    ∙ ap (λ (es : List (ℕ × List Piece)). insert_entry nat_cmp es 0 c.in_ok-new.field-0) c.new-texts.ensures.empty)
     c.new-2.ensures.empty c.in_ok-new.ensures
 
 pub returns-clause-over : goal.returns-clause-over
 returns-clause-over c =
-    empty_over c.insert.new.self.entries c.new-2.result.entries c.in_ok-new.field-0 (c.in_ok-insert.ensures.entries ∙ ap (λ (es : List (ℕ × List Piece)). insert_entry nat_cmp es 0 c.in_ok-new.field-0) c.new-texts.ensures.empty)
+    empty_over c.insert.new.self.entries c.new-2.result.entries c.in_ok-new.field-0
+    (c.in_ok-insert.ensures.entries
+    ∙ ap (λ (es : List (ℕ × List Piece)). insert_entry nat_cmp es 0 c.in_ok-new.field-0) c.new-texts.ensures.empty)
     c.new-2.ensures.empty c.in_ok-new.ensures

@@ -10,5 +10,6 @@ overflow_add-sum g c = omega (arith, lengths_seen [] c.args.table.now.entries, c
 pub returns : goal.returns
 returns g c = λ characters.
     let all : c.loop-text.sum + 0 ≡ kept_lengths c.args.table.now.entries =
-    subst (λ (rest : List (List Piece)). c.loop-text.sum + sum_by (λ text. length (flat text)) rest ≡ kept_lengths c.args.table.now.entries) c.in-None.ensures.steps.0 c.loop-text.invariant in
+    subst (λ (rest : List (List Piece)). c.loop-text.sum + sum_by (λ text. length (flat text)) rest
+    ≡ kept_lengths c.args.table.now.entries) c.in-None.ensures.steps.0 c.loop-text.invariant in
     omega (arith, lengths_seen characters c.args.table.now.entries, all)

@@ -11,13 +11,18 @@ overflow_add-held c = omega (arith, c.held.ensures.few, c.requires.short)
 
 pub overflow_sub-held : goal.overflow_sub-held
 unfolding seen
-overflow_sub-held c = omega (arith, c.length_of-gone.ensures [] [], files_held (seen [] (kept c.args.self.now)), c.held.ensures.held [])
+overflow_sub-held c = omega
+    (arith, c.length_of-gone.ensures [] [], files_held (seen [] (kept c.args.self.now)), c.held.ensures.held [])
 
 pub returns-clause-fits : goal.returns-clause-fits
 unfolding filed seen
 returns-clause-fits c = λ characters text long.
     let x = seen characters (kept c.args.self.now) in
-    let sum : held (filed x c.args.name.now text) + c.length_of-gone.result ≡ held x + length text = held_filed x c.args.name.now text c.length_of-gone.result (c.length_of-gone.ensures characters text) in
+    let sum : held (filed x c.args.name.now text) + c.length_of-gone.result
+    ≡ held x + length text = held_filed x c.args.name.now text c.length_of-gone.result
+    (c.length_of-gone.ensures characters text) in
     let before = c.held.ensures.held characters in
-    let after : c.held.result + c.args.len - c.length_of-gone.result ≡ held (filed x c.args.name.now text) = omega (arith, sum, before, long) in
-    c.within_limits.ensures ∙ fits_by (filed x c.args.name.now text) _ _ (ap (λ n. c.args.self.now.written + n) (sym long)) after
+    let after : c.held.result + c.args.len - c.length_of-gone.result
+    ≡ held (filed x c.args.name.now text) = omega (arith, sum, before, long) in
+    c.within_limits.ensures
+    ∙ fits_by (filed x c.args.name.now text) _ _ (ap (λ n. c.args.self.now.written + n) (sym long)) after

@@ -16,7 +16,8 @@ returns-then-not-has_room-clause-answered g c =
     let old = g.S.CharSource.characters c.args.source.now in
     let d = kept c.args.self.now in
     refused _ old d _ too_many_files c.requires (inr refl)
-    (λ h. file_no_room (seen old d) c.args.name.now c.args.bytes.now (sym (c.has_room.ensures old) ∙ c.if-not-has_room.true))
+    (λ h. file_no_room (seen old d) c.args.name.now c.args.bytes.now
+    (sym (c.has_room.ensures old) ∙ c.if-not-has_room.true))
 
 pub returns-then-not-file_fits-clause-answered : goal.returns-then-not-file_fits-clause-answered
 unfolding seen
@@ -26,7 +27,8 @@ returns-then-not-file_fits-clause-answered g c =
     let bytes = c.args.bytes.now in
     refused _ old d _ full c.requires (inl refl)
     (λ h. file_full (seen old d) c.args.name.now bytes (sym (c.has_room.ensures old) ∙ c.if-not-has_room.false)
-    (sym (c.file_fits.ensures.fits old (plain bytes) (length_plain bytes ∙ ap length (sym c.as_bytes-bytes.ensures.value))) ∙ c.if-not-file_fits.true))
+    (sym (c.file_fits.ensures.fits old (plain bytes)
+    (length_plain bytes ∙ ap length (sym c.as_bytes-bytes.ensures.value))) ∙ c.if-not-file_fits.true))
 
 pub returns-clause-answered : goal.returns-clause-answered
 unfolding seen
@@ -37,7 +39,9 @@ returns-clause-answered g c =
     let bytes = c.as_bytes-bytes.result.now in
     let name = c.args.name.now in
     subst (λ (b : List ℕ). IsAnswered (g.S.CharSource.honest c.args.source.now) old new d
-    (record d { files = c.put.new.files.entries; written = c.args.self.now.written + length bytes }) (step (seen old d) (File name b)) Done) c.as_bytes-bytes.ensures.value
-    (file_answered _ old bytes new d name c.in_ok-text.text c.put.new.files.entries c.requires c.in_ok-put.ensures.valid c.in_ok-append.ensures.added c.in_ok-text.ensures c.in_ok-put.ensures.put
+    (record d { files = c.put.new.files.entries; written = c.args.self.now.written + length bytes })
+    (step (seen old d) (File name b)) Done) c.as_bytes-bytes.ensures.value
+    (file_answered _ old bytes new d name c.in_ok-text.text c.put.new.files.entries c.requires c.in_ok-put.ensures.valid
+    c.in_ok-append.ensures.added c.in_ok-text.ensures c.in_ok-put.ensures.put
     (λ characters text long. sym (c.file_fits.ensures.fits characters text long) ∙ c.if-not-file_fits.false)
     (λ characters. sym (c.has_room.ensures characters) ∙ c.if-not-has_room.false))

@@ -10,5 +10,6 @@ unfolding shown_screen
 returns-clause-shown g c = λ honest.
     let before = c.args.screen.now in
     c.paint.ensures
-    ∙ ap (λ (columns : Columns). screen_of (λ (x y : ℕ). picture columns None (cell_at before x y) x y)) c.new.ensures.empty
+    ∙ ap (λ (columns : Columns). screen_of
+    (λ (x y : ℕ). picture columns None (cell_at before x y) x y)) c.new.ensures.empty
     ∙ (λ k. screen_of (λ (x y : ℕ). c.all_filler_without_viewers.ensures None (cell_at before x y) x y k))

@@ -12,13 +12,18 @@ use Rattle.event_loop.proofs.desktop.Desktop.step.Goals as goal
 
 pub returns-clause-done : goal.returns-clause-done
 returns-clause-done g c = IfOk-weaker c.act.result _ _ (λ reply answered. λ honest.
-    answered.exact honest ∙ ap (λ (d : KeptDesktop). step (seen (g.S.CharSource.characters c.args.source.now) d) c.args.event.now) c.self.view_is) c.act.ensures.answered
+    answered.exact honest
+    ∙ ap (λ (d : KeptDesktop). step
+    (seen (g.S.CharSource.characters c.args.source.now) d) c.args.event.now) c.self.view_is) c.act.ensures.answered
 
 pub returns-clause-refusal : goal.returns-clause-refusal
 returns-clause-refusal g c = λ code is.
     let old = g.S.CharSource.characters c.args.source.now in
     let new = g.S.CharSource.characters c.act.new.source in
     let d = kept c.self.inside.desk in
-    let answered : IsAnswered (g.S.CharSource.honest c.args.source.now) old new d (kept c.act.new.self) (step (seen old d) c.args.event.now) (No code) =
-    subst (λ (r : Result Reply Stop). IfOk r (λ reply. IsAnswered (g.S.CharSource.honest c.args.source.now) old new d (kept c.act.new.self) (step (seen old d) c.args.event.now) reply)) is c.act.ensures.answered in
+    let answered : IsAnswered (g.S.CharSource.honest c.args.source.now) old new d (kept c.act.new.self)
+    (step (seen old d) c.args.event.now) (No code) =
+    subst (λ (r : Result Reply Stop). IfOk r
+    (λ reply. IsAnswered (g.S.CharSource.honest c.args.source.now) old new d (kept c.act.new.self)
+    (step (seen old d) c.args.event.now) reply)) is c.act.ensures.answered in
     subst (λ (d : KeptDesktop). IsUnchanged old new d (kept c.act.new.self)) c.self.view_is (answered.refusal code refl)
