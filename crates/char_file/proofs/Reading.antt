@@ -2,7 +2,8 @@
 use Rattle.std.proofs.Common.{ℕ, List, refl, ◌∙◌, arith}
 use Rattle.char_file.specs.Source.{OnlyReads}
 
-module _ {S : Type 0} (characters : S → List ℕ) (failures : S → ℕ) (honest : S → Type 0) (same_ground : S → S → Type 0) where
+module _ {S : Type 0} (characters : S → List ℕ) (failures : S → ℕ) (honest : S → Type 0) (same_ground : S → S
+    → Type 0) where
   pub no_read : ((s : S) → same_ground s s) → (s : S) → OnlyReads characters failures honest same_ground s s
   no_read ground_self s = record {
     as_long = refl;
@@ -14,7 +15,8 @@ module _ {S : Type 0} (characters : S → List ℕ) (failures : S → ℕ) (hone
   }
 
   pub read_on : ((a b c : S) → same_ground a b → same_ground b c → same_ground a c) → (a b c : S)
-      → OnlyReads characters failures honest same_ground a b → OnlyReads characters failures honest same_ground b c → OnlyReads characters failures honest same_ground a c
+      → OnlyReads characters failures honest same_ground a b → OnlyReads characters failures honest same_ground b c
+      → OnlyReads characters failures honest same_ground a c
   read_on ground_through a b c first second = record {
     as_long = second.as_long ∙ first.as_long;
     same = λ h. second.same (first.still h) ∙ first.same h;

@@ -5,7 +5,8 @@ use crate::{CharSource, Fault, NoMemory};
 use std::alloc::Global;
 use std::marker::Model;
 
-/// A source with all its characters in memory. It is always honest, and never fails but for want of memory.
+/// A source with all its characters in memory. It is always honest, and fails only where an allocation is
+/// refused.
 ///
 /// A clause sees the list of its characters.
 #[derive(Drop)]

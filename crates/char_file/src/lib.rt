@@ -1,7 +1,7 @@
 //! Characters that are only ever added, each at an offset of its own.
 //!
-//! Texts don't hold their characters: a piece of a text names a stretch of offsets. What stands at an offset never changes, so texts
-//! share characters, and an edit copies none (the book's chapter on texts).
+//! Texts don't hold their characters: a piece of a text names a stretch of offsets. What stands at an offset never
+//! changes, so texts share characters, and an edit copies none (the book's chapter on texts).
 #![tactic(auto)]
 
 mod file;
@@ -11,6 +11,3 @@ pub use file::CharFile;
 pub use sector_disk::Fault;
 pub use source::{CharSource, MOST_CHARACTERS};
 pub use std::alloc::AllocError as NoMemory;
-
-#[cfg(test)]
-mod tests;

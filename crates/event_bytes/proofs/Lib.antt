@@ -1,2 +1,3 @@
-pub mod PartLaws
 pub mod EventParts
+pub mod Names
+pub mod PartLaws

@@ -1,5 +1,6 @@
 -- Parts of a spelling: numbers and strings, how they are written and how they are read from the left.
-use Rattle.std.specs.Prelude.{◌≡◌, ℕ, ◌+◌, ◌*◌, Bool, if◌then◌else◌, nat_lt, List, [], ◌∷◌, ◌++◌, length, take, drop, Option, Some, None}
+use Rattle.std.specs.Prelude.{◌≡◌, ℕ, ◌+◌, ◌*◌, Bool, if◌then◌else◌, nat_lt, List, [], ◌∷◌, ◌++◌, length, take, drop}
+use Rattle.std.specs.Prelude.{Option, Some, None}
 use Rattle.std.specs.Option.{option_map}
 use Rattle.std.specs.Int.{w16, to_be_bytes}
 use Rattle.std.specs.Borrow.{Bor}
@@ -13,13 +14,13 @@ byte n = n ∷ []
 abbrev pub word : ℕ → List ℕ
 word n = to_be_bytes w16 n
 
--- bytes behind their number
+-- bytes after their number
 abbrev pub counted : (ℕ → List ℕ) → List ℕ → List ℕ
 counted number bytes = number (length bytes) ++ bytes
 
 -- ---- reading
 
--- A reader answers a value and the bytes behind it, or None where the bytes begin with no such value.
+-- A reader returns a value and the bytes after it, or None where the bytes begin with no such value.
 abbrev pub Reader : Type 0 → Type 0
 Reader A = List ℕ → Option (A × List ℕ)
 
@@ -53,14 +54,15 @@ counted_at number_at bytes = do
   n ← number_at bytes
   bytes_at n.0 n.1
 
--- what a function over a slice answered, as a reader's answer: the value and the slice that is left
-abbrev pub answer : {A : Type 0} → Option (A × Bor (List ℕ)) → Option (A × List ℕ)
-answer r = option_map (λ x. (x.0, x.1.now)) r
+-- what a function over a slice returned, as a reader returns it: the value, and the slice that is left
+abbrev pub value_and_rest : {A : Type 0} → Option (A × Bor (List ℕ)) → Option (A × List ℕ)
+value_and_rest r = option_map (λ x. (x.0, x.1.now)) r
 
 -- ---- what ties the two
 
 -- The bytes are the writing of a value that fits, and the rest.
-pub record Takes {A : Type 0} (write : A → List ℕ) (Fits : A → Type 0) (bytes : List ℕ) (x : A) (rest : List ℕ) : Type 0 where
+pub record Takes {A : Type 0} (write : A → List ℕ) (Fits : A
+    → Type 0) (bytes : List ℕ) (x : A) (rest : List ℕ) : Type 0 where
   pub fits : Fits x
   pub parts : bytes ≡ write x ++ rest
 

@@ -1,4 +1,4 @@
--- Reading the event at the front of bytes.
+-- Reading the event that bytes begin with.
 use Rattle.std.specs.Prelude.{ℕ, if◌then◌else◌, ◌==◌, List, Some, None}
 use Rattle.event_bytes.specs.Bytes.{is_name, is_file_bytes}
 use Rattle.event_bytes.specs.Parts.{Reader, ◌>>=◌, when, byte_at, word_at, counted_at}
@@ -17,7 +17,7 @@ file_at bytes = do
   text ← file_bytes_at name.1
   Some ((name.0, text.0), text.1)
 
--- what stands behind the number of a kind
+-- what follows the number of a kind
 unfoldable pub body_at : ℕ → Reader Event
 body_at number bytes = if number == 5 then (do
   file ← file_at bytes

@@ -12,7 +12,7 @@ IsEvent (File name bytes) = IsTrue (is_name name) × IsTrue (is_file_bytes bytes
 abbrev pub kind : Event → ℕ
 kind (File name bytes) = 5
 
--- the bytes behind that number: a name behind its length in one byte, bytes behind theirs in two
+-- the bytes after that number: a name after its length in one byte, other bytes after theirs in two
 abbrev pub body : Event → List ℕ
 body (File name bytes) = counted byte name ++ counted word bytes
 

@@ -11,7 +11,8 @@ use arrayvec::ArrayVec;
 type Written = ArrayVec<u8, 935>;
 
 impl Event {
-    /// The bytes that spell the event, from 2 to 935 of them. The format is this profile's: the number of the event's kind in one byte, then what it holds.
+    /// The bytes that spell the event, from 2 to 935 of them. The format is this profile's: the number of the event's
+    /// kind in one byte, then what it holds.
     #[tactic(auto, unfolding(crate::specs::Spelling::spelling))]
     pub fn encode(&self) -> ArrayVec<u8, 935>
         ensures spelled { result.items ≡ spelling self.now }
@@ -29,7 +30,7 @@ impl Event {
     }
 }
 
-/// Adds a name, behind its length in one byte.
+/// Adds a name, after its length in one byte.
 fn put_name(written: &mut Written, name: &[u8])
     requires short { length name.now < 2 ^ 8 }
     requires room { array_vec_len written.old + 1 + length name.now ≤ 935 }
@@ -39,7 +40,7 @@ fn put_name(written: &mut Written, name: &[u8])
     put(written, name);
 }
 
-/// Adds bytes, behind their number in two bytes.
+/// Adds bytes, after their number in two bytes.
 fn put_long(written: &mut Written, bytes: &[u8])
     requires short { length bytes.now < 2 ^ 16 }
     requires room { array_vec_len written.old + 2 + length bytes.now ≤ 935 }
@@ -49,6 +50,7 @@ fn put_long(written: &mut Written, bytes: &[u8])
     put(written, bytes);
 }
 
+/// Adds bytes as they are.
 fn put(written: &mut Written, bytes: &[u8])
     requires { array_vec_len written.old + length bytes.now ≤ 935 }
     ensures { written.new.items ≡ written.old.items ++ bytes.now }

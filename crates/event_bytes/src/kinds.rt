@@ -3,6 +3,12 @@ ghost use Rattle.std.specs.Prelude.{◌≡◌};
 ghost use Rattle.event_bytes.specs.Bytes.{is_letter as letter, is_digit as digit};
 ghost use Rattle.event_bytes.specs.Bytes.{is_name_byte as name_byte, is_text_byte as text_byte};
 
+/// The byte of a tabulator.
+pub const TABULATOR: u8 = 9;
+
+/// The byte of a carriage return, which ends a line.
+pub const CARRIAGE_RETURN: u8 = 13;
+
 /// Whether a byte is a letter: A to Z or a to z.
 #[tactic(auto, unfolding(crate::specs::Bytes::is_letter))]
 pub fn is_letter(byte: u8) -> bool
@@ -33,5 +39,5 @@ pub fn is_name_byte(byte: u8) -> bool
 pub fn is_text_byte(byte: u8) -> bool
     ensures { result ≡ text_byte byte }
 {
-    matches!(byte, 9 | 13 | 32..=126)
+    matches!(byte, TABULATOR | CARRIAGE_RETURN | 32..=126)
 }

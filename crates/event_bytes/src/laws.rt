@@ -3,7 +3,8 @@ ghost use Rattle.std.specs.Prelude.{◌≡◌, ◌≤◌, ℕ, List, length};
 ghost use Rattle.event_bytes.specs.declared.event.Event.{Event};
 ghost use Rattle.event_bytes.specs.Spelling.{IsEvent, spelling, Begins};
 
-/// Bytes begin with at most one event: two events never have one spelling, and no event's spelling is the beginning of another's.
+/// Bytes begin with at most one event: two events never have one spelling, and no event's spelling is the beginning of
+/// another's.
 pub fn at_most_one_begins()
     ensures { (bytes : List ℕ) (e f : Event) → Begins bytes e → Begins bytes f → e ≡ f }
 {}

@@ -14,9 +14,6 @@ mod name;
 
 pub use bytes::FileBytes;
 pub use event::Event;
-pub use kinds::{is_digit, is_letter, is_name_byte, is_text_byte};
+pub use kinds::{CARRIAGE_RETURN, TABULATOR, is_digit, is_letter, is_name_byte, is_text_byte};
 pub use laws::{at_most_one_begins, spelling_fits};
 pub use name::Name;
-
-#[cfg(test)]
-mod tests;

@@ -49,13 +49,13 @@ impl Clone for Name {
     }
 }
 
-/// The name `A`, a blank that no list shows: the places of an array that holds no name yet have this value.
+/// The name `A`, a blank that no list shows: the places of an array that hold no name yet have this value.
 impl Default for Name {
     ghost use Rattle.std.specs.Prelude.{◌≡◌, [], ◌∷◌};
 
     ghost is_default = { λ name. name ≡ 65 ∷ [] };
 
-    #[tactic(auto, unfolding(crate::specs::Bytes::is_letter, crate::specs::Bytes::is_digit, crate::specs::Bytes::is_name_byte))]
+    #[tactic(auto, using(crate::proofs::Names::blank_is_name))]
     fn default() -> Name {
         let mut bytes = ArrayVec::new();
         bytes.push(b'A');

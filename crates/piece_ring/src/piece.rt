@@ -1,6 +1,6 @@
 //! Looks, and stretches of the file in one look. Plain data.
 ghost use Rattle.std.specs.Prelude.{◌≡◌, ◌<◌};
-ghost use Rattle.piece_ring.specs.Look.{has_bit, relooked as relooked_look};
+ghost use Rattle.piece_ring.specs.Look.{default_look, has_bit, relooked as relooked_look};
 
 /// How a character looks.
 #[derive(Clone, Copy, PartialEq, Eq, Debug)]
@@ -19,6 +19,15 @@ pub const DEFAULT_LOOK: Look = Look {
     colour: 15,
     voff: 0,
 };
+
+/// The default look.
+impl Default for Look {
+    ghost is_default = { λ look. look ≡ default_look };
+
+    fn default() -> Look {
+        DEFAULT_LOOK
+    }
+}
 
 /// A stretch of characters of one look, that lie side by side in the file.
 #[derive(Clone, Copy, PartialEq, Eq, Debug)]

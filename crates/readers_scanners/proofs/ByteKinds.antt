@@ -68,18 +68,22 @@ and_false true = refl
 and_false false = refl
 
 -- a list with a byte that fails, and one of bytes that pass
-pub fails : (test : ℕ → Bool) (front : List ℕ) (b : ℕ) (more : List ℕ) → test b ≡ false → list_all test (front ++ b ∷ more) ≡ false
+pub fails : (test : ℕ → Bool) (front : List ℕ) (b : ℕ) (more : List ℕ) → test b ≡ false
+    → list_all test (front ++ b ∷ more) ≡ false
 fails test [] b more h = rw h
 fails test (a ∷ front) b more h = ap (λ x. test a && x) (fails test front b more h) ∙ and_false (test a)
 
-pub passes : (test : ℕ → Bool) (front : List ℕ) (b : ℕ) (more : List ℕ) → list_all test front ≡ true → test b ≡ true → list_all test more ≡ true
+pub passes : (test : ℕ → Bool) (front : List ℕ) (b : ℕ) (more : List ℕ) → list_all test front ≡ true → test b ≡ true
+    → list_all test more ≡ true
     → list_all test (front ++ b ∷ more) ≡ true
 passes test front b more f h m = list_all-append test front (b ∷ more) ∙ (λ k. f k && (h k && m k))
 
-pub weaker : (test other : ℕ → Bool) → ((b : ℕ) → test b ≡ true → other b ≡ true) → (bytes : List ℕ) → list_all test bytes ≡ true → list_all other bytes ≡ true
+pub weaker : (test other : ℕ → Bool) → ((b : ℕ) → test b ≡ true → other b ≡ true) → (bytes : List ℕ)
+    → list_all test bytes ≡ true → list_all other bytes ≡ true
 weaker test other each [] h = refl
 weaker test other each (b ∷ bytes) h =
-    let both = and_both (test b) (list_all test bytes) h in (λ k. each b both.0 k && weaker test other each bytes both.1 k)
+    let both = and_both (test b) (list_all test bytes) h in
+    (λ k. each b both.0 k && weaker test other each bytes both.1 k)
 
 pub no_tail_no_word : (b : ℕ) → is_digit b ≡ false → (is_letter b || (b == period)) ≡ false → is_name_byte b ≡ false
 unfolding is_letter is_name_byte is_digit

@@ -3,6 +3,7 @@ pub mod Finding
 pub mod Forms
 pub mod Keeping
 pub mod Longest
+pub mod Moving
 pub mod OneSymbol
 pub mod Running
 pub mod Upcoming

@@ -8,8 +8,6 @@ mod laws;
 mod reader;
 mod scanner;
 mod symbol;
-#[cfg(test)]
-mod tests;
 
 pub use char_file::{CharSource, Fault};
 pub use laws::{one_symbol, symbol_worked_out};

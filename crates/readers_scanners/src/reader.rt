@@ -1,10 +1,8 @@
 //! Reading the characters of a text one after another.
 //!
-//! A clause sees a reader as the text, each of its characters by its offset in the source, and the
-//! position before which it stands.
-ghost use Rattle.std.specs.Prelude.{◌≡◌, ◌↔◌, ◌+◌, ◌<◌, ◌≤◌, min, length, slice_get};
-ghost use Rattle.std.specs.Prelude.{IsNone, IfOk, OnOk, OnErr};
-ghost use Rattle.std.specs.Option.{option_map};
+//! A clause sees a reader as the text, each of its characters by its offset in the source, and the position before
+//! which it stands.
+ghost use Rattle.std.specs.Prelude.{◌≡◌, ◌+◌, ◌<◌, ◌≤◌, min, length, IfOk, OnOk, OnErr};
 ghost use Rattle.sector_disk.specs.Trail.{CountsFault};
 ghost use Rattle.char_file.specs.Source.{OnlyReads};
 ghost use Rattle.piece_ring.specs.Flat.{flat};
@@ -18,11 +16,11 @@ use std::marker::Model;
 #[derive(Drop)]
 pub struct Reader<'a> {
     text: &'a Text,
-    // The offset and the look of the character at the position. None at the end.
+    /// The offset and the look of the character at the position. None at the end.
     upcoming: Option<(u32, Look)>,
-    // Stands behind that character.
+    /// Stands after that character.
     cursor: Cursor<'a>,
-    // How many characters the text has from the position on.
+    /// How many characters the text has from the position on.
     left: u32,
 }
 
@@ -41,7 +39,7 @@ impl<'a> Model for Reader<'a> {
 }
 
 impl<'a> Reader<'a> {
-    ghost use Rattle.readers_scanners.specs.Reading.{contents};
+    ghost use Rattle.readers_scanners.specs.Reading.{IsItem};
 
     /// A reader of the text from the character at `pos` on.
     pub fn open(text: &'a Text, pos: u32) -> Reader<'a>
@@ -67,23 +65,15 @@ impl<'a> Reader<'a> {
         self.text.len() - self.left
     }
 
-    /// The character at the position and its look; the reader then stands behind it. None at the
-    /// end of the text, where it stays. `Fault`: the source failed in this call, and the reader stays.
+    /// The character at the position and its look; the reader then stands after it. None at the end of the text, where
+    /// it stays. `Fault`: the source failed in this call, and the reader stays.
     pub fn read<S: CharSource>(&mut self, source: &mut S) -> Result<Option<(u8, Look)>, Fault>
         requires { AreWithin (length (S.characters source.old)) self.old.text }
-        ensures item { IfOk result (λ item. S.honest source.old
-            → item ≡ slice_get (contents (S.characters source.old) self.old.text)
-            self.old.position) }
-        ensures look { IfOk result (λ item. option_map (λ x. x.1) item
-            ≡ option_map (λ x. x.1) (slice_get self.old.text self.old.position)) }
-        ensures end { IfOk result (λ item.
-            IsNone item ↔ (self.old.position ≡ length self.old.text)) }
-        ensures moves { OnOk result (self.new.position
-            ≡ min (self.old.position + 1) (length self.old.text)) }
+        ensures item { IfOk result (IsItem (S.honest source.old) (S.characters source.old) self.old) }
+        ensures moves { OnOk result (self.new.position ≡ min (self.old.position + 1) (length self.old.text)) }
         ensures refused { OnErr result (self.new.position ≡ self.old.position) }
         ensures text { self.new.text ≡ self.old.text }
-        ensures reads { OnlyReads S.characters S.failures S.honest S.same_ground
-            source.old source.new }
+        ensures reads { OnlyReads S.characters S.failures S.honest S.same_ground source.old source.new }
         ensures cause { CountsFault result (S.failures source.old) (S.failures source.new) }
     {
         let item = self.peek(source)?;
@@ -93,19 +83,13 @@ impl<'a> Reader<'a> {
         Ok(item)
     }
 
-    /// The character at the position and its look. None at the end of the text. The reader stays.
+    /// The character at the position and its look. None at the end of the text. The reader stays. `Fault`: the source
+    /// failed in this call.
     pub(crate) fn peek<S: CharSource>(&self, source: &mut S) -> Result<Option<(u8, Look)>, Fault>
         requires { AreWithin (length (S.characters source.old)) self.now.text }
-        ensures item { IfOk result (λ item. S.honest source.old
-            → item ≡ slice_get (contents (S.characters source.old) self.now.text)
-            self.now.position) }
-        ensures look { IfOk result (λ item. option_map (λ x. x.1) item
-            ≡ option_map (λ x. x.1) (slice_get self.now.text self.now.position)) }
-        ensures end { IfOk result (λ item.
-            IsNone item ↔ (self.now.position ≡ length self.now.text)) }
+        ensures item { IfOk result (IsItem (S.honest source.old) (S.characters source.old) self.now) }
         ensures within { self.now.position ≤ length self.now.text }
-        ensures reads { OnlyReads S.characters S.failures S.honest S.same_ground
-            source.old source.new }
+        ensures reads { OnlyReads S.characters S.failures S.honest S.same_ground source.old source.new }
         ensures cause { CountsFault result (S.failures source.old) (S.failures source.new) }
     {
         match self.upcoming {

@@ -1,7 +1,7 @@
 //! The symbols of a text.
 //!
 //! A clause sees a scanner as the text and the position at which the last symbol ended.
-ghost use Rattle.std.specs.Prelude.{ℕ, ◌≡◌, ◌+◌, ◌-◌, ◌≢◌, ◌<◌, ◌≤◌, ◌^◌, ◌∷◌, [], ◌++◌, List, min};
+ghost use Rattle.std.specs.Prelude.{ℕ, ◌≡◌, ◌-◌, ◌≤◌, ◌^◌, ◌∷◌, [], ◌++◌, List, min};
 ghost use Rattle.std.specs.Prelude.{length, take, IsTrue, IfOk, OnErr};
 ghost use Rattle.sector_disk.specs.Trail.{CountsFault};
 ghost use Rattle.char_file.specs.Source.{OnlyReads};
@@ -29,19 +29,20 @@ impl<'a> Model for Scanner<'a> {
     ghost view = { λ s. s.reader };
 }
 
-/// What a step did: it passed a byte of the class, or it stands before another one, or before none
-/// at the text's end.
+/// What a step did.
 pub(crate) enum Step {
+    /// It passed this byte of the class.
     Passed(u8),
+    /// It stands before a byte that isn't of the class, or at the text's end.
     Before(Option<u8>),
 }
 
 impl<'a> Scanner<'a> {
     ghost use Rattle.event_bytes.specs.Bytes.{is_letter, is_digit};
     ghost use Rattle.readers_scanners.specs.Bytes.{number_of};
-    ghost use Rattle.readers_scanners.specs.Reading.{contents, bytes};
-    ghost use Rattle.readers_scanners.specs.Passing.{has, Steps, IsRun, Found};
-    ghost use Rattle.readers_scanners.specs.Symbol.{IsSymbol, IsShaped, signed};
+    ghost use Rattle.readers_scanners.specs.Reading.{bytes, MovesOn};
+    ghost use Rattle.readers_scanners.specs.Passing.{has, Steps, IsRun, IsFound};
+    ghost use Rattle.readers_scanners.specs.Symbol.{IsScanned, signed};
 
     /// A scanner of the text from the character at `pos` on.
     pub fn open(text: &'a Text, pos: u32) -> Scanner<'a>
@@ -54,8 +55,8 @@ impl<'a> Scanner<'a> {
         }
     }
 
-    /// Where the last symbol ended, as a number of characters from the text's beginning; before the
-    /// first symbol where the scanner was opened.
+    /// Where the last symbol ended, in characters from the text's beginning; before the first symbol where the scanner
+    /// was opened.
     pub fn position(&self) -> u32
         ensures position { result ≡ self.now.position }
         ensures within { result ≤ length self.now.text }
@@ -63,25 +64,16 @@ impl<'a> Scanner<'a> {
         self.reader.pos()
     }
 
-    /// The next symbol, behind blanks: the longest that stands there. `Fault`: the source failed in
-    /// this call; the scanner stands somewhere in the text then, so open another.
+    /// The next symbol after blanks: the longest that stands there. `Fault`: the source failed in this call; the
+    /// scanner then stands somewhere in the text, so open another.
     ///
-    /// The byte behind a symbol isn't kept: the next call reads it again, from the source that it
-    /// is given. Within a call each byte is read once.
+    /// The byte after a symbol isn't kept: the next call reads it again, from the source that it is given. Within a
+    /// call each byte is read once.
     pub fn scan<S: CharSource>(&mut self, source: &mut S) -> Result<Symbol, Fault>
         requires { AreWithin (length (S.characters source.old)) self.old.text }
-        ensures symbol { IfOk result (λ symbol. S.honest source.old
-            → IsSymbol (bytes (S.characters source.old) self.old.text)
-            self.old.position symbol self.new.position) }
-        ensures shape { IfOk result IsShaped }
-        ensures end { result ≡ Ok Symbol.End → self.new.position ≡ length self.old.text }
-        ensures progress { IfOk result (λ symbol. symbol ≢ Symbol.End
-            → self.old.position < self.new.position) }
-        ensures text { self.new.text ≡ self.old.text }
-        ensures forth { self.old.position ≤ self.new.position }
-        ensures within { self.new.position ≤ length self.old.text }
-        ensures reads { OnlyReads S.characters S.failures S.honest S.same_ground
-            source.old source.new }
+        ensures symbol { IfOk result (IsScanned (S.honest source.old) (S.characters source.old) self.old self.new) }
+        ensures moves { MovesOn self.old self.new }
+        ensures reads { OnlyReads S.characters S.failures S.honest S.same_ground source.old source.new }
         ensures cause { CountsFault result (S.failures source.old) (S.failures source.new) }
     {
         let Some(first) = self.skip_while(Class::Blank, source)? else {
@@ -103,20 +95,14 @@ impl<'a> Scanner<'a> {
         }
     }
 
-    /// The name that begins with a letter that was passed.
+    /// The name that begins with a letter that was passed. `Fault`: the source failed in this call.
     fn name<S: CharSource>(&mut self, first: u8, source: &mut S) -> Result<Symbol, Fault>
         requires letter { IsTrue (is_letter first) }
         requires offsets { AreWithin (length (S.characters source.old)) self.old.text }
-        ensures found { IfOk result (λ symbol. S.honest source.old
-            → Found (first ∷ []) (bytes (S.characters source.old) self.old.text)
-            self.old.position self.new.position symbol) }
-        ensures shape { IfOk result IsShaped }
-        ensures some { result ≢ Ok Symbol.End }
-        ensures text { self.new.text ≡ self.old.text }
-        ensures forth { self.old.position ≤ self.new.position }
-        ensures within { self.new.position ≤ length self.old.text }
-        ensures reads { OnlyReads S.characters S.failures S.honest S.same_ground
-            source.old source.new }
+        ensures found { IfOk result
+            (IsFound (S.honest source.old) (first ∷ []) (S.characters source.old) self.old self.new) }
+        ensures moves { MovesOn self.old self.new }
+        ensures reads { OnlyReads S.characters S.failures S.honest S.same_ground source.old source.new }
         ensures cause { CountsFault result (S.failures source.old) (S.failures source.new) }
     {
         let mut kept = ArrayVec::new();
@@ -125,19 +111,13 @@ impl<'a> Scanner<'a> {
         Ok(Symbol::Name(kept))
     }
 
-    /// What begins with a quote that was passed.
+    /// The symbol that begins with a quote that was passed. `Fault`: the source failed in this call.
     fn string<S: CharSource>(&mut self, source: &mut S) -> Result<Symbol, Fault>
         requires { AreWithin (length (S.characters source.old)) self.old.text }
-        ensures found { IfOk result (λ symbol. S.honest source.old
-            → Found (34 ∷ []) (bytes (S.characters source.old) self.old.text)
-            self.old.position self.new.position symbol) }
-        ensures shape { IfOk result IsShaped }
-        ensures some { result ≢ Ok Symbol.End }
-        ensures text { self.new.text ≡ self.old.text }
-        ensures forth { self.old.position ≤ self.new.position }
-        ensures within { self.new.position ≤ length self.old.text }
-        ensures reads { OnlyReads S.characters S.failures S.honest S.same_ground
-            source.old source.new }
+        ensures found { IfOk result
+            (IsFound (S.honest source.old) (34 ∷ []) (S.characters source.old) self.old self.new) }
+        ensures moves { MovesOn self.old self.new }
+        ensures reads { OnlyReads S.characters S.failures S.honest S.same_ground source.old source.new }
         ensures cause { CountsFault result (S.failures source.old) (S.failures source.new) }
     {
         let mut kept = ArrayVec::new();
@@ -154,19 +134,13 @@ impl<'a> Scanner<'a> {
         }
     }
 
-    /// What begins with a minus that was passed.
+    /// The symbol that begins with a minus that was passed. `Fault`: the source failed in this call.
     fn negative<S: CharSource>(&mut self, source: &mut S) -> Result<Symbol, Fault>
         requires { AreWithin (length (S.characters source.old)) self.old.text }
-        ensures found { IfOk result (λ symbol. S.honest source.old
-            → Found (45 ∷ []) (bytes (S.characters source.old) self.old.text)
-            self.old.position self.new.position symbol) }
-        ensures shape { IfOk result IsShaped }
-        ensures some { result ≢ Ok Symbol.End }
-        ensures text { self.new.text ≡ self.old.text }
-        ensures forth { self.old.position ≤ self.new.position }
-        ensures within { self.new.position ≤ length self.old.text }
-        ensures reads { OnlyReads S.characters S.failures S.honest S.same_ground
-            source.old source.new }
+        ensures found { IfOk result
+            (IsFound (S.honest source.old) (45 ∷ []) (S.characters source.old) self.old self.new) }
+        ensures moves { MovesOn self.old self.new }
+        ensures reads { OnlyReads S.characters S.failures S.honest S.same_ground source.old source.new }
         ensures cause { CountsFault result (S.failures source.old) (S.failures source.new) }
     {
         match self.step(Class::Digit, source)? {
@@ -175,7 +149,8 @@ impl<'a> Scanner<'a> {
         }
     }
 
-    /// The number that begins with a digit that was passed, behind a minus where it is negative.
+    /// The number that begins with a digit that was passed, after a minus where it is negative. `Fault`: the source
+    /// failed in this call.
     fn number<S: CharSource>(
         &mut self,
         negative: bool,
@@ -184,16 +159,10 @@ impl<'a> Scanner<'a> {
     ) -> Result<Symbol, Fault>
         requires digit { IsTrue (is_digit first) }
         requires offsets { AreWithin (length (S.characters source.old)) self.old.text }
-        ensures found { IfOk result (λ symbol. S.honest source.old
-            → Found (signed negative (first ∷ [])) (bytes (S.characters source.old) self.old.text)
-            self.old.position self.new.position symbol) }
-        ensures shape { IfOk result IsShaped }
-        ensures some { result ≢ Ok Symbol.End }
-        ensures text { self.new.text ≡ self.old.text }
-        ensures forth { self.old.position ≤ self.new.position }
-        ensures within { self.new.position ≤ length self.old.text }
-        ensures reads { OnlyReads S.characters S.failures S.honest S.same_ground
-            source.old source.new }
+        ensures found { IfOk result
+            (IsFound (S.honest source.old) (signed negative (first ∷ [])) (S.characters source.old) self.old self.new) }
+        ensures moves { MovesOn self.old self.new }
+        ensures reads { OnlyReads S.characters S.failures S.honest S.same_ground source.old source.new }
         ensures cause { CountsFault result (S.failures source.old) (S.failures source.new) }
     {
         let (size, next) = self.digits(first, source)?;
@@ -211,17 +180,15 @@ impl<'a> Scanner<'a> {
         }
     }
 
-    /// Passes the next byte, if it is one of the class.
+    /// Passes the next byte, if it is one of the class. `Fault`: the source failed in this call, and the scanner stays.
     fn step<S: CharSource>(&mut self, class: Class, source: &mut S) -> Result<Step, Fault>
         requires { AreWithin (length (S.characters source.old)) self.old.text }
-        ensures step { IfOk result (λ step. Steps (has class) (S.honest source.old)
-            (bytes (S.characters source.old) self.old.text)
-            self.old.position self.new.position step) }
+        ensures step { IfOk result (Steps (has class) (S.honest source.old)
+            (bytes (S.characters source.old) self.old.text) self.old.position self.new.position) }
         ensures text { self.new.text ≡ self.old.text }
         ensures refused { OnErr result (self.new.position ≡ self.old.position) }
         ensures within { self.new.position ≤ length self.old.text }
-        ensures reads { OnlyReads S.characters S.failures S.honest S.same_ground
-            source.old source.new }
+        ensures reads { OnlyReads S.characters S.failures S.honest S.same_ground source.old source.new }
         ensures cause { CountsFault result (S.failures source.old) (S.failures source.new) }
     {
         match self.reader.peek(source)? {
@@ -237,7 +204,8 @@ impl<'a> Scanner<'a> {
         }
     }
 
-    /// Passes the bytes of the class, and answers the one behind them. None at the text's end.
+    /// Passes the bytes of the class, and returns the next one. None at the text's end. `Fault`: the source failed in
+    /// this call.
     fn skip_while<S: CharSource>(
         &mut self,
         class: Class,
@@ -245,14 +213,10 @@ impl<'a> Scanner<'a> {
     ) -> Result<Option<u8>, Fault>
         requires { AreWithin (length (S.characters source.old)) self.old.text }
         ensures run { IfOk result (λ next. (passed : List ℕ)
-            × IsRun (has class) (S.honest source.old)
-            (bytes (S.characters source.old) self.old.text)
+            × IsRun (has class) (S.honest source.old) (bytes (S.characters source.old) self.old.text)
             self.old.position self.new.position passed next) }
-        ensures text { self.new.text ≡ self.old.text }
-        ensures forth { self.old.position ≤ self.new.position }
-        ensures within { self.new.position ≤ length self.old.text }
-        ensures reads { OnlyReads S.characters S.failures S.honest S.same_ground
-            source.old source.new }
+        ensures moves { MovesOn self.old self.new }
+        ensures reads { OnlyReads S.characters S.failures S.honest S.same_ground source.old source.new }
         ensures cause { CountsFault result (S.failures source.old) (S.failures source.new) }
     {
         'run: loop {
@@ -263,8 +227,8 @@ impl<'a> Scanner<'a> {
         }
     }
 
-    /// Passes the bytes of the class and keeps them as far as there is room, and answers the one
-    /// behind them. None at the text's end.
+    /// Passes the bytes of the class, keeps them as far as there is room, and returns the next one. None at the text's
+    /// end. `Fault`: the source failed in this call.
     fn take_while<S: CharSource>(
         &mut self,
         class: Class,
@@ -274,15 +238,11 @@ impl<'a> Scanner<'a> {
         requires room { length kept.old.items ≤ 31 }
         requires offsets { AreWithin (length (S.characters source.old)) self.old.text }
         ensures run { IfOk result (λ next. (passed : List ℕ)
-            × IsRun (has class) (S.honest source.old)
-            (bytes (S.characters source.old) self.old.text)
+            × IsRun (has class) (S.honest source.old) (bytes (S.characters source.old) self.old.text)
             self.old.position self.new.position passed next
             × (kept.new.items ≡ take 31 (kept.old.items ++ passed))) }
-        ensures text { self.new.text ≡ self.old.text }
-        ensures forth { self.old.position ≤ self.new.position }
-        ensures within { self.new.position ≤ length self.old.text }
-        ensures reads { OnlyReads S.characters S.failures S.honest S.same_ground
-            source.old source.new }
+        ensures moves { MovesOn self.old self.new }
+        ensures reads { OnlyReads S.characters S.failures S.honest S.same_ground source.old source.new }
         ensures cause { CountsFault result (S.failures source.old) (S.failures source.new) }
     {
         'run: loop {
@@ -293,8 +253,8 @@ impl<'a> Scanner<'a> {
         }
     }
 
-    /// Passes the digits behind a first one, and answers the number that they spell and the byte
-    /// behind them. None at the text's end. A number that has no room is answered as the greatest.
+    /// Passes the digits after a first one, and returns the number that they spell, at most the greatest `u32`, and the
+    /// next byte. None at the text's end. `Fault`: the source failed in this call.
     fn digits<S: CharSource>(
         &mut self,
         first: u8,
@@ -306,11 +266,8 @@ impl<'a> Scanner<'a> {
             × IsRun is_digit (S.honest source.old) (bytes (S.characters source.old) self.old.text)
             self.old.position self.new.position passed r.1
             × (r.0 ≡ min (number_of (first ∷ passed)) (2 ^ 32 - 1))) }
-        ensures text { self.new.text ≡ self.old.text }
-        ensures forth { self.old.position ≤ self.new.position }
-        ensures within { self.new.position ≤ length self.old.text }
-        ensures reads { OnlyReads S.characters S.failures S.honest S.same_ground
-            source.old source.new }
+        ensures moves { MovesOn self.old self.new }
+        ensures reads { OnlyReads S.characters S.failures S.honest S.same_ground source.old source.new }
         ensures cause { CountsFault result (S.failures source.old) (S.failures source.new) }
     {
         let mut number = digit_value(first);

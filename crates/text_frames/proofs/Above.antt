@@ -1,5 +1,6 @@
 -- The lines above a place, byte after byte.
-use Rattle.std.specs.Prelude.{◌≡◌, ℕ, zero, suc, ◌+◌, ◌-◌, ◌<◌, ◌≤◌, Bool, true, false, cond, ◌&&◌, nat_le, List, [], ◌∷◌, length, take, drop, set, get_or, Some, slice_get, slice_index, count_by}
+use Rattle.std.specs.Prelude.{◌≡◌, ℕ, zero, suc, ◌+◌, ◌-◌, ◌<◌, ◌≤◌, Bool, true, false, cond, ◌&&◌, nat_le, List, []}
+use Rattle.std.specs.Prelude.{◌∷◌, length, take, drop, set, get_or, Some, slice_get, slice_index, count_by}
 use Rattle.std.specs.List.{copy_within}
 use Rattle.std.proofs.Common.{refl, sym, ap, ◌∙◌, inl, inr, arith}
 use Rattle.std.proofs.lemmas.List.{take_all, get_or-take, get_or-drop, get_or_past, length-drop, length-take}
@@ -13,8 +14,11 @@ use Rattle.text_frames.proofs.Greatest.{start_next}
 pub put_in_front : (s : List ℕ) (x : ℕ) → length s ≡ 16 → set (copy_within s 0 15 1) 0 x ≡ x ∷ take 15 s
 put_in_front [] x h = absurd (let no : ⊥ = omega (arith, h) in no)
 put_in_front (y ∷ ys) x h =
-    let long : length (copy_within (y ∷ ys) 0 15 1) ≤ 16 = omega (arith, h, length-paste (y ∷ ys) 1 (y ∷ ys) 15 (omega (arith, h)) (omega (arith, h))) in
-    let whole : copy_within (y ∷ ys) 0 15 1 ≡ y ∷ take 15 (y ∷ ys) = sym (take_all 16 (copy_within (y ∷ ys) 0 15 1) long) ∙ take-paste (y ∷ ys) 1 (y ∷ ys) 15 (omega (arith, h)) (omega (arith, h)) in
+    let long : length (copy_within (y ∷ ys) 0 15 1) ≤ 16 =
+    omega (arith, h, length-paste (y ∷ ys) 1 (y ∷ ys) 15 (omega (arith, h)) (omega (arith, h))) in
+    let whole : copy_within (y ∷ ys) 0 15 1 ≡ y ∷ take 15 (y ∷ ys) =
+    sym (take_all 16 (copy_within (y ∷ ys) 0 15 1) long)
+    ∙ take-paste (y ∷ ys) 1 (y ∷ ys) 15 (omega (arith, h)) (omega (arith, h)) in
     ap (λ l. set l 0 x) whole
 
 module _ (bs : List ℕ) (at byte : ℕ) (there : slice_get bs at ≡ Some byte) where
@@ -25,68 +29,68 @@ module _ (bs : List ℕ) (at byte : ℕ) (there : slice_get bs at ≡ Some byte)
   above_kept zero p q e = e
   above_kept (suc k) p q e = ap (λ s. line_above bs k (s - 1)) e
 
-  -- a start put in front of the others, where a line ends with the byte
-  started : (starts : List ℕ) → line_start bs (at + 1) ≡ at + 1 → ((k : ℕ) → k < 16 → slice_index starts k ≡ line_above bs k at)
+  -- a start put before the others, where a line ends with the byte
+  started : (starts : List ℕ) → line_start bs (at + 1) ≡ at + 1
+      → ((k : ℕ) → k < 16 → slice_index starts k ≡ line_above bs k at)
       → (k : ℕ) → k < 16 → slice_index ((at + 1) ∷ take 15 starts) k ≡ line_above bs k (at + 1)
   started starts e are zero h = sym e
   started starts e are (suc k) h =
       get_or-take 15 starts k 0 (omega (arith, h)) ∙ are k (omega (arith, h))
-      ∙ sym (ap (λ s. line_above bs k (s - 1)) e ∙ ap (line_above bs k) (let back : at + 1 - 1 ≡ at = omega arith in back))
+      ∙ sym (ap (λ s. line_above bs k (s - 1)) e
+      ∙ ap (line_above bs k) (let back : at + 1 - 1 ≡ at = omega arith in back))
 
-  starts_by : (b : Bool) (starts : List ℕ) → is_return byte ≡ b → ((k : ℕ) → k < 16 → slice_index starts k ≡ line_above bs k at)
+  starts_by : (b : Bool) (starts : List ℕ) → is_return byte ≡ b
+      → ((k : ℕ) → k < 16 → slice_index starts k ≡ line_above bs k at)
       → (k : ℕ) → k < 16 → slice_index (cond b ((at + 1) ∷ take 15 starts) starts) k ≡ line_above bs k (at + 1)
-  starts_by true starts is are k h = started starts (next_start ∙ ap (λ c. cond c (at + 1) (line_start bs at)) is) are k h
-  starts_by false starts is are k h = are k h ∙ sym (above_kept k (at + 1) at (next_start ∙ ap (λ c. cond c (at + 1) (line_start bs at)) is))
+  starts_by true starts is are k h =
+      started starts (next_start ∙ ap (λ c. cond c (at + 1) (line_start bs at)) is) are k h
+  starts_by false starts is are k h = are k h
+      ∙ sym (above_kept k (at + 1) at (next_start ∙ ap (λ c. cond c (at + 1) (line_start bs at)) is))
 
   pub starts_next : (starts : List ℕ) → ((k : ℕ) → k < 16 → slice_index starts k ≡ line_above bs k at)
-      → (k : ℕ) → k < 16 → slice_index (cond (is_return byte) ((at + 1) ∷ take 15 starts) starts) k ≡ line_above bs k (at + 1)
+      → (k : ℕ) → k < 16
+      → slice_index (cond (is_return byte) ((at + 1) ∷ take 15 starts) starts) k ≡ line_above bs k (at + 1)
   starts_next starts are k h = starts_by (is_return byte) starts refl are k h
 
-take_bound : (at : ℕ) (starts : List ℕ) → ((k : ℕ) → slice_index starts k ≤ at) → (k : ℕ) → get_or (take 15 starts) k 0 ≤ at
+take_bound : (at : ℕ) (starts : List ℕ) → ((k : ℕ) → slice_index starts k ≤ at) → (k : ℕ)
+    → get_or (take 15 starts) k 0 ≤ at
 take_bound at starts are k = elim (leb_tells 15 k) [
-  | inl past ↦ let none : get_or (take 15 starts) k 0 ≡ 0 = get_or_past (take 15 starts) k 0 (omega (arith, past.1, length-take 15 starts)) in omega (arith, none)
-  | inr before ↦ let same : get_or (take 15 starts) k 0 ≡ get_or starts k 0 = get_or-take 15 starts k 0 before.1 in let le = are k in omega (arith, same, le)
+  | inl past ↦ let none : get_or (take 15 starts) k 0 ≡ 0 =
+      get_or_past (take 15 starts) k 0 (omega (arith, past.1, length-take 15 starts)) in omega (arith, none)
+  | inr before ↦ let same : get_or (take 15 starts) k 0 ≡ get_or starts k 0 = get_or-take 15 starts k 0 before.1 in
+      let le = are k in omega (arith, same, le)
 ]
 
-pub range_next : (b : Bool) (at : ℕ) (starts : List ℕ) → ((k : ℕ) → slice_index starts k ≤ at) → (k : ℕ) → slice_index (cond b ((at + 1) ∷ take 15 starts) starts) k ≤ at + 1
+pub range_next : (b : Bool) (at : ℕ) (starts : List ℕ) → ((k : ℕ) → slice_index starts k ≤ at) → (k : ℕ)
+    → slice_index (cond b ((at + 1) ∷ take 15 starts) starts) k ≤ at + 1
 range_next true at starts are zero = let le : at + 1 ≤ at + 1 = omega arith in le
 range_next true at starts are (suc k) = let le = take_bound at starts are k in omega (arith, le)
 range_next false at starts are k = let le = are k in omega (arith, le)
 
 pub ends_before : (bs : List ℕ) (org q : ℕ) → q ≤ org → ends_between bs org q ≡ 0
-ends_before bs org q h = ap (λ k. count_by is_return (take k (drop org bs))) (let e : q - org ≡ 0 = omega (arith, h) in e)
+ends_before bs org q h =
+    ap (λ k. count_by is_return (take k (drop org bs))) (let e : q - org ≡ 0 = omega (arith, h) in e)
 
 -- how many lines end
 module _ (bs : List ℕ) (org at byte : ℕ) (there : slice_get bs at ≡ Some byte) where
   one_more : (b : Bool) (i : ℕ) → is_return byte ≡ b → i + org ≡ at
-      → cond b (count_by is_return (take i (drop org bs)) + 1) (count_by is_return (take i (drop org bs))) ≡ count_by is_return (take (i + 1) (drop org bs))
+      → cond b (count_by is_return (take i (drop org bs)) + 1)
+      (count_by is_return (take i (drop org bs))) ≡ count_by is_return (take (i + 1) (drop org bs))
   one_more true i is e =
       let within = slice_get_within bs at byte there in
       sym (count_by_more_yes is_return (drop org bs) i byte (omega (arith, within, e, length-drop org bs))
-      (ap is_return (get_or-drop org bs i byte ∙ ap (λ k. get_or bs k byte) (let o : org + i ≡ at = omega (arith, e) in o) ∙ get_or_from_slice_get bs at byte byte there) ∙ is))
+      (ap is_return (get_or-drop org bs i byte
+      ∙ ap (λ k. get_or bs k byte) (let o : org + i ≡ at = omega (arith, e) in o)
+      ∙ get_or_from_slice_get bs at byte byte there) ∙ is))
   one_more false i is e =
       let within = slice_get_within bs at byte there in
       sym (count_by_more_no is_return (drop org bs) i byte (omega (arith, within, e, length-drop org bs))
-      (ap is_return (get_or-drop org bs i byte ∙ ap (λ k. get_or bs k byte) (let o : org + i ≡ at = omega (arith, e) in o) ∙ get_or_from_slice_get bs at byte byte there) ∙ is))
+      (ap is_return (get_or-drop org bs i byte
+      ∙ ap (λ k. get_or bs k byte) (let o : org + i ≡ at = omega (arith, e) in o)
+      ∙ get_or_from_slice_get bs at byte byte there) ∙ is))
 
-  pub ends_within : org ≤ at → cond (is_return byte) (ends_between bs org at + 1) (ends_between bs org at) ≡ ends_between bs org (at + 1)
+  pub ends_within : org ≤ at
+      → cond (is_return byte) (ends_between bs org at + 1) (ends_between bs org at) ≡ ends_between bs org (at + 1)
   ends_within h = one_more (is_return byte) (at - org) refl (omega (arith, h))
-      ∙ ap (λ k. count_by is_return (take k (drop org bs))) (let e : at - org + 1 ≡ at + 1 - org = omega (arith, h) in e)
-
-  ends_by : (b : Bool) → is_return byte ≡ b → cond (b && nat_le org at) (ends_between bs org at + 1) (ends_between bs org at) ≡ ends_between bs org (at + 1)
-  ends_by true is = elim (leb_tells org at) [
-    | inl within ↦ ap (λ c. cond c (ends_between bs org at + 1) (ends_between bs org at)) (within.0 ∙ sym is) ∙ ends_within within.1
-    | inr before ↦ ap (λ c. cond c (ends_between bs org at + 1) (ends_between bs org at)) before.0
-        ∙ ends_before bs org at (let le : at ≤ org = omega (arith, before.1) in le) ∙ sym (ends_before bs org (at + 1) (let le : at + 1 ≤ org = omega (arith, before.1) in le))
-  ]
-  ends_by false is = elim (leb_tells org at) [
-    | inl within ↦ ap (λ c. cond c (ends_between bs org at + 1) (ends_between bs org at)) (sym is) ∙ ends_within within.1
-    | inr before ↦ ends_before bs org at (let le : at ≤ org = omega (arith, before.1) in le) ∙ sym (ends_before bs org (at + 1) (let le : at + 1 ≤ org = omega (arith, before.1) in le))
-  ]
-
-  pub ends_next : (n : ℕ) → n ≡ ends_between bs org at → cond (is_return byte && nat_le org at) (n + 1) n ≡ ends_between bs org (at + 1)
-  ends_next n is = ap (λ m. cond (is_return byte && nat_le org at) (m + 1) m) is ∙ ends_by (is_return byte) refl
-
-pub few_next : (b : Bool) (n at : ℕ) → n ≤ at → cond b (n + 1) n ≤ at + 1
-few_next true n at h = let le : n + 1 ≤ at + 1 = omega (arith, h) in le
-few_next false n at h = let le : n ≤ at + 1 = omega (arith, h) in le
+      ∙ ap (λ k. count_by is_return (take k (drop org bs))) (let e : at - org + 1 ≡ at + 1 - org = omega (arith, h) in
+      e)

@@ -4,16 +4,28 @@ use Rattle.std.proofs.Common.{refl, sym, ap, ◌∙◌, inl, inr, arith, add-one
 use Rattle.std.proofs.lemmas.Bool.{cases_eq}
 use Rattle.text_frames.specs.Lines.{greatest, IsGreatest, ends_line, begins_line, line_start}
 
-by : (test : ℕ → Bool) (n : ℕ) (b : Bool) → test (suc n) ≡ b → IsGreatest test n (greatest test n) → IsGreatest test (suc n) (cond b (suc n) (greatest test n))
-by test n true is rec = record { within = omega arith; passes = inr is; none_above = λ k low high. absurd (let no : ⊥ = omega (arith, low, high) in no) }
+by : (test : ℕ → Bool) (n : ℕ) (b : Bool) → test (suc n) ≡ b → IsGreatest test n (greatest test n)
+    → IsGreatest test (suc n) (cond b (suc n) (greatest test n))
+by test n true is rec =
+    record {
+      within = omega arith;
+      passes = inr is;
+      none_above = λ k low high. absurd (let no : ⊥ = omega (arith, low, high) in no);
+    }
 by test n false is rec = record {
   within = (let le : greatest test n ≤ suc n = omega (arith, rec.within) in le);
   passes = rec.passes;
-  none_above = λ k low high. elim (cases_eq k (suc n)) [ inl same ↦ rw same is | inr other ↦ rec.none_above k low (omega (arith, high, other)) ];
+  none_above = λ k low high. elim
+      (cases_eq k (suc n)) [ inl same ↦ rw same is | inr other ↦ rec.none_above k low (omega (arith, high, other)) ];
 }
 
 pub is_greatest : (test : ℕ → Bool) (n : ℕ) → IsGreatest test n (greatest test n)
-is_greatest test zero = record { within = omega arith; passes = inl refl; none_above = λ k low high. absurd (let no : ⊥ = omega (arith, low, high) in no) }
+is_greatest test zero =
+    record {
+      within = omega arith;
+      passes = inl refl;
+      none_above = λ k low high. absurd (let no : ⊥ = omega (arith, low, high) in no);
+    }
 is_greatest test (suc n) = by test n (test (suc n)) refl (is_greatest test n)
 
 pub greatest_within : (test : ℕ → Bool) (n : ℕ) → greatest test n ≤ n
@@ -23,13 +35,16 @@ greatest_more : (test : ℕ → Bool) (n : ℕ) → greatest test (n + 1) ≡ co
 greatest_more test n = rw add-one refl
 
 -- one number more
-pub greatest_next : (test : ℕ → Bool) (n s : ℕ) (b : Bool) → b ≡ test (n + 1) → s ≡ greatest test n → cond b (n + 1) s ≡ greatest test (n + 1)
-greatest_next test n s b at is = ap (λ (c : Bool). cond c (n + 1) s) at ∙ ap (λ (t : ℕ). cond (test (n + 1)) (n + 1) t) is ∙ sym (greatest_more test n)
+pub greatest_next : (test : ℕ → Bool) (n s : ℕ) (b : Bool) → b ≡ test (n + 1) → s ≡ greatest test n
+    → cond b (n + 1) s ≡ greatest test (n + 1)
+greatest_next test n s b at is = ap (λ (c : Bool). cond c (n + 1) s) at
+    ∙ ap (λ (t : ℕ). cond (test (n + 1)) (n + 1) t) is ∙ sym (greatest_more test n)
 
 pub begins_next : (bs : List ℕ) (k : ℕ) → begins_line bs (k + 1) ≡ ends_line (slice_get bs k)
 begins_next bs k = rw add-one refl
 
-starts_by : (bs : List ℕ) (n : ℕ) (b : Bool) → begins_line bs (suc n) ≡ b → begins_line bs (line_start bs n) ≡ true → begins_line bs (cond b (suc n) (line_start bs n)) ≡ true
+starts_by : (bs : List ℕ) (n : ℕ) (b : Bool) → begins_line bs (suc n) ≡ b → begins_line bs (line_start bs n) ≡ true
+    → begins_line bs (cond b (suc n) (line_start bs n)) ≡ true
 starts_by bs n true is rec = is
 starts_by bs n false is rec = rec
 
@@ -37,6 +52,7 @@ pub starts : (bs : List ℕ) (p : ℕ) → begins_line bs (line_start bs p) ≡ 
 starts bs zero = refl
 starts bs (suc n) = starts_by bs n (begins_line bs (suc n)) refl (starts bs n)
 
--- the line of the position behind one
-pub start_next : (bs : List ℕ) (k s : ℕ) (b : Bool) → b ≡ ends_line (slice_get bs k) → s ≡ line_start bs k → cond b (k + 1) s ≡ line_start bs (k + 1)
+-- the line of the next position
+pub start_next : (bs : List ℕ) (k s : ℕ) (b : Bool) → b ≡ ends_line (slice_get bs k) → s ≡ line_start bs k
+    → cond b (k + 1) s ≡ line_start bs (k + 1)
 start_next bs k s b at is = greatest_next (begins_line bs) k s b (at ∙ sym (begins_next bs k)) is

@@ -1,4 +1,7 @@
 pub mod Above
+pub mod Filling
 pub mod Greatest
 pub mod Placing
+pub mod RowCells
+pub mod Showing
 pub mod Walking

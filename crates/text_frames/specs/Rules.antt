@@ -9,7 +9,9 @@ with_org f org = record f { org = org }
 abbrev pub cleared : Frame → Frame
 cleared f = record f { caret = None; selection = None }
 
--- where the character at org, behind p, stands after bytes were inserted at p or deleted from p on; a deleted one falls to p
+-- where the character at org, which is after p, stands after bytes were inserted at p or deleted from p on; a deleted
+-- one falls
+-- to p
 abbrev pub moved : ℕ → ℕ → ℕ → ℕ → ℕ
 moved p inserted deleted org =
     if deleted == 0 then org + inserted else
@@ -20,7 +22,8 @@ abbrev pub changed_org : List ℕ → ℕ → ℕ → ℕ → ℕ → ℕ
 changed_org bs p inserted deleted org =
     if nat_le org p then org else line_start bs (moved p inserted deleted org)
 
--- the change rule: the frame loses caret and selection, and org follows its character; where nothing was changed it stays as it is
+-- the change rule: the frame loses caret and selection, and org follows its character; where nothing was changed it
+-- stays as it is
 abbrev pub changed : List ℕ → ℕ → ℕ → ℕ → Frame → Frame
 changed bs p inserted deleted f =
     if inserted + deleted == 0 then f else with_org (cleared f) (changed_org bs p inserted deleted f.org)

@@ -1,31 +1,42 @@
 //! A frame, and the rules by which it follows its text.
-ghost use Rattle.std.specs.Prelude.{◌≡◌, ◌⊎◌, ◌+◌, ◌/◌, ◌^◌, ◌<◌, ◌≤◌, ◌==◌, ◌&&◌, nat_le, nat_lt, Some, length, slice_index, IfOk, IfSome, OnOk, OnErr, if◌then◌else◌};
+ghost use Rattle.std.specs.Prelude.{◌≡◌, ◌⊎◌, ◌+◌, ◌^◌, ◌<◌, ◌≤◌, ◌==◌, Some, length};
+ghost use Rattle.std.specs.Prelude.{IfOk, IfSome, OnOk, OnErr, if◌then◌else◌};
+ghost use Rattle.std.specs.List.{All};
 ghost use Rattle.sector_disk.specs.Trail.{CountsFault};
 ghost use Rattle.char_file.specs.Source.{OnlyReads};
 ghost use Rattle.piece_ring.specs.Flat.{flat};
 ghost use Rattle.piece_ring.specs.Offsets.{AreWithin};
-ghost use Rattle.readers_scanners.specs.Reading.{bytes};
+ghost use Rattle.readers_scanners.specs.Reading.{contents, bytes};
 ghost use Rattle.text_frames.specs.Cells.{position_at, cell_of};
-ghost use Rattle.text_frames.specs.Rules.{with_org, cleared, moved, changed_org, changed, shown};
+ghost use Rattle.text_frames.specs.Row.{row_cells, IsOfText};
+ghost use Rattle.text_frames.specs.Rules.{with_org, cleared, moved, changed_org, changed, is_shown, shown};
 
-use crate::lines::{LinesAbove, line_start, lines_above};
+use crate::lines::{line_start, lines_above, start_above};
 use crate::place::{self, place_of};
+use crate::row::{RowCells, cells_of_row};
 use crate::{CharSource, Fault, Text};
 
 /// The characters from `beg` up to before `end`, with the rank of the selection among all.
 #[derive(Clone, Copy, Debug, PartialEq, Eq)]
 pub struct Selection {
+    /// The position of the first character.
     pub beg: u32,
+    /// The position after the last one.
     pub end: u32,
+    /// Its place among all selections by age, the newest with the highest.
     pub rank: u8,
 }
 
-/// Shows the text of the number `text` from the position `org` on. Positions count characters.
+/// Shows a text from a position on, a line a row. Positions count characters.
 #[derive(Clone, Copy, Debug, PartialEq, Eq)]
 pub struct Frame {
+    /// The number of the text.
     pub text: u16,
+    /// The position of the first character shown.
     pub org: u32,
+    /// The position before which the caret stands.
     pub caret: Option<u32>,
+    /// The characters selected.
     pub selection: Option<Selection>,
 }
 
@@ -52,10 +63,10 @@ impl Frame {
         self.org = org;
     }
 
-    /// Follows a change of its text: at `p` so many characters were inserted, or so many from `p` on deleted. `text` is the changed text.
-    /// The frame loses its caret and its selection. `org` stays where it is at most `p`; else it goes with its character, or to `p` where
-    /// that was deleted, and from there to the start of its line. Where nothing was inserted or deleted nothing changes.
-    /// `Fault`: the source failed in this call; the frame is as it was.
+    /// Follows a change of its text: at `p` so many characters were inserted, or so many from `p` on deleted. `text` is
+    /// the changed text. The frame loses its caret and its selection. `org` stays where it is at most `p`; else it goes
+    /// with its character, or to `p` where that was deleted, and from there to the start of its line. Where nothing was
+    /// inserted or deleted nothing changes. `Fault`: the source failed in this call; the frame is as it was.
     pub fn update<S: CharSource>(
         &mut self,
         text: &Text,
@@ -80,16 +91,18 @@ impl Frame {
         if inserted == 0 && deleted == 0 {
             return Ok(());
         }
-        let followed = org_behind(self.org, text, p, inserted, deleted, source)?;
+        let followed = org_after(self.org, text, p, inserted, deleted, source)?;
         self.org = followed;
         self.caret = None;
         self.selection = None;
         Ok(())
     }
 
-    /// Brings the position `p` into the `h` rows shown: where it is above `org`, or its line isn't in one of these rows, `org` becomes the
-    /// start of the line that stands `h / 2` lines above that of `p`, 0 where there are fewer.
-    /// `Fault`: the source failed in this call; the frame is as it was.
+    /// Brings the position `p` into the `h` rows shown: where it is above `org`, or its line isn't in one of these
+    /// rows,
+    /// `org` becomes the start of the line that stands `h / 2` lines above that of `p`, 0 where there are fewer. Where
+    /// the line is shown, only the characters from `org` to `p` are read. `Fault`: the source failed in this call; the
+    /// frame is as it was.
     pub fn show<S: CharSource>(
         &mut self,
         text: &Text,
@@ -109,14 +122,48 @@ impl Frame {
         ensures reads { OnlyReads S.characters S.failures S.honest S.same_ground source.old source.new }
         ensures cause { CountsFault result (S.failures source.old) (S.failures source.new) }
     {
-        let above = lines_above(text, self.org, p, source)?;
-        self.org = org_among(self.org, &above, h, p);
+        let seen = is_shown(self.org, text, h, p, source)?;
+        if seen {
+            return Ok(());
+        }
+        let starts = lines_above(text, p, source)?;
+        let org = start_above(&starts, h);
+        self.org = org;
         Ok(())
     }
 
-    /// The position at the cell of the column `col` and the row `row`, counted from 0, in a frame of `h` rows of `w` columns: of the character
-    /// whose cells hold the column; past the last character of a line the line's end; in a row without a line the text's end. A column
-    /// past the frame's is one of the line all the same. `Fault`: the source failed in this call.
+    /// The filled cells of the row `row`, counted from 0, in a frame of `h` rows of `w` columns: from the left one on,
+    /// at most `w`, the byte, the look and the position of the character in each. A tabulator stands in each of its
+    /// cells, a carriage return in none. The text is read from `org` to the end of that row at most. `Fault`: the
+    /// source
+    /// failed in this call.
+    pub fn line<S: CharSource>(
+        &self,
+        text: &Text,
+        w: u8,
+        h: u8,
+        row: u8,
+        source: &mut S,
+    ) -> Result<RowCells, Fault>
+        requires columns { w ≤ 50 }
+        requires rows { h ≤ 31 }
+        requires row { row < h }
+        requires org { self.now.org ≤ length (flat text.now) }
+        requires offsets { AreWithin (length (S.characters source.old)) (flat text.now) }
+        ensures cells { IfOk result (λ line. S.honest source.old
+            → line.items ≡ row_cells w (contents (S.characters source.old) (flat text.now)) self.now.org row) }
+        ensures most { IfOk result (λ line. length line.items ≤ w) }
+        ensures range { IfOk result (λ line. All (IsOfText (flat text.now) self.now.org) line.items) }
+        ensures reads { OnlyReads S.characters S.failures S.honest S.same_ground source.old source.new }
+        ensures cause { CountsFault result (S.failures source.old) (S.failures source.new) }
+    {
+        cells_of_row(text, self.org, w, row, source)
+    }
+
+    /// The position at the cell of the column `col` and the row `row`, counted from 0, in a frame of `h` rows of `w`
+    /// columns: of the character whose cells hold the column; past the last character of a line the line's end; in a
+    /// row without a line the text's end. A column past the frame's is one of the line all the same. `Fault`: the
+    /// source failed in this call.
     pub fn pos_at<S: CharSource>(
         &self,
         text: &Text,
@@ -141,8 +188,8 @@ impl Frame {
         place::position_at(text, self.org, col, row, source)
     }
 
-    /// The column and the row in which the character at `p` begins, or would begin that is put in there; None where it isn't shown in `h`
-    /// rows of `w` columns. `Fault`: the source failed in this call.
+    /// The column and the row in which the character at `p` begins, or would begin that is put in there; None where it
+    /// isn't shown in `h` rows of `w` columns. `Fault`: the source failed in this call.
     pub fn cell_of<S: CharSource>(
         &self,
         text: &Text,
@@ -170,8 +217,8 @@ impl Frame {
     }
 }
 
-// Where a frame begins behind a change of its text.
-fn org_behind<S: CharSource>(
+/// Where a frame begins after a change of its text. `Fault`: the source failed in this call.
+fn org_after<S: CharSource>(
     org: u32,
     text: &Text,
     p: u32,
@@ -193,15 +240,15 @@ fn org_behind<S: CharSource>(
         return Ok(org);
     }
     let len = text.len();
-    let place = place_behind(org, p, inserted, deleted, len);
+    let place = place_after(org, p, inserted, deleted, len);
     let start = line_start(text, place, source)?;
     Ok(start)
 }
 
-// Where the character at org stands behind a change, or p where it was deleted. The text has `len` characters then.
-fn place_behind(org: u32, p: u32, inserted: u32, deleted: u32, len: u32) -> u32
+/// Where the character at `org` stands after a change, or `p` where it was deleted. The text has `len` characters then.
+fn place_after(org: u32, p: u32, inserted: u32, deleted: u32, len: u32) -> u32
     requires one { (inserted ≡ 0) ⊎ (deleted ≡ 0) }
-    requires behind { p < org }
+    requires after { p < org }
     requires place { p + inserted ≤ len }
     requires org { org + inserted ≤ len + deleted }
     ensures place { result ≡ moved p inserted deleted org }
@@ -216,14 +263,25 @@ fn place_behind(org: u32, p: u32, inserted: u32, deleted: u32, len: u32) -> u32
     }
 }
 
-// Where a frame begins so that a position is seen above which these lines stand.
-fn org_among(org: u32, above: &LinesAbove, h: u8, p: u32) -> u32
-    requires { h ≤ 31 }
-    ensures { result ≡ (if nat_le org p && nat_lt above.now.ends h then org else slice_index above.now.starts (h / 2)) }
+/// Whether the line of a position is in one of the `h` rows of a frame that begins at `org`. `Fault`: the source failed
+/// in this call.
+fn is_shown<S: CharSource>(
+    org: u32,
+    text: &Text,
+    h: u8,
+    p: u32,
+    source: &mut S,
+) -> Result<bool, Fault>
+    requires place { p ≤ length (flat text.now) }
+    requires offsets { AreWithin (length (S.characters source.old)) (flat text.now) }
+    ensures exact { IfOk result (λ seen. S.honest source.old
+        → seen ≡ is_shown (bytes (S.characters source.old) (flat text.now)) h org p) }
+    ensures reads { OnlyReads S.characters S.failures S.honest S.same_ground source.old source.new }
+    ensures cause { CountsFault result (S.failures source.old) (S.failures source.new) }
 {
-    if org <= p && above.ends < h as u32 {
-        org
-    } else {
-        above.starts[h as usize / 2]
+    if p < org {
+        return Ok(false);
     }
+    let place = place_of(text, org, p, source)?;
+    Ok(place.row < h as u32)
 }

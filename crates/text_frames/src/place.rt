@@ -1,17 +1,17 @@
 //! Rows and columns, as a text is read from `org` on.
-ghost use Rattle.std.specs.Prelude.{◌≡◌, ℕ, ◌+◌, ◌-◌, ◌*◌, ◌^◌, ◌<◌, ◌≤◌, Some, None, length, IfOk, IfSome, if◌then◌else◌};
+ghost use Rattle.std.specs.Prelude.{◌≡◌, ℕ, ◌+◌, ◌-◌, ◌*◌, ◌^◌, ◌<◌, ◌≤◌, Some, None, length, IfOk, IfSome};
+ghost use Rattle.std.specs.Prelude.{if◌then◌else◌};
 ghost use Rattle.sector_disk.specs.Trail.{CountsFault};
 ghost use Rattle.char_file.specs.Source.{OnlyReads};
 ghost use Rattle.piece_ring.specs.Flat.{flat};
 ghost use Rattle.piece_ring.specs.Offsets.{AreWithin};
 ghost use Rattle.readers_scanners.specs.Reading.{bytes};
-ghost use Rattle.text_frames.specs.Cells.{column_behind, row_of, column_of, position_at};
+ghost use Rattle.text_frames.specs.Cells.{column_after, row_of, column_of, position_at};
 
-use crate::lines::{CARRIAGE_RETURN, next_byte};
+use crate::lines::next_byte;
 use crate::{CharSource, Fault, Text};
+use event_bytes::{CARRIAGE_RETURN, TABULATOR};
 use readers_scanners::Reader;
-
-const TABULATOR: u8 = 9;
 
 /// The row and the column of a position, where columns aren't cut off.
 #[derive(Clone, Copy, Debug, PartialEq, Eq)]
@@ -29,17 +29,17 @@ impl Place {
         requires row { self.old.row < 2 ^ 32 - 1 }
         requires column { self.old.column < 2 ^ 40 }
         ensures row { self.new.row ≡ (if is_return byte then self.old.row + 1 else self.old.row) }
-        ensures column { self.new.column ≡ (if is_return byte then 0 else column_behind self.old.column byte) }
+        ensures column { self.new.column ≡ (if is_return byte then 0 else column_after self.old.column byte) }
     {
         if byte == CARRIAGE_RETURN {
             self.row += 1;
             self.column = 0;
         } else {
-            self.column = column_behind(self.column, byte);
+            self.column = column_after(self.column, byte);
         }
     }
 
-    /// Whether it isn't behind the cell of a column and a row.
+    /// Whether it doesn't come after the cell of a column and a row.
     pub fn comes_by(&self, column: u8, row: u8) -> bool
         ensures { result ≡ comes_by column row self.now.column self.now.row }
     {
@@ -48,7 +48,8 @@ impl Place {
 
     /// Its column and row, where it is in one of `h` rows of `w` columns.
     pub fn shown(&self, w: u8, h: u8) -> Option<(u8, u8)>
-        ensures cell { result ≡ (if is_inside w h self.now.column self.now.row then Some (self.now.column, self.now.row) else None) }
+        ensures cell { result ≡ (if is_inside w h self.now.column self.now.row
+            then Some (self.now.column, self.now.row) else None) }
         ensures inside { IfSome result (λ cell. (cell.0 < w) × (cell.1 < h)) }
     {
         if self.row < h as u32 && self.column < w as u64 {
@@ -59,10 +60,10 @@ impl Place {
     }
 }
 
-// The column behind a byte that begins in a column.
-fn column_behind(column: u64, byte: u8) -> u64
+/// The column after a byte that begins in a column.
+pub(crate) fn column_after(column: u64, byte: u8) -> u64
     requires { column < 2 ^ 40 }
-    ensures { result ≡ column_behind column byte }
+    ensures { result ≡ column_after column byte }
 {
     if byte == TABULATOR {
         (column / 4 + 1) * 4

@@ -3,11 +3,11 @@ use Rattle.std.specs.Prelude.{ℕ, ℤ, ◌-◌, ◌^◌, ◌<◌, ◌≤◌, ma
 use Rattle.std.specs.Fmt.{signed_decimal}
 use Rattle.std.specs.Int.Signed.{mag}
 
--- the text behind as many blanks as fill the width
+-- the text after as many blanks as fill the width
 abbrev pub right_aligned : ℕ → List ℕ → List ℕ
 right_aligned width text = replicate (width - length text) 32 ++ text
 
--- the decimal digits, with a `-` in front of a negative number, right aligned
+-- the decimal digits, with a `-` before a negative number, right aligned
 abbrev pub number_text : ℕ → ℤ → List ℕ
 number_text width value = right_aligned width (signed_decimal value)
 

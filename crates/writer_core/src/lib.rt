@@ -14,6 +14,3 @@ pub use char_file::CharSource;
 pub use laws::numbers_are_short;
 pub use text_buffers::{Buffer, Look, NoMemory};
 pub use writer::Writer;
-
-#[cfg(test)]
-mod tests;

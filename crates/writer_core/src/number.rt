@@ -5,8 +5,8 @@ ghost use Rattle.writer_core.specs.Number.{number_text};
 use crate::NoMemory;
 use std::alloc::Global;
 
-/// The decimal digits of a number, with a `-` in front of a negative one, and blanks before them so
-/// that they fill the width. Wider numbers are whole.
+/// The decimal digits of a number, with a `-` before a negative one, and blanks before them so that they fill the
+/// width. Wider numbers are whole. `NoMemory`: an allocation was refused.
 pub(crate) fn aligned(alloc: Global, value: i64, width: u8) -> Result<Vec<u8>, NoMemory>
     ensures { IfOk result (λ text. text.items ≡ number_text width value) }
 {

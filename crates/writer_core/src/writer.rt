@@ -2,9 +2,9 @@
 ghost use Rattle.std.specs.Prelude.{◌≡◌, ◌+◌, ◌^◌, ◌<◌, ◌≤◌, ◌∷◌, [], length, IfOk, OnOk, OnErr};
 ghost use Rattle.piece_ring.specs.Flat.{flat};
 ghost use Rattle.piece_ring.specs.Look.{default_look};
-ghost use Rattle.char_file.specs.Source.{most_characters};
+ghost use Rattle.char_file.specs.Source.{most_characters, KeepsGround};
 ghost use Rattle.writer_core.specs.Number.{number_text};
-ghost use Rattle.writer_core.specs.Written.{IsWritten, IsRefused, KeepsGround};
+ghost use Rattle.writer_core.specs.Written.{IsWritten, IsRefused};
 
 use crate::number::aligned;
 use crate::{Buffer, CharSource, Look, NoMemory};
@@ -115,8 +115,8 @@ impl Writer {
         self.buffer.add(alloc, piece)
     }
 
-    /// Writes a number in decimal, with a `-` in front of a negative one, behind as many blanks as
-    /// fill the width; a wider number is written whole. `NoMemory`: as with `write_string`.
+    /// Writes a number in decimal, with a `-` before a negative one, after as many blanks as fill the width; a wider
+    /// number is written whole. `NoMemory`: as with `write_string`.
     pub fn write_int<S: CharSource>(
         &mut self,
         alloc: Global,
@@ -137,8 +137,8 @@ impl Writer {
         self.write_string(alloc, &text, source)
     }
 
-    /// Hands out the characters that were written, and leaves none. If memory is refused the writer
-    /// stays; the look stays in any case.
+    /// Hands out the characters that were written, and leaves none. `NoMemory`: the writer keeps them. The look stays
+    /// in any case.
     pub fn take_buffer(&mut self, alloc: Global) -> Result<Buffer, NoMemory>
         ensures taken { IfOk result (λ b. flat b ≡ self.old.text) }
         ensures left { OnOk result (self.new.text ≡ []) }

@@ -13,5 +13,6 @@ invariant-loop-at g l =
       few : l.place.row ≤ l.at;
       short : l.place.column ≤ (l.at - l.org) * 4;
       row : s.honest l.fn.source → l.place.row ≡ row_of (bytes (s.characters l.fn.source) (flat l.text)) l.org l.at;
-      column : s.honest l.fn.source → l.place.column ≡ column_of (bytes (s.characters l.fn.source) (flat l.text)) l.org l.at;
+      column : s.honest l.fn.source
+          → l.place.column ≡ column_of (bytes (s.characters l.fn.source) (flat l.text)) l.org l.at;
     }
