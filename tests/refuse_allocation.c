@@ -1,4 +1,4 @@
-/* Preloaded before the program oberon: refuses one growth, number REFUSE counted from 0, and makes the file REFUSED when it does. */
+/* Preloaded before the program oberon: refuses one allocation, number REFUSE counted from 0, and makes the file REFUSED when it does. */
 #include <fcntl.h>
 #include <stdlib.h>
 #include <unistd.h>
@@ -6,11 +6,11 @@
 extern void *__libc_malloc(size_t size);
 extern void *__libc_realloc(void *block, size_t size);
 
-static long growths;
+static long allocations;
 
 static int is_refused(void) {
     const char *wanted = getenv("REFUSE");
-    if (!wanted || growths++ != atol(wanted)) return 0;
+    if (!wanted || allocations++ != atol(wanted)) return 0;
     const char *told = getenv("REFUSED");
     int file = told ? open(told, O_CREAT | O_WRONLY, 0600) : -1;
     if (file >= 0) close(file);

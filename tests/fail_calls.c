@@ -1,0 +1,68 @@
+/* Preloaded before the program oberon. It writes each call that reads, writes or syncs a file, but of standard output and error, as a line into
+   the file CALLS: `read N` for standard input, `pread SECTOR`, `pwrite SECTOR`, `fdatasync`, and `fsync NAME` with the last part of the path.
+   The call named FAIL, number AT of that name counted from 0, isn't made, and fails with the error number ERROR (5, an input or output error, where it isn't set). */
+#define _GNU_SOURCE
+#include <errno.h>
+#include <fcntl.h>
+#include <stdio.h>
+#include <stdlib.h>
+#include <string.h>
+#include <sys/syscall.h>
+#include <sys/types.h>
+#include <unistd.h>
+
+/* Writes a line about a call. */
+static void tell(const char *text) {
+    const char *path = getenv("CALLS");
+    if (!path) return;
+    int file = syscall(SYS_openat, AT_FDCWD, path, O_CREAT | O_WRONLY | O_APPEND, 0600);
+    if (file < 0) return;
+    syscall(SYS_write, file, text, strlen(text));
+    syscall(SYS_close, file);
+}
+
+/* Whether this call of that name is the one that fails. */
+static int fails(const char *name, long *count) {
+    const char *wanted = getenv("FAIL"), *at = getenv("AT"), *error = getenv("ERROR");
+    if (!wanted || !at || strcmp(wanted, name) || (*count)++ != atol(at)) return 0;
+    tell("failed\n");
+    errno = error ? atoi(error) : EIO;
+    return 1;
+}
+
+static long reads, preads, pwrites, fdatasyncs, fsyncs;
+
+ssize_t read(int file, void *bytes, size_t size) {
+    if (file == 0 && fails("read", &reads)) return -1;
+    return syscall(SYS_read, file, bytes, size);
+}
+
+ssize_t pread(int file, void *bytes, size_t size, off_t from) {
+    char text[64];
+    snprintf(text, sizeof text, "pread %ld\n", (long)(from / 1024));
+    tell(text);
+    return fails("pread", &preads) ? -1 : syscall(SYS_pread64, file, bytes, size, from);
+}
+
+ssize_t pwrite(int file, const void *bytes, size_t size, off_t to) {
+    char text[64];
+    snprintf(text, sizeof text, "pwrite %ld\n", (long)(to / 1024));
+    tell(text);
+    return fails("pwrite", &pwrites) ? -1 : syscall(SYS_pwrite64, file, bytes, size, to);
+}
+
+int fdatasync(int file) {
+    tell("fdatasync\n");
+    return fails("fdatasync", &fdatasyncs) ? -1 : syscall(SYS_fdatasync, file);
+}
+
+int fsync(int file) {
+    char link[64], path[4096], text[4200];
+    snprintf(link, sizeof link, "/proc/self/fd/%d", file);
+    ssize_t length = readlink(link, path, sizeof path - 1);
+    path[length < 0 ? 0 : length] = 0;
+    const char *name = strrchr(path, '/');
+    snprintf(text, sizeof text, "fsync %s\n", name ? name + 1 : path);
+    tell(text);
+    return fails("fsync", &fsyncs) ? -1 : syscall(SYS_fsync, file);
+}

@@ -1,0 +1,10 @@
+# Standard input is a folder, isn't there, or fails in the middle of a script.
+"$PROGRAM" < /
+echo "$?"
+"$PROGRAM" <&-
+echo "$?"
+cc -shared -fPIC -o calls.so "$TESTS/fail_calls.c" || exit 1
+for number in 0 1 2; do
+    (printf 'list\nsh'; sleep 1; printf 'ow A\n') | FAIL=read AT=$number LD_PRELOAD=./calls.so "$PROGRAM"
+    echo "$?"
+done
