@@ -1,15 +1,14 @@
 //! A frame, and the rules by which it follows its text.
 ghost use Rattle.std.specs.Prelude.{◌≡◌, ◌⊎◌, ◌+◌, ◌^◌, ◌<◌, ◌≤◌, ◌==◌, Some, length};
 ghost use Rattle.std.specs.Prelude.{IfOk, IfSome, OnOk, OnErr, if◌then◌else◌};
-ghost use Rattle.std.specs.List.{All};
 ghost use Rattle.sector_disk.specs.Trail.{CountsFault};
 ghost use Rattle.char_file.specs.Source.{OnlyReads};
 ghost use Rattle.piece_ring.specs.Flat.{flat};
 ghost use Rattle.piece_ring.specs.Offsets.{AreWithin};
-ghost use Rattle.readers_scanners.specs.Reading.{contents, bytes};
-ghost use Rattle.text_frames.specs.Cells.{position_at, cell_of};
-ghost use Rattle.text_frames.specs.Row.{row_cells, IsOfText};
-ghost use Rattle.text_frames.specs.Rules.{with_org, cleared, moved, changed_org, changed, is_shown, shown};
+ghost use Rattle.readers_scanners.specs.Reading.{bytes};
+ghost use Rattle.text_frames.specs.Cells.{IsPositionAt, IsCellOf};
+ghost use Rattle.text_frames.specs.Row.{IsRow};
+ghost use Rattle.text_frames.specs.Rules.{moved, changed_org, is_shown, IsFollowed, IsBrought};
 
 use crate::lines::{line_start, lines_above, start_above};
 use crate::place::{self, place_of};
@@ -79,11 +78,8 @@ impl Frame {
         requires place { p + inserted ≤ length (flat text.now) }
         requires org { self.old.org + inserted ≤ length (flat text.now) + deleted }
         requires offsets { AreWithin (length (S.characters source.old)) (flat text.now) }
-        ensures frame { OnOk result (S.honest source.old
-            → self.new ≡ changed (bytes (S.characters source.old) (flat text.now)) p inserted deleted self.old) }
-        ensures rest { OnOk result (self.new
-            ≡ (if inserted + deleted == 0 then self.old else with_org (cleared self.old) self.new.org)) }
-        ensures range { OnOk result (self.new.org ≤ length (flat text.now)) }
+        ensures followed { OnOk result (IsFollowed (S.honest source.old) (S.characters source.old) (flat text.now)
+            p inserted deleted self.old self.new) }
         ensures refused { OnErr result (self.new ≡ self.old) }
         ensures reads { OnlyReads S.characters S.failures S.honest S.same_ground source.old source.new }
         ensures cause { CountsFault result (S.failures source.old) (S.failures source.new) }
@@ -99,10 +95,10 @@ impl Frame {
     }
 
     /// Brings the position `p` into the `h` rows shown: where it is above `org`, or its line isn't in one of these
-    /// rows,
-    /// `org` becomes the start of the line that stands `h / 2` lines above that of `p`, 0 where there are fewer. Where
-    /// the line is shown, only the characters from `org` to `p` are read. `Fault`: the source failed in this call; the
-    /// frame is as it was.
+    /// rows, `org` becomes the start of the line that stands `h / 2` lines above that of `p`, 0 where there are fewer.
+    /// Where the line is shown, only the characters from `org` to `p` are read. `Fault`: the source failed in this
+    /// call;
+    /// the frame is as it was.
     pub fn show<S: CharSource>(
         &mut self,
         text: &Text,
@@ -114,10 +110,8 @@ impl Frame {
         requires place { p ≤ length (flat text.now) }
         requires org { self.old.org ≤ length (flat text.now) }
         requires offsets { AreWithin (length (S.characters source.old)) (flat text.now) }
-        ensures frame { OnOk result (S.honest source.old
-            → self.new ≡ shown (bytes (S.characters source.old) (flat text.now)) h p self.old) }
-        ensures rest { self.new ≡ with_org self.old self.new.org }
-        ensures range { OnOk result (self.new.org ≤ length (flat text.now)) }
+        ensures brought { OnOk result (IsBrought (S.honest source.old) (S.characters source.old) (flat text.now)
+            h p self.old self.new) }
         ensures refused { OnErr result (self.new ≡ self.old) }
         ensures reads { OnlyReads S.characters S.failures S.honest S.same_ground source.old source.new }
         ensures cause { CountsFault result (S.failures source.old) (S.failures source.new) }
@@ -150,14 +144,13 @@ impl Frame {
         requires row { row < h }
         requires org { self.now.org ≤ length (flat text.now) }
         requires offsets { AreWithin (length (S.characters source.old)) (flat text.now) }
-        ensures cells { IfOk result (λ line. S.honest source.old
-            → line.items ≡ row_cells w (contents (S.characters source.old) (flat text.now)) self.now.org row) }
-        ensures most { IfOk result (λ line. length line.items ≤ w) }
-        ensures range { IfOk result (λ line. All (IsOfText (flat text.now) self.now.org) line.items) }
+        ensures cells { IfOk result (λ line. IsRow (S.honest source.old) (S.characters source.old) (flat text.now)
+            w self.now.org row line.items) }
         ensures reads { OnlyReads S.characters S.failures S.honest S.same_ground source.old source.new }
         ensures cause { CountsFault result (S.failures source.old) (S.failures source.new) }
     {
-        cells_of_row(text, self.org, w, row, source)
+        let line = cells_of_row(text, self.org, w, row, source)?;
+        Ok(line)
     }
 
     /// The position at the cell of the column `col` and the row `row`, counted from 0, in a frame of `h` rows of `w`
@@ -178,14 +171,13 @@ impl Frame {
         requires row { row < h }
         requires org { self.now.org ≤ length (flat text.now) }
         requires offsets { AreWithin (length (S.characters source.old)) (flat text.now) }
-        ensures position { IfOk result (λ pos. S.honest source.old
-            → pos ≡ position_at (bytes (S.characters source.old) (flat text.now)) self.now.org col row) }
-        ensures from { IfOk result (λ pos. self.now.org ≤ pos) }
-        ensures within { IfOk result (λ pos. pos ≤ length (flat text.now)) }
+        ensures position { IfOk result (IsPositionAt (S.honest source.old) (S.characters source.old) (flat text.now)
+            self.now.org col row) }
         ensures reads { OnlyReads S.characters S.failures S.honest S.same_ground source.old source.new }
         ensures cause { CountsFault result (S.failures source.old) (S.failures source.new) }
     {
-        place::position_at(text, self.org, col, row, source)
+        let pos = place::position_at(text, self.org, col, row, source)?;
+        Ok(pos)
     }
 
     /// The column and the row in which the character at `p` begins, or would begin that is put in there; None where it
@@ -202,10 +194,8 @@ impl Frame {
         requires rows { h ≤ 31 }
         requires place { p ≤ length (flat text.now) }
         requires offsets { AreWithin (length (S.characters source.old)) (flat text.now) }
-        ensures cell { IfOk result (λ cell. S.honest source.old
-            → cell ≡ cell_of w h (bytes (S.characters source.old) (flat text.now)) self.now.org p) }
-        ensures inside { IfOk result (λ cell. IfSome cell (λ c. (c.0 < w) × (c.1 < h))) }
-        ensures below { IfOk result (λ cell. IfSome cell (λ c. self.now.org ≤ p)) }
+        ensures cell { IfOk result (IsCellOf (S.honest source.old) (S.characters source.old) (flat text.now)
+            w h self.now.org p) }
         ensures reads { OnlyReads S.characters S.failures S.honest S.same_ground source.old source.new }
         ensures cause { CountsFault result (S.failures source.old) (S.failures source.new) }
     {
