@@ -1,8 +1,10 @@
 pub mod Blocks
 pub mod Dividing
 pub mod Joins
+pub mod Keeping
 pub mod Looks
 pub mod Memory
+pub mod Merging
 pub mod Moving
 pub mod Places
 pub mod Relooking

@@ -51,13 +51,13 @@ module _ (ns : List (Ptr × Piece)) (trailer : Ptr) (count len : ℕ) (v : IsPie
               (All-append IsWhole (front ++ pieces os) back (All-append IsWhole front (pieces os) (All-take IsWhole s.index (pieces_of ns) v.whole) o.whole) (All-drop IsWhole s.index (pieces_of ns) v.whole));
         }
 
-take-take : {X : Type 0} (i j : ℕ) (xs : List X) → i ≤ j → take i (take j xs) ≡ take i xs
+pub take-take : {X : Type 0} (i j : ℕ) (xs : List X) → i ≤ j → take i (take j xs) ≡ take i xs
 take-take zero j xs h = refl
 take-take (suc i) zero xs h = absurd (omega (arith, h))
 take-take (suc i) (suc j) [] h = refl
 take-take (suc i) (suc j) (x ∷ xs) h = ap (λ l. x ∷ l) (take-take i j xs (omega (arith, h)))
 
-first_taken : (ns : List (Ptr × Piece)) (a b : ℕ) → a < b → slice_get (places (drop a (take b ns))) 0 ≡ slice_get (places ns) a
+pub first_taken : (ns : List (Ptr × Piece)) (a b : ℕ) → a < b → slice_get (places (drop a (take b ns))) 0 ≡ slice_get (places ns) a
 first_taken [] zero zero h = refl
 first_taken [] zero (suc b) h = refl
 first_taken [] (suc a) zero h = absurd (omega (arith, h))

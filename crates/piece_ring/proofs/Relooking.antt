@@ -18,7 +18,7 @@ use Rattle.piece_ring.proofs.Seams.{seam-take, seam-drop}
 use Rattle.piece_ring.proofs.Moving.{seam-order, between-text}
 use Rattle.piece_ring.proofs.Looks.{flat-relooked, same_length}
 
-pieces_of-with_range : (ns ms : List (Ptr × Piece)) (i j : ℕ) (f : Piece → Piece) → 0 < length ns → pieces ms ≡ with_range (i + 1) (j + 1) f (pieces ns) → pieces_of ms ≡ with_range i j f (pieces_of ns)
+pub pieces_of-with_range : (ns ms : List (Ptr × Piece)) (i j : ℕ) (f : Piece → Piece) → 0 < length ns → pieces ms ≡ with_range (i + 1) (j + 1) f (pieces ns) → pieces_of ms ≡ with_range i j f (pieces_of ns)
 pieces_of-with_range [] ms i j f h e = absurd (omega (arith, h))
 pieces_of-with_range (n ∷ ns) ms i j f h e =
     let span : j + 1 - (i + 1) ≡ j - i = omega arith in let ps = pieces ns in

@@ -1,7 +1,8 @@
 -- Where a cursor stands in a list of pieces, and what is left to it.
-use Rattle.std.specs.Prelude.{ℕ, ◌+◌, ◌-◌, ◌<◌, ◌≤◌, ◌≡◌, List, [], ◌∷◌, length, Some, slice_get}
+use Rattle.std.specs.Prelude.{ℕ, ◌+◌, ◌-◌, ◌<◌, ◌≤◌, ◌≡◌, List, [], ◌∷◌, length, drop, Some, slice_get}
 use denote.RawPtr.{Ptr}
 use Rattle.piece_ring.specs.declared.piece.Piece.{Piece}
+use Rattle.piece_ring.specs.KeptPieces.{Walk}
 use Rattle.piece_ring.specs.Nodes.{places, pieces}
 
 -- a piece without its first n characters
@@ -20,3 +21,7 @@ pub record IsCursor (ns : List (Ptr × Piece)) (at : Ptr) (index within links : 
   pub place : index < length ns → slice_get (places ns) index ≡ Some at
   pub inside : (p : Piece) → slice_get (pieces ns) index ≡ Some p → within < p.len
   pub linked : links ≤ 1
+
+-- what a cursor before character `within` of the piece of index `index` has before it, to which so many links led
+abbrev pub walk_from : List (Ptr × Piece) → (index within walked : ℕ) → Walk
+walk_from ns index within walked = record { left = shortened within (drop index (pieces ns)); walked = walked }

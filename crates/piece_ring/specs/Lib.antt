@@ -1,8 +1,11 @@
 pub mod Cursor
 pub mod Cut
 pub mod Flat
+pub mod Kept
+pub mod KeptPieces
 pub mod Lengths
 pub mod Look
+pub mod Merging
 pub mod Nodes
 pub mod Offsets
 pub mod Ownership

@@ -22,13 +22,14 @@ pub record IsSeam (ns : List (Ptr × Piece)) (s : Seam) : Type 0 where
   pub place : slice_get (places ns) s.index ≡ Some s.at.ptr
   pub upto : length (flat (take s.index (pieces_of ns))) ≡ s.pos
 
--- a piece that has the character of a position
+-- a piece that has the character of a position, found along no more links than there are pieces
 pub record IsFound (ns : List (Ptr × Piece)) (pos : ℕ) (f : Found) : Type 0 where
   pub before : IsSeam ns f.before
   pub behind : IsSeam ns f.behind
   pub next : f.behind.index ≡ f.before.index + 1
   pub from : f.before.pos ≤ pos
   pub upto : pos < f.behind.pos
+  pub few : f.links + 1 ≤ length ns
 
 -- a place of a position
 abbrev pub IsPlace : List (Ptr × Piece) → ℕ → Place → Type 0

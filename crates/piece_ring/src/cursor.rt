@@ -21,17 +21,16 @@ pub struct Cursor<'a> {
     // The number of the piece's characters that were passed.
     pub(crate) within: u32,
     pub(crate) links: u32,
+    pub(crate) walked: u32,
 }
 
 impl<'a> Model for Cursor<'a> {
-    ghost use Rattle.std.specs.Prelude.{List, drop};
-    ghost use Rattle.piece_ring.specs.declared.piece.Piece.{Piece as APiece};
-    ghost use Rattle.piece_ring.specs.Cursor.{shortened, IsCursor};
-    ghost use Rattle.piece_ring.specs.Nodes.{pieces};
+    ghost use Rattle.piece_ring.specs.Cursor.{IsCursor, walk_from};
+    ghost use Rattle.piece_ring.specs.KeptPieces.{Walk};
 
-    ghost Value = { List APiece };
+    ghost Value = { Walk };
 
-    ghost view = { λ c. shortened c.within (drop c.index (pieces c.list.now.chain.nodes)) };
+    ghost view = { λ c. walk_from c.list.now.chain.nodes c.index c.within c.walked };
 
     ghost invariant = { λ c. IsCursor c.list.now.chain.nodes c.at.ptr c.index c.within c.links };
 }
@@ -44,11 +43,19 @@ impl<'a> Cursor<'a> {
         self.links
     }
 
+    /// The number of links that `Ring::cursor` followed to the cursor's first place.
+    pub fn walked(&self) -> u32
+        ensures { result ≡ self.now.walked }
+    {
+        self.walked
+    }
+
     /// The offset and the look of the character that the cursor stands before, which it then
     /// passes. None at the end of the ring, where it stays.
     pub fn next(&mut self) -> Option<(u32, Look)>
-        ensures { MatchOption result ((flat self.old ≡ []) × (flat self.new ≡ []))
-            (λ c. flat self.old ≡ c ∷ flat self.new) }
+        ensures text { MatchOption result ((flat self.old.left ≡ []) × (flat self.new.left ≡ []))
+            (λ c. flat self.old.left ≡ c ∷ flat self.new.left) }
+        ensures walked { self.new.walked ≡ self.old.walked }
     {
         let Some(rest) = self.rest() else {
             self.links = 0;
@@ -60,7 +67,7 @@ impl<'a> Cursor<'a> {
 
     /// The rest of the piece that the cursor stands in. None at the end.
     pub(crate) fn rest(&self) -> Option<Piece>
-        ensures first { MatchOption result (self.now ≡ []) (λ p. slice_get self.now 0 ≡ Some p) }
+        ensures first { MatchOption result (self.now.left ≡ []) (λ p. slice_get self.now.left 0 ≡ Some p) }
         ensures whole { IfSome result IsWhole }
     {
         if self.index > self.list.count {
@@ -78,10 +85,11 @@ impl<'a> Cursor<'a> {
     /// cursor then passes.
     pub(crate) fn next_run(&mut self, most: u32) -> Piece
         requires some { 0 < most }
-        requires more { 0 < length (flat self.old) }
-        ensures taken { flat self.old ≡ characters_of result ++ flat self.new }
+        requires more { 0 < length (flat self.old.left) }
+        ensures taken { flat self.old.left ≡ characters_of result ++ flat self.new.left }
         ensures whole { IsWhole result }
         ensures at_most { result.len ≤ most }
+        ensures walked { self.new.walked ≡ self.old.walked }
     {
         let Some(Piece { off, len, look }) = self.rest() else {
             unreachable!()
@@ -94,8 +102,9 @@ impl<'a> Cursor<'a> {
     /// Passes `n` characters of the piece that the cursor stands in.
     fn pass(&mut self, n: u32)
         requires some { 0 < n }
-        requires within { IsSomeAnd (slice_get self.old 0) (λ p. n ≤ p.len) }
-        ensures { flat self.new ≡ drop n (flat self.old) }
+        requires within { IsSomeAnd (slice_get self.old.left 0) (λ p. n ≤ p.len) }
+        ensures text { flat self.new.left ≡ drop n (flat self.old.left) }
+        ensures walked { self.new.walked ≡ self.old.walked }
     {
         let len = self.list.chain.piece(self.at, self.index).len;
         if n < len - self.within {

@@ -1,9 +1,11 @@
 //! A list of pieces in a chain of nodes: first the trailer, a node without characters, then a node
 //! for each piece. This layer has no raw pointer: it names nodes by their spots and indexes, and
 //! goes through the calls of `Chain`.
-ghost use Rattle.std.specs.Prelude.{◌≡◌, ◌+◌, ◌-◌, ◌<◌, ◌≤◌, ◌∷◌, [], ◌++◌, ◌^◌, length, Some, slice_get, IfOk, OnErr};
+ghost use Rattle.std.specs.Prelude.{ℕ, ◌≡◌, ◌+◌, ◌-◌, ◌<◌, ◌≤◌, ◌∷◌, [], ◌++◌, ◌^◌, length, Some, slice_get, IfOk, OnErr};
 ghost use Rattle.piece_ring.specs.declared.place.Seam.{Seam as ASeam};
 ghost use Rattle.piece_ring.specs.Flat.{flat, relooked_piece, IsWhole};
+ghost use Rattle.piece_ring.specs.Kept.{IsKeptAt, IsSettledAt, kept_pieces};
+ghost use Rattle.piece_ring.specs.Merging.{Continues, IsMergedAt};
 ghost use Rattle.piece_ring.specs.Nodes.{places, pieces, with_range};
 ghost use Rattle.piece_ring.specs.Place.{pieces_of, text_of, IsSeam, IsFound, IsPlace};
 ghost use Rattle.piece_ring.specs.PieceList.{IsPieceList, IsStretch};
@@ -16,13 +18,16 @@ use crate::spare::Spare;
 use crate::stretch::Stretch;
 use std::alloc::{AllocError as NoMemory, Global};
 
-/// The trailer and the nodes of the pieces, with the number of the pieces and of their characters.
+/// The trailer and the nodes of the pieces, with the number of the pieces and of their characters,
+/// and the kept place, from which walks start: the piece before the seam `kept`, or the trailer.
 pub(crate) struct PieceList {
     pub(crate) chain: Chain,
     pub(crate) trailer: Spot,
     pub(crate) count: usize,
     pub(crate) len: u32,
+    pub(crate) kept: Seam,
     ghost sound: { IsPieceList chain.nodes trailer.ptr count len },
+    ghost keeps: { IsSeam chain.nodes kept },
 }
 
 impl PieceList {
@@ -36,6 +41,11 @@ impl PieceList {
             trailer,
             count: 0,
             len: 0,
+            kept: Seam {
+                at: trailer,
+                index: 0,
+                pos: 0,
+            },
         }
     }
 
@@ -43,6 +53,7 @@ impl PieceList {
     pub(crate) fn start(&self) -> Seam
         ensures seam { IsSeam self.now.chain.nodes result }
         ensures first { result.pos ≡ 0 }
+        ensures index { result.index ≡ 0 }
     {
         Seam {
             at: self.trailer,
@@ -80,8 +91,23 @@ impl PieceList {
         }
     }
 
-    /// The piece that has the character at `pos`, which is behind `from`.
-    pub(crate) fn find(&self, from: Seam, pos: u32) -> Found
+    /// The seam before the piece that stands before `seam`.
+    fn step_back(&self, seam: Seam) -> Seam
+        requires seam { IsSeam self.now.chain.nodes seam }
+        requires more { 0 < seam.pos }
+        ensures before { IsSeam self.now.chain.nodes result }
+        ensures next { seam.index ≡ result.index + 1 }
+    {
+        let piece = self.chain.piece(seam.at, seam.index);
+        Seam {
+            at: self.chain.prev(seam.at, seam.index),
+            index: seam.index - 1,
+            pos: seam.pos - piece.len,
+        }
+    }
+
+    /// The piece that has the character at `pos`, which is behind `from`, by a walk towards the end.
+    fn find_ahead(&self, from: Seam, pos: u32) -> Found
         requires from { IsSeam self.now.chain.nodes from }
         requires order { from.pos ≤ pos }
         requires within { pos < self.now.len }
@@ -93,24 +119,99 @@ impl PieceList {
             before = behind;
             behind = self.step(before);
         }
-        Found { before, behind }
+        Found {
+            before,
+            behind,
+            links: behind.index - from.index,
+        }
     }
 
-    /// The seam at `pos`, which is behind `from`, or the piece that has it inside.
-    fn place(&self, from: Seam, pos: u32) -> Place
+    /// The piece that has the character at `pos`, which is before `from`, by a walk towards the
+    /// beginning. The piece before `from` is the first link of the walk.
+    fn find_back(&self, from: Seam, pos: u32) -> Found
         requires from { IsSeam self.now.chain.nodes from }
-        requires order { from.pos ≤ pos }
-        requires within { pos ≤ self.now.len }
+        requires order { pos < from.pos }
+        ensures { IsFound self.now.chain.nodes pos result }
+    {
+        let mut behind = from;
+        let mut before = self.step_back(behind);
+        while pos < before.pos {
+            behind = before;
+            before = self.step_back(behind);
+        }
+        Found {
+            before,
+            behind,
+            links: from.index - behind.index + 1,
+        }
+    }
+
+    /// The piece that has the character at `pos`, by a walk from the kept place, or from the
+    /// beginning or the end where that is nearer.
+    pub(crate) fn find(&self, pos: u32) -> Found
+        requires { pos < self.now.len }
+        ensures found { IsFound self.now.chain.nodes pos result }
+        ensures near { IsKeptAt (kept_pieces self.now.chain.nodes self.now.kept) pos
+            → result.links ≡ 0 }
+    {
+        let kept = self.kept;
+        if kept.pos <= pos {
+            return if self.len - pos < pos - kept.pos {
+                self.find_back(self.end(), pos)
+            } else {
+                self.find_ahead(kept, pos)
+            };
+        }
+        let before = self.step_back(kept);
+        if before.pos <= pos {
+            return Found {
+                before,
+                behind: kept,
+                links: 0,
+            };
+        }
+        if pos < before.pos - pos {
+            self.find_ahead(self.start(), pos)
+        } else {
+            self.find_back(before, pos)
+        }
+    }
+
+    /// The seam at `pos`, or the piece that has it inside.
+    fn place(&self, pos: u32) -> Place
+        requires { pos ≤ self.now.len }
         ensures { IsPlace self.now.chain.nodes pos result }
     {
         if pos == self.len {
             return Place::Between(self.end());
         }
-        let found = self.find(from, pos);
+        let found = self.find(pos);
         if found.before.pos == pos {
             return Place::Between(found.before);
         }
         Place::Inside(found)
+    }
+
+    /// The place of the piece that has the character at `pos`, or of the trailer at the end.
+    fn place_to_keep(&self, pos: u32) -> Seam
+        requires { pos ≤ self.now.len }
+        ensures seam { IsSeam self.now.chain.nodes result }
+        ensures kept { IsKeptAt (kept_pieces self.now.chain.nodes result) pos }
+    {
+        if pos == self.len {
+            return self.start();
+        }
+        self.find(pos).behind
+    }
+
+    /// Keeps the place of the piece that has the character at `pos`, or of the trailer at the end.
+    pub(crate) fn locate(&mut self, pos: u32)
+        requires { pos ≤ self.old.len }
+        ensures same { self.new.chain.nodes ≡ self.old.chain.nodes }
+        ensures long { self.new.len ≡ self.old.len }
+        ensures kept { IsKeptAt (kept_pieces self.new.chain.nodes self.new.kept) pos }
+    {
+        self.kept = self.place_to_keep(pos);
     }
 
     /// Cuts a piece in two at `pos`, inside it. The spare node takes the second part.
@@ -148,7 +249,8 @@ impl PieceList {
         );
         self.chain.join(at, index, node, second);
         self.count += 1;
-        Seam { at, index, pos }
+        self.kept = Seam { at, index, pos };
+        self.kept
     }
 
     /// The seam at `pos`. Where it takes a node to cut a piece there, the node is taken before
@@ -161,7 +263,7 @@ impl PieceList {
         ensures at { IfOk result (λ s. s.pos ≡ pos) }
         ensures refused { OnErr result (self.new.chain.nodes ≡ self.old.chain.nodes) }
     {
-        match self.place(self.start(), pos) {
+        match self.place(pos) {
             Place::Between(seam) => Ok(seam),
             Place::Inside(found) => {
                 let spare = Spare::new(alloc)?;
@@ -170,11 +272,9 @@ impl PieceList {
         }
     }
 
-    /// The seam at `pos`, which is behind `from`, with the spare node to cut a piece there.
-    fn seam_with(&mut self, from: Seam, pos: u32, spare: Spare) -> Seam
-        requires from { IsSeam self.old.chain.nodes from }
-        requires order { from.pos ≤ pos }
-        requires within { pos ≤ self.old.len }
+    /// The seam at `pos`, with the spare node to cut a piece there.
+    fn seam_with(&mut self, pos: u32, spare: Spare) -> Seam
+        requires { pos ≤ self.old.len }
         ensures same { text_of self.new.chain.nodes ≡ text_of self.old.chain.nodes }
         ensures long { self.new.len ≡ self.old.len }
         ensures seam { IsSeam self.new.chain.nodes result }
@@ -182,7 +282,7 @@ impl PieceList {
         ensures kept { (s : ASeam) → s.pos ≤ pos → IsSeam self.old.chain.nodes s
             → IsSeam self.new.chain.nodes s }
     {
-        match self.place(from, pos) {
+        match self.place(pos) {
             Place::Between(seam) => seam,
             Place::Inside(found) => self.divide(pos, found, spare),
         }
@@ -205,16 +305,19 @@ impl PieceList {
     {
         let spare = Spare::new(alloc)?;
         let from = self.seam_at(alloc, beg)?;
-        let upto = self.seam_with(from, end, spare);
+        self.kept = from;
+        let upto = self.seam_with(end, spare);
         Ok((from, upto))
     }
 
-    /// Puts pieces in at `seam`.
-    pub(crate) fn insert(&mut self, seam: Seam, other: Stretch)
+    /// Puts pieces in at `seam`, and gives the seam behind them.
+    pub(crate) fn insert(&mut self, seam: Seam, other: Stretch) -> Seam
         requires seam { IsSeam self.old.chain.nodes seam }
         requires fits { self.old.len + other.len < 2 ^ 32 }
         ensures text { text_of self.new.chain.nodes
             ≡ inserted seam.pos (flat (pieces other.chain.nodes)) (text_of self.old.chain.nodes) }
+        ensures behind { IsSeam self.new.chain.nodes result }
+        ensures at { result.pos ≡ seam.pos + other.len }
     {
         let Stretch {
             chain,
@@ -222,9 +325,16 @@ impl PieceList {
             count,
             len,
         } = other;
+        let last = chain.prev(first, 0);
         self.chain.join(seam.at, seam.index, chain, first);
         self.count += count;
         self.len += len;
+        self.kept = seam;
+        Seam {
+            at: last,
+            index: seam.index + count,
+            pos: seam.pos + len,
+        }
     }
 
     /// Takes the pieces between two seams out.
@@ -243,6 +353,7 @@ impl PieceList {
         let len = upto.pos - from.pos;
         self.count -= count;
         self.len -= len;
+        self.kept = from;
         Stretch {
             chain,
             first,
@@ -256,10 +367,87 @@ impl PieceList {
         requires from { IsSeam self.old.chain.nodes from }
         requires upto { IsSeam self.old.chain.nodes upto }
         requires order { from.pos < upto.pos }
-        ensures { text_of self.new.chain.nodes
+        ensures text { text_of self.new.chain.nodes
             ≡ looks_changed from.pos upto.pos sel look (text_of self.old.chain.nodes) }
+        ensures kept { IsSeam self.new.chain.nodes upto }
     {
         relook_nodes(&mut self.chain, from.at, from.index, upto.index, sel, look);
+        self.kept = from;
+    }
+
+    /// Makes one piece of the two that meet at `seam`, where `second` continues `first`, and frees
+    /// the node at `next`, which holds the second.
+    fn unite(&mut self, alloc: &Global, seam: Seam, next: Spot, first: Piece, second: Piece)
+        requires seam { IsSeam self.old.chain.nodes seam }
+        requires started { 0 < seam.index }
+        requires next { slice_get (places self.old.chain.nodes) (seam.index + 1) ≡ Some next.ptr }
+        requires first { slice_get (pieces self.old.chain.nodes) seam.index ≡ Some first }
+        requires second { slice_get (pieces self.old.chain.nodes) (seam.index + 1) ≡ Some second }
+        requires continued { Continues first second }
+        ensures same { text_of self.new.chain.nodes ≡ text_of self.old.chain.nodes }
+        ensures long { self.new.len ≡ self.old.len }
+        ensures merged { IsMergedAt (pieces_of self.new.chain.nodes) seam.pos }
+        ensures elsewhere { (pos : ℕ) → seam.pos < pos → IsMergedAt (pieces_of self.old.chain.nodes) pos
+            → IsMergedAt (pieces_of self.new.chain.nodes) pos }
+    {
+        let Seam { at, index, pos } = seam;
+        let len = first.len + second.len;
+        self.chain.set_piece(at, index, Piece { len, ..first });
+        self.chain.split(at, index, next, index + 1).free(alloc, next);
+        self.count -= 1;
+        self.kept = Seam {
+            at,
+            index,
+            pos: pos + second.len,
+        };
+    }
+
+    /// Makes one piece of the two that meet at `seam`, if the second continues the first in the
+    /// file and has its look. It takes no memory.
+    pub(crate) fn merge(&mut self, alloc: &Global, seam: Seam)
+        requires { IsSeam self.old.chain.nodes seam }
+        ensures same { text_of self.new.chain.nodes ≡ text_of self.old.chain.nodes }
+        ensures long { self.new.len ≡ self.old.len }
+        ensures merged { IsMergedAt (pieces_of self.new.chain.nodes) seam.pos }
+        ensures elsewhere { (pos : ℕ) → seam.pos < pos → IsMergedAt (pieces_of self.old.chain.nodes) pos
+            → IsMergedAt (pieces_of self.new.chain.nodes) pos }
+    {
+        if seam.index == 0 || seam.index == self.count {
+            return;
+        }
+        let next = self.chain.next(seam.at, seam.index);
+        let first = self.chain.piece(seam.at, seam.index);
+        let second = self.chain.piece(next, seam.index + 1);
+        if first.is_continued_by(second) {
+            self.unite(alloc, seam, next, first, second);
+        }
+    }
+
+    /// Merges the neighbours that meet at `pos`, if pieces do.
+    fn merge_at(&mut self, alloc: &Global, pos: u32)
+        requires { pos ≤ self.old.len }
+        ensures same { text_of self.new.chain.nodes ≡ text_of self.old.chain.nodes }
+        ensures long { self.new.len ≡ self.old.len }
+        ensures merged { IsMergedAt (pieces_of self.new.chain.nodes) pos }
+        ensures elsewhere { (at : ℕ) → pos < at → IsMergedAt (pieces_of self.old.chain.nodes) at
+            → IsMergedAt (pieces_of self.new.chain.nodes) at }
+    {
+        match self.place(pos) {
+            Place::Between(seam) => self.merge(alloc, seam),
+            Place::Inside(_) => {}
+        }
+    }
+
+    /// Merges the neighbours that meet at `pos`, and keeps the place of the piece that has it.
+    pub(crate) fn settle(&mut self, alloc: &Global, pos: u32)
+        requires { pos ≤ self.old.len }
+        ensures same { text_of self.new.chain.nodes ≡ text_of self.old.chain.nodes }
+        ensures settled { IsSettledAt (kept_pieces self.new.chain.nodes self.new.kept) pos }
+        ensures elsewhere { (at : ℕ) → pos < at → IsMergedAt (pieces_of self.old.chain.nodes) at
+            → IsMergedAt (pieces_of self.new.chain.nodes) at }
+    {
+        self.merge_at(alloc, pos);
+        self.locate(pos);
     }
 
     /// The pieces, of which there is at least one. The trailer is freed.
@@ -283,6 +471,7 @@ impl PieceList {
             trailer,
             count,
             len: _,
+            kept: _,
         } = self;
         let mut freed = 0;
         for _ in 0..count {

@@ -1,6 +1,9 @@
 //! Looks, and stretches of the file in one look. Plain data.
 ghost use Rattle.std.specs.Prelude.{◌≡◌, ◌<◌};
+ghost use Rattle.std.specs.Bool.{Decides};
+ghost use Rattle.piece_ring.specs.Flat.{IsWhole};
 ghost use Rattle.piece_ring.specs.Look.{default_look, has_bit, relooked as relooked_look};
+ghost use Rattle.piece_ring.specs.Merging.{Continues};
 
 /// How a character looks.
 #[derive(Clone, Copy, PartialEq, Eq, Debug)]
@@ -63,5 +66,15 @@ impl Look {
             },
             voff: if has_bit(sel, 2) { new.voff } else { self.voff },
         }
+    }
+}
+
+impl Piece {
+    /// Whether `next` begins in the file where this piece ends, and has its look.
+    pub(crate) fn is_continued_by(self, next: Piece) -> bool
+        requires { IsWhole self }
+        ensures { Decides result (Continues self next) }
+    {
+        self.off + self.len == next.off && self.look == next.look
     }
 }

@@ -13,14 +13,17 @@ pub(crate) struct Seam {
     pub(crate) pos: u32,
 }
 
-/// A piece, by the seams on its two sides. `behind.at` is its node.
+/// A piece, by the seams on its two sides, as a walk found it. `behind.at` is its node.
 #[derive(Clone, Copy)]
 pub(crate) struct Found {
     pub(crate) before: Seam,
     pub(crate) behind: Seam,
+    /// The number of links that the walk followed, from node to node.
+    pub(crate) links: usize,
 }
 
 /// Where a position is.
+#[derive(Clone, Copy)]
 pub(crate) enum Place {
     Between(Seam),
     Inside(Found),

@@ -6,6 +6,8 @@
 ghost use Rattle.std.specs.Prelude.{◌≡◌, ◌+◌, ◌^◌, ◌<◌, ◌≤◌, ◌++◌, [], length, drop, IfOk, IfErr, OnOk, OnErr};
 ghost use Rattle.piece_ring.specs.Cut.{IsCutAt};
 ghost use Rattle.piece_ring.specs.Flat.{flat, characters_of, IsWhole};
+ghost use Rattle.piece_ring.specs.Kept.{IsKeptAt, IsSettledAt};
+ghost use Rattle.piece_ring.specs.Merging.{IsMergedAt};
 ghost use Rattle.piece_ring.specs.Text.{stretch, inserted, deleted, looks_changed};
 
 use crate::cursor::Cursor;
@@ -23,19 +25,18 @@ pub struct Ring {
 }
 
 impl Model for Ring {
-    ghost use Rattle.std.specs.Prelude.{List};
-    ghost use Rattle.piece_ring.specs.declared.piece.Piece.{Piece as APiece};
-    ghost use Rattle.piece_ring.specs.Place.{pieces_of};
+    ghost use Rattle.piece_ring.specs.Kept.{kept_pieces};
+    ghost use Rattle.piece_ring.specs.KeptPieces.{KeptPieces};
 
-    ghost Value = { List APiece };
+    ghost Value = { KeptPieces };
 
-    ghost view = { λ r. pieces_of r.list.chain.nodes };
+    ghost view = { λ r. kept_pieces r.list.chain.nodes r.list.kept };
 }
 
 impl Ring {
     /// An empty ring. It takes memory for its trailer.
     pub fn new(alloc: Global) -> Result<Ring, NoMemory>
-        ensures { IfOk result (λ r. flat r ≡ []) }
+        ensures { IfOk result (λ r. flat r.pieces ≡ []) }
     {
         let list = PieceList::new(Spare::new(alloc)?);
         Ok(Ring { list, alloc })
@@ -43,19 +44,38 @@ impl Ring {
 
     /// The number of characters.
     pub fn len(&self) -> u32
-        ensures { result ≡ length (flat self.now) }
+        ensures { result ≡ length (flat self.now.pieces) }
     {
         self.list.len
+    }
+
+    /// The number of pieces.
+    pub fn pieces(&self) -> u32
+        ensures { result ≡ length self.now.pieces }
+    {
+        self.list.count as u32
+    }
+
+    /// Keeps the place of the piece that has the character at `pos`, or of the trailer at the end.
+    /// Walks to a place start there, or at the beginning or the end where that is nearer.
+    pub fn locate(&mut self, pos: u32)
+        requires { pos ≤ length (flat self.old.pieces) }
+        ensures same { self.new.pieces ≡ self.old.pieces }
+        ensures kept { IsKeptAt self.new pos }
+    {
+        self.list.locate(pos);
     }
 
     /// Cuts the piece that has `pos` inside, so that a piece begins there. The text stays, also if
     /// memory was refused.
     pub fn split_at(&mut self, alloc: Global, pos: u32) -> Result<(), NoMemory>
-        requires { pos ≤ length (flat self.old) }
-        ensures same { flat self.new ≡ flat self.old }
-        ensures cut { OnOk result (IsCutAt self.new pos) }
+        requires { pos ≤ length (flat self.old.pieces) }
+        ensures same { flat self.new.pieces ≡ flat self.old.pieces }
+        ensures kept { OnOk result (IsKeptAt self.new pos) }
+        ensures cut { OnOk result (IsCutAt self.new.pieces pos) }
     {
         self.list.seam_at(alloc, pos)?;
+        self.list.locate(pos);
         Ok(())
     }
 
@@ -63,10 +83,11 @@ impl Ring {
     /// is copied. If memory is refused the text stays.
     pub fn cut(&mut self, alloc: Global, beg: u32, end: u32) -> Result<Ring, NoMemory>
         requires order { beg ≤ end }
-        requires within { end ≤ length (flat self.old) }
-        ensures taken { IfOk result (λ r. flat r ≡ stretch beg end (flat self.old)) }
-        ensures rest { OnOk result (flat self.new ≡ deleted beg end (flat self.old)) }
-        ensures refused { OnErr result (flat self.new ≡ flat self.old) }
+        requires within { end ≤ length (flat self.old.pieces) }
+        ensures taken { IfOk result (λ r. flat r.pieces ≡ stretch beg end (flat self.old.pieces)) }
+        ensures rest { OnOk result (flat self.new.pieces ≡ deleted beg end (flat self.old.pieces)) }
+        ensures settled { OnOk result (IsSettledAt self.new beg) }
+        ensures refused { OnErr result (flat self.new.pieces ≡ flat self.old.pieces) }
     {
         let mut taken = Ring::new(alloc)?;
         if beg < end {
@@ -75,19 +96,24 @@ impl Ring {
             let start = taken.list.start();
             taken.list.insert(start, pieces);
         }
+        self.list.settle(&alloc, beg);
         Ok(taken)
     }
 
     /// Puts the characters of `other` in at `pos`. Its pieces move, and no character is copied.
     /// If memory is refused both texts stay, and `other` comes back. An empty `other` needs none.
     pub fn splice(&mut self, alloc: Global, pos: u32, other: Ring) -> Result<(), (NoMemory, Ring)>
-        requires within { pos ≤ length (flat self.old) }
-        requires fits { length (flat self.old) + length (flat other) < 2 ^ 32 }
-        ensures text { OnOk result (flat self.new ≡ inserted pos (flat other) (flat self.old)) }
-        ensures refused { OnErr result (flat self.new ≡ flat self.old) }
-        ensures returned { IfErr result (λ e. flat e.1 ≡ flat other) }
+        requires within { pos ≤ length (flat self.old.pieces) }
+        requires fits { length (flat self.old.pieces) + length (flat other.pieces) < 2 ^ 32 }
+        ensures text { OnOk result (flat self.new.pieces
+            ≡ inserted pos (flat other.pieces) (flat self.old.pieces)) }
+        ensures settled { OnOk result (IsSettledAt self.new pos) }
+        ensures merged { OnOk result (IsMergedAt self.new.pieces (pos + length (flat other.pieces))) }
+        ensures refused { OnErr result (flat self.new.pieces ≡ flat self.old.pieces) }
+        ensures returned { IfErr result (λ e. flat e.1.pieces ≡ flat other.pieces) }
     {
         if other.list.len == 0 {
+            self.list.settle(&alloc, pos);
             return Ok(());
         }
         let seam = match self.list.seam_at(alloc, pos) {
@@ -96,15 +122,17 @@ impl Ring {
         };
         let Ring { list, alloc: own } = other;
         let pieces = list.into_stretch(&own);
-        self.list.insert(seam, pieces);
+        let behind = self.list.insert(seam, pieces);
+        self.list.merge(&alloc, behind);
+        self.list.settle(&alloc, pos);
         Ok(())
     }
 
     /// A ring with the characters from `beg` up to before `end`, in their looks.
     pub fn copy(&self, alloc: Global, beg: u32, end: u32) -> Result<Ring, NoMemory>
         requires order { beg ≤ end }
-        requires within { end ≤ length (flat self.now) }
-        ensures { IfOk result (λ r. flat r ≡ stretch beg end (flat self.now)) }
+        requires within { end ≤ length (flat self.now.pieces) }
+        ensures { IfOk result (λ r. flat r.pieces ≡ stretch beg end (flat self.now.pieces)) }
     {
         let mut copy = Ring::new(alloc)?;
         let mut cursor = self.cursor(beg);
@@ -120,19 +148,22 @@ impl Ring {
     /// Puts a piece at the end. If memory is refused the text stays.
     pub fn add(&mut self, alloc: Global, piece: Piece) -> Result<(), NoMemory>
         requires whole { IsWhole piece }
-        requires fits { length (flat self.old) + piece.len < 2 ^ 32 }
-        ensures text { OnOk result (flat self.new ≡ flat self.old ++ characters_of piece) }
-        ensures refused { OnErr result (flat self.new ≡ flat self.old) }
+        requires fits { length (flat self.old.pieces) + piece.len < 2 ^ 32 }
+        ensures text { OnOk result (flat self.new.pieces
+            ≡ flat self.old.pieces ++ characters_of piece) }
+        ensures settled { OnOk result (IsSettledAt self.new (length (flat self.old.pieces))) }
+        ensures refused { OnErr result (flat self.new.pieces ≡ flat self.old.pieces) }
     {
         let one = Stretch::of_piece(&alloc, piece)?;
         let end = self.list.end();
         self.list.insert(end, one);
+        self.list.settle(&alloc, end.pos);
         Ok(())
     }
 
     /// Takes all characters out, and frees their nodes. It takes no memory.
     pub fn clear(&mut self)
-        ensures { flat self.new ≡ [] }
+        ensures { flat self.new.pieces ≡ [] }
     {
         if self.list.len > 0 {
             let start = self.list.start();
@@ -153,21 +184,31 @@ impl Ring {
         look: Look,
     ) -> Result<(), NoMemory>
         requires order { beg ≤ end }
-        requires within { end ≤ length (flat self.old) }
-        ensures text { OnOk result (flat self.new ≡ looks_changed beg end sel look (flat self.old)) }
-        ensures refused { OnErr result (flat self.new ≡ flat self.old) }
+        requires within { end ≤ length (flat self.old.pieces) }
+        ensures text { OnOk result (flat self.new.pieces
+            ≡ looks_changed beg end sel look (flat self.old.pieces)) }
+        ensures settled { OnOk result (IsSettledAt self.new beg) }
+        ensures merged { OnOk result (IsMergedAt self.new.pieces end) }
+        ensures refused { OnErr result (flat self.new.pieces ≡ flat self.old.pieces) }
     {
-        if beg < end {
-            let (from, upto) = self.list.seams(alloc, beg, end)?;
-            self.list.relook(from, upto, sel, look);
+        if beg == end {
+            self.list.settle(&alloc, beg);
+            return Ok(());
         }
+        let (from, upto) = self.list.seams(alloc, beg, end)?;
+        self.list.relook(from, upto, sel, look);
+        self.list.merge(&alloc, upto);
+        self.list.settle(&alloc, beg);
         Ok(())
     }
 
-    /// A cursor before the character at `pos`, or at the end.
+    /// A cursor before the character at `pos`, or at the end. It follows no link if the kept place
+    /// is there, and never more than there are pieces.
     pub fn cursor(&self, pos: u32) -> Cursor<'_>
-        requires { pos ≤ length (flat self.now) }
-        ensures { flat result ≡ drop pos (flat self.now) }
+        requires { pos ≤ length (flat self.now.pieces) }
+        ensures text { flat result.left ≡ drop pos (flat self.now.pieces) }
+        ensures few { result.walked ≤ length self.now.pieces }
+        ensures near { IsKeptAt self.now pos → result.walked ≡ 0 }
     {
         if pos == self.list.len {
             return Cursor {
@@ -176,21 +217,23 @@ impl Ring {
                 index: self.list.count + 1,
                 within: 0,
                 links: 0,
+                walked: 0,
             };
         }
-        let found = self.list.find(self.list.start(), pos);
+        let found = self.list.find(pos);
         Cursor {
             list: &self.list,
             at: found.behind.at,
             index: found.behind.index,
             within: pos - found.before.pos,
             links: 0,
+            walked: found.links as u32,
         }
     }
 
     /// Frees all nodes, and says how many there were: one for each piece, and the trailer.
     pub(crate) fn destroy(self) -> usize
-        ensures { result ≡ length self + 1 }
+        ensures { result ≡ length self.pieces + 1 }
     {
         let Ring { list, alloc } = self;
         list.destroy(&alloc)

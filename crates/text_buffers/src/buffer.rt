@@ -1,9 +1,9 @@
 //! The buffer.
-ghost use Rattle.std.specs.Prelude.{◌≡◌, ◌+◌, ◌^◌, ◌<◌, ◌++◌, [], length, IfOk, OnOk, OnErr};
+ghost use Rattle.std.specs.Prelude.{◌≡◌, ◌+◌, ◌^◌, ◌<◌, ◌≤◌, ◌++◌, [], length, drop, IfOk, OnOk, OnErr};
 ghost use Rattle.piece_ring.specs.Flat.{flat, characters_of, IsWhole};
 
 use crate::{NoMemory, Piece};
-use piece_ring::Ring;
+use piece_ring::{Cursor, Ring};
 use std::alloc::Global;
 use std::marker::Model;
 use std::mem::replace;
@@ -20,7 +20,7 @@ impl Model for Buffer {
 
     ghost Value = { List APiece };
 
-    ghost view = { λ b. b.ring };
+    ghost view = { λ b. b.ring.pieces };
 }
 
 impl Buffer {
@@ -38,6 +38,22 @@ impl Buffer {
         ensures { result ≡ length (flat self.now) }
     {
         self.ring.len()
+    }
+
+    /// The number of pieces.
+    pub fn pieces(&self) -> u32
+        ensures { result ≡ length self.now }
+    {
+        self.ring.pieces()
+    }
+
+    /// A cursor before the character at `pos`, or at the end.
+    pub fn cursor(&self, pos: u32) -> Cursor<'_>
+        requires { pos ≤ length (flat self.now) }
+        ensures text { flat result.left ≡ drop pos (flat self.now) }
+        ensures few { result.walked ≤ length self.now }
+    {
+        self.ring.cursor(pos)
     }
 
     /// Adds its characters to another buffer, at the end, and keeps them. If memory is refused the
@@ -71,7 +87,7 @@ impl Buffer {
     /// For layers that own rings: hands all characters out as a ring, and leaves none. If memory is
     /// refused the buffer stays.
     pub fn take(&mut self, alloc: Global) -> Result<Ring, NoMemory>
-        ensures taken { IfOk result (λ r. flat r ≡ flat self.old) }
+        ensures taken { IfOk result (λ r. flat r.pieces ≡ flat self.old) }
         ensures left { OnOk result (flat self.new ≡ []) }
         ensures refused { OnErr result (flat self.new ≡ flat self.old) }
     {
@@ -82,7 +98,7 @@ impl Buffer {
     /// For layers that own rings: has exactly the ring's characters from now on, whatever it had
     /// before. It takes no memory.
     pub fn replace(&mut self, ring: Ring)
-        ensures { flat self.new ≡ flat ring }
+        ensures { flat self.new ≡ flat ring.pieces }
     {
         self.ring = ring;
     }
@@ -90,8 +106,8 @@ impl Buffer {
     /// For layers that own rings: adds the ring's characters at the end. If memory is refused the
     /// buffer stays, and the ring is gone.
     pub fn append(&mut self, alloc: Global, ring: Ring) -> Result<(), NoMemory>
-        requires fits { length (flat self.old) + length (flat ring) < 2 ^ 32 }
-        ensures added { OnOk result (flat self.new ≡ flat self.old ++ flat ring) }
+        requires fits { length (flat self.old) + length (flat ring.pieces) < 2 ^ 32 }
+        ensures added { OnOk result (flat self.new ≡ flat self.old ++ flat ring.pieces) }
         ensures refused { OnErr result (flat self.new ≡ flat self.old) }
     {
         let end = self.ring.len();

@@ -22,7 +22,7 @@ impl Model for Text {
 
     ghost Value = { List APiece };
 
-    ghost view = { λ t. t.ring };
+    ghost view = { λ t. t.ring.pieces };
 }
 
 impl Text {
@@ -60,6 +60,13 @@ impl Text {
         ensures { result ≡ length (flat self.now) }
     {
         self.ring.len()
+    }
+
+    /// The number of pieces.
+    pub fn pieces(&self) -> u32
+        ensures { result ≡ length self.now }
+    {
+        self.ring.pieces()
     }
 
     /// Puts the buffer's characters in at `pos`, and leaves the buffer empty. If memory is refused
@@ -172,10 +179,21 @@ impl Text {
         }
     }
 
-    /// A cursor before the character at `pos`, or at the end.
+    /// Keeps the place of the piece that has the character at `pos`, or of the end: walks to a place
+    /// start there, or at the beginning or the end where that is nearer. The text stays.
+    pub fn locate(&mut self, pos: u32)
+        requires { pos ≤ length (flat self.old) }
+        ensures { self.new ≡ self.old }
+    {
+        self.ring.locate(pos);
+    }
+
+    /// A cursor before the character at `pos`, or at the end. It is reached along no more links than
+    /// there are pieces.
     pub fn cursor(&self, pos: u32) -> Cursor<'_>
         requires { pos ≤ length (flat self.now) }
-        ensures { flat result ≡ drop pos (flat self.now) }
+        ensures text { flat result.left ≡ drop pos (flat self.now) }
+        ensures few { result.walked ≤ length self.now }
     {
         self.ring.cursor(pos)
     }

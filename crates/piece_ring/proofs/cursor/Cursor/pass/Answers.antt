@@ -1,8 +1,9 @@
-use Rattle.std.proofs.Common.{◌+◌, arith}
+use Rattle.std.proofs.Common.{◌+◌, ap, arith}
 use Rattle.std.proofs.lemmas.List.{length-map}
 use Rattle.std.proofs.lemmas.Option.{slice_get_within}
 use denote.RawPtr.{Ptr}
 use Rattle.piece_ring.specs.declared.piece.Piece.{Piece}
+use Rattle.piece_ring.specs.KeptPieces.{Walk}
 use Rattle.piece_ring.specs.Nodes.{pieces}
 use Rattle.piece_ring.proofs.Seams.{few_pieces}
 use Rattle.piece_ring.proofs.Walking.{whole_node, some_left, passed_within, passed_whole}
@@ -29,9 +30,9 @@ invariant_of-self-else-n-len c =
 pub returns-then-n-len : goal.returns-then-n-len
 returns-then-n-len c =
     let s = c.self.inside in let ps = pieces s.list.now.chain.nodes in let p = c.piece-len.result in
-    passed_within ps s.index s.within p c.piece-len.ensures c.args.self.now c.self.view_is c.args.n (some_left ps s.index s.within p c.piece-len.ensures c.args.self.now c.self.view_is c.args.n c.requires.within)
+    record { walked = ap (λ (w : Walk). w.walked) c.self.view_is; text = passed_within ps s.index s.within p c.piece-len.ensures c.args.self.now.left (ap (λ (w : Walk). w.left) c.self.view_is) c.args.n (some_left ps s.index s.within p c.piece-len.ensures c.args.self.now.left (ap (λ (w : Walk). w.left) c.self.view_is) c.args.n c.requires.within) }
 
 pub returns-else-n-len : goal.returns-else-n-len
 returns-else-n-len c =
     let s = c.self.inside in let ps = pieces s.list.now.chain.nodes in let p = c.piece-len.result in
-    passed_whole ps s.index s.within p c.piece-len.ensures c.args.self.now c.self.view_is c.args.n (some_left ps s.index s.within p c.piece-len.ensures c.args.self.now c.self.view_is c.args.n c.requires.within) c.if-n-len.false
+    record { walked = ap (λ (w : Walk). w.walked) c.self.view_is; text = passed_whole ps s.index s.within p c.piece-len.ensures c.args.self.now.left (ap (λ (w : Walk). w.left) c.self.view_is) c.args.n (some_left ps s.index s.within p c.piece-len.ensures c.args.self.now.left (ap (λ (w : Walk). w.left) c.self.view_is) c.args.n c.requires.within) c.if-n-len.false }

@@ -32,7 +32,10 @@ overflow_add-self c =
     let l = c.args.self.now in let few = few_pieces l.chain.nodes l.trailer.ptr l.count l.len l.sound in let small = l.sound.small in record { fits = omega arith }
 
 pub invariant_of-self : goal.invariant_of-self
-invariant_of-self c = record { sound = divided-list _ _ _ _ _ _ _ _ _ _ _ (divided_by _ _ _ _ _ _ _ _ _ _ _ c.args.self.now.sound c.requires.found c.requires.inside c.piece-off.ensures c.into_node-node.ensures.only c.set_piece.ensures c.set_piece-2.ensures c.join.ensures) }
+invariant_of-self c = record {
+  sound = divided-list _ _ _ _ _ _ _ _ _ _ _ (divided_by _ _ _ _ _ _ _ _ _ _ _ c.args.self.now.sound c.requires.found c.requires.inside c.piece-off.ensures c.into_node-node.ensures.only c.set_piece.ensures c.set_piece-2.ensures c.join.ensures);
+  keeps = divided-seam _ _ _ _ _ _ _ _ _ _ _ (divided_by _ _ _ _ _ _ _ _ _ _ _ c.args.self.now.sound c.requires.found c.requires.inside c.piece-off.ensures c.into_node-node.ensures.only c.set_piece.ensures c.set_piece-2.ensures c.join.ensures) _ refl refl refl;
+}
 
 pub returns-clause-same : goal.returns-clause-same
 returns-clause-same c = divided-text _ _ _ _ _ _ _ _ _ _ _ (divided_by _ _ _ _ _ _ _ _ _ _ _ c.args.self.now.sound c.requires.found c.requires.inside c.piece-off.ensures c.into_node-node.ensures.only c.set_piece.ensures c.set_piece-2.ensures c.join.ensures)

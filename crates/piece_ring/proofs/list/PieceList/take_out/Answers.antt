@@ -1,5 +1,6 @@
 use Rattle.std.proofs.Common.{arith}
 use Rattle.piece_ring.proofs.Seams.{seam_within}
+use Rattle.piece_ring.proofs.Keeping.{kept-taken}
 use Rattle.piece_ring.proofs.Moving.{seam_inside, seam-order, rest-text, rest-list, taken-text, taken-pieces}
 use Rattle.piece_ring.proofs.list.PieceList.take_out.Goals as goal
 
@@ -18,7 +19,7 @@ overflow_sub-self-2 c =
     let l = c.args.self.now in let measured = l.sound.measured in let w = seam_within l.chain.nodes c.args.upto c.requires.upto in omega arith
 
 pub invariant_of-self : goal.invariant_of-self
-invariant_of-self c = record { sound = rest-list c.args.self.now.chain.nodes c.args.self.now.trailer.ptr c.args.self.now.count c.args.self.now.len c.args.self.now.sound c.args.from c.args.upto c.requires.from c.requires.upto c.requires.order _ c.split-chain.ensures.rest }
+invariant_of-self c = record { sound = rest-list c.args.self.now.chain.nodes c.args.self.now.trailer.ptr c.args.self.now.count c.args.self.now.len c.args.self.now.sound c.args.from c.args.upto c.requires.from c.requires.upto c.requires.order _ c.split-chain.ensures.rest; keeps = kept-taken c.args.self.now.chain.nodes c.args.from c.requires.from c.args.upto _ c.split-chain.ensures.rest }
 
 pub invariant_of-result : goal.invariant_of-result
 invariant_of-result c = record { sound = taken-pieces c.args.self.now.chain.nodes c.args.self.now.trailer.ptr c.args.self.now.count c.args.self.now.len c.args.self.now.sound c.args.from c.args.upto c.requires.from c.requires.upto c.requires.order _ c.split-chain.ensures.taken _ c.next-first.ensures.inner }
