@@ -35,7 +35,7 @@ impl<'a> Model for Reader<'a> {
         record { text = text; position = length text - r.left } };
 
     ghost invariant = { λ r. let text = flat r.text.now in
-        IsReading text (length text - r.left) r.left r.upcoming (flat r.cursor) };
+        IsReading text (length text - r.left) r.left r.upcoming (flat r.cursor.left) };
 }
 
 impl<'a> Reader<'a> {
