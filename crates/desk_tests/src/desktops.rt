@@ -1,5 +1,4 @@
 //! Desktops: files by name, their list, and the limits on files and on characters.
-ghost use Rattle.event_loop_laws.specs.Sound.{IsOver};
 
 use char_file::{CharFile, CharSource};
 use event_bytes::{Event, FileBytes, Name};
@@ -7,14 +6,25 @@ use event_loop::{Desktop, Entry, Reply, codes};
 use piece_ring::{DEFAULT_LOOK, Look};
 use readers_scanners::Reader;
 use std::alloc::Global;
+use std::marker::Model;
 use std::test::Fail;
 
-/// A desktop over its characters.
+/// A desktop and its characters.
 #[derive(Drop)]
 struct Desk {
     desktop: Desktop,
     characters: CharFile,
-    ghost over: { IsOver characters desktop },
+}
+
+impl Model for Desk {
+    ghost use Rattle.event_loop_laws.specs.Desktop.{KeptDesktop};
+    ghost use Rattle.event_loop_laws.specs.Sound.{IsOver};
+
+    ghost Value = { KeptDesktop };
+
+    ghost view = { λ desk. desk.desktop };
+
+    ghost invariant = { λ desk. IsOver desk.characters desk.desktop };
 }
 
 /// The empty desktop.
@@ -88,12 +98,25 @@ fn put_again(desk: Desk, alloc: Global, times: usize) -> Result<Desk, Fail> {
 }
 
 /// How many characters a file has, and the first of them; None where there is no such file.
-fn first_of(desk: &mut Desk, file: &[u8]) -> Result<Option<(u32, Option<(u8, Look)>)>, Fail> {
-    let Some(text) = desk.desktop.file(&name(file)?) else {
+fn first_of(desk: Desk, file: &[u8]) -> Result<Option<(u32, Option<(u8, Look)>)>, Fail> {
+    let Desk {
+        desktop,
+        mut characters,
+    } = desk;
+    let Some(text) = desktop.file(&name(file)?) else {
         return Ok(None);
     };
-    let first = Reader::open(text, 0).read(&mut desk.characters)?;
+    let first = Reader::open(text, 0).read(&mut characters)?;
     Ok(Some((text.len(), first)))
+}
+
+/// The list of a desktop.
+fn listed(desk: Desk, alloc: Global) -> Result<Vec<Entry>, Fail> {
+    let Desk {
+        mut desktop,
+        mut characters,
+    } = desk;
+    Ok(desktop.list(alloc, &mut characters)?)
 }
 
 /// Whether a list has just these files, with their lengths, and this number of characters ever written.
@@ -119,7 +142,6 @@ fn has(entries: &[Entry], files: &[(&[u8], u32)], written: u32) -> bool {
 fn files_by_name(rt: HostRuntime) -> Result<(), Fail> {
     let alloc = rt.alloc();
     let files: [(&[u8], &[u8]); 3] = [(b"B", b"two"), (b"A.Text", b"Hello\r"), (b"B", b"")];
-    let mut desk = put_all(empty(alloc)?, alloc, &files)?;
     let hello = Some((6, Some((b'H', DEFAULT_LOOK))));
     let firsts: [(&[u8], Option<(u32, Option<(u8, Look)>)>); 3] = [
         (b"A.Text", hello),
@@ -127,21 +149,22 @@ fn files_by_name(rt: HostRuntime) -> Result<(), Fail> {
         (b"C", None),
     ];
     for (file, first) in firsts {
-        assert_eq!(rt; first_of(&mut desk, file)?, first);
+        let desk = put_all(empty(alloc)?, alloc, &files)?;
+        assert_eq!(rt; desk.desktop.written(), 9);
+        assert_eq!(rt; first_of(desk, file)?, first);
     }
-    assert_eq!(rt; desk.desktop.written(), 9);
     Ok(())
 }
 
 #[test]
 fn files_listed(rt: HostRuntime) -> Result<(), Fail> {
     let alloc = rt.alloc();
-    let mut desk = put_all(
+    let desk = put_all(
         empty(alloc)?,
         alloc,
         &[(b"B", b"two"), (b"A.Text", b"Hello\r")],
     )?;
-    let entries = desk.desktop.list(alloc, &mut desk.characters)?;
+    let entries = listed(desk, alloc)?;
     assert_eq!(rt; entries.len(), 3);
     assert!(rt; has(&entries, &[(b"A.Text", 6), (b"B", 3)], 9));
     Ok(())
