@@ -1,6 +1,6 @@
 -- What a call says of failures that doesn't read.
-use Rattle.std.proofs.Common.{◌≡◌, ℕ, ◌<◌, Result, Ok, Err, refl, rules}
-use Rattle.std.specs.Prelude.{◌⊎◌, IfErr, IsErrOf}
+use Rattle.std.proofs.Common.{◌≡◌, ℕ, Result, Ok, Err, rules}
+use Rattle.std.specs.Prelude.{IfErr, IsErrOf}
 use Rattle.sector_disk.specs.Faults.{FailsAs}
 use Rattle.event_loop.specs.declared.stop.Stop.{Stop}
 use Rattle.event_loop.specs.declared.stop.Stop.TheVariants as stops

@@ -1,4 +1,4 @@
-use Rattle.std.proofs.Common.{◌≡◌, ◌∙◌, sym, ap, subst, append-nil, List, [], ◌++◌, map}
+use Rattle.std.proofs.Common.{◌≡◌, ◌∙◌, sym, subst, append-nil, List, ◌++◌, map}
 use Rattle.piece_ring.specs.declared.piece.Piece.{Piece}
 use Rattle.event_loop_laws.specs.Tables.{Files}
 use Rattle.event_loop.proofs.ListLemmas.{kept_entry, entries_seen, entry_more}

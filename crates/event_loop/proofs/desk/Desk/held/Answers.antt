@@ -1,4 +1,4 @@
-use Rattle.std.proofs.Common.{◌+◌, arith, []}
+use Rattle.std.proofs.Common.{arith, []}
 use Rattle.event_loop_laws.specs.Desktop.{held}
 use Rattle.event_loop_laws.specs.Seen.{seen}
 use Rattle.event_loop.proofs.desk.Desk.held.Goals as goal
