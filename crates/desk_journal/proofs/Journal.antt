@@ -4,19 +4,20 @@ use Rattle.std.proofs.lemmas.Bool.{cases_lt}
 use Rattle.sector_disk.specs.Trail.{Content}
 use Rattle.event_bytes.specs.declared.event.Event.{Event}
 use Rattle.event_bytes.specs.Spelling.{Begins}
+use Rattle.desk_journal.specs.declared.layout.TheConstants.{JOURNAL_EVENTS}
 use Rattle.desk_journal.specs.Layout.{is_open, gate, body}
 use Rattle.desk_journal.specs.Meaning.{IsJournal}
 use Rattle.desk_journal.specs.Footprint.{IsLedTo}
 use Rattle.desk_journal.proofs.Bits.{clash}
 
--- at most 256 events
-pub journal_short : (events : List Event) (c : Content) (slot k : ℕ) → k ≤ 256 → IsJournal c slot k events → k + length events ≤ 256
+-- at most JOURNAL_EVENTS events
+pub journal_short : (events : List Event) (c : Content) (slot k : ℕ) → k ≤ JOURNAL_EVENTS → IsJournal c slot k events → k + length events ≤ JOURNAL_EVENTS
 journal_short [] c slot k low journal = omega arith
 journal_short (event ∷ events) c slot k low journal = (let rest = journal_short events c slot (k + 1) (omega (arith, journal.0)) journal.3 in omega (arith, rest))
 
 -- the closed gate behind the last event
-pub journal_end : (events : List Event) (c : Content) (slot k end : ℕ) → end ≡ k + length events → IsJournal c slot k events → end < 256 → is_open (c (gate slot end)) ≡ false
-journal_end [] c slot k end is journal room = let here : k ≡ end = omega arith in subst (λ j. j < 256 → is_open (c (gate slot j)) ≡ false) here journal room
+pub journal_end : (events : List Event) (c : Content) (slot k end : ℕ) → end ≡ k + length events → IsJournal c slot k events → end < JOURNAL_EVENTS → is_open (c (gate slot end)) ≡ false
+journal_end [] c slot k end is journal room = let here : k ≡ end = omega arith in subst (λ j. j < JOURNAL_EVENTS → is_open (c (gate slot j)) ≡ false) here journal room
 journal_end (event ∷ events) c slot k end is journal room = journal_end events c slot (k + 1) end (omega arith) journal.3 room
 
 -- the open gates of its events, and the bodies under them
@@ -38,7 +39,7 @@ journal_bodies (event ∷ events) c slot k i low high journal = elim (cases_lt k
 pub journal_led : (events : List Event) (c : Content) (slot k : ℕ) → k ≤ length events → IsJournal c slot 0 events → IsLedTo c slot k
 journal_led events c slot k high journal = λ j below. journal_open events c slot 0 j (omega arith) (omega (arith, below, high)) journal
 
-pub led_short : (events : List Event) (c : Content) (slot k : ℕ) → k ≤ 256 → IsJournal c slot 0 events → IsLedTo c slot k → k ≤ length events
+pub led_short : (events : List Event) (c : Content) (slot k : ℕ) → k ≤ JOURNAL_EVENTS → IsJournal c slot 0 events → IsLedTo c slot k → k ≤ length events
 led_short events c slot k high journal led = elim (cases_lt (length events) k) [
   | inl past ↦ absurd (clash (led (length events) past) (journal_end events c slot 0 (length events) (omega arith) journal (omega (arith, past, high))))
   | inr within ↦ within
@@ -46,7 +47,7 @@ led_short events c slot k high journal led = elim (cases_lt (length events) k) [
 
 -- a journal depends on its gates up to the first closed one and the bodies before it
 pub journal_stays : (events : List Event) (c c' : Content) (slot k end : ℕ) → end ≡ k + length events
-    → ((i : ℕ) → k ≤ i → i ≤ end → i < 256 → c' (gate slot i) ≡ c (gate slot i)) → ((i : ℕ) → k ≤ i → i < end → c' (body slot i) ≡ c (body slot i))
+    → ((i : ℕ) → k ≤ i → i ≤ end → i < JOURNAL_EVENTS → c' (gate slot i) ≡ c (gate slot i)) → ((i : ℕ) → k ≤ i → i < end → c' (body slot i) ≡ c (body slot i))
     → IsJournal c slot k events → IsJournal c' slot k events
 journal_stays [] c c' slot k end is gates bodies journal = λ room. ap is_open (gates k (omega arith) (omega arith) room) ∙ journal room
 journal_stays (event ∷ events) c c' slot k end is gates bodies journal = (
@@ -58,7 +59,7 @@ journal_stays (event ∷ events) c c' slot k end is gates bodies journal = (
 
 -- where only the gate at its end differs, and is closed still
 pub journal_shut : (events : List Event) (c c' : Content) (slot k end : ℕ) → end ≡ k + length events → ((i : ℕ) → i < end → c' (gate slot i) ≡ c (gate slot i)) → ((i : ℕ) → i < end → c' (body slot i) ≡ c (body slot i))
-    → (end < 256 → is_open (c' (gate slot end)) ≡ false) → IsJournal c slot k events → IsJournal c' slot k events
+    → (end < JOURNAL_EVENTS → is_open (c' (gate slot end)) ≡ false) → IsJournal c slot k events → IsJournal c' slot k events
 journal_shut [] c c' slot k end is gates bodies closed journal = λ room. let here : end ≡ k = omega arith in subst (λ j. is_open (c' (gate slot j)) ≡ false) here (closed (omega arith))
 journal_shut (event ∷ events) c c' slot k end is gates bodies closed journal = (
   journal.0,
@@ -69,7 +70,7 @@ journal_shut (event ∷ events) c c' slot k end is gates bodies closed journal =
 
 -- where that gate is open, over a body with one event more and before a closed gate
 pub journal_longer : (events : List Event) (c c' : Content) (slot k end : ℕ) (new : Event) → end ≡ k + length events → ((i : ℕ) → i < end → c' (gate slot i) ≡ c (gate slot i)) → ((i : ℕ) → i < end → c' (body slot i) ≡ c (body slot i))
-    → end < 256 → is_open (c' (gate slot end)) ≡ true → Begins (c' (body slot end)) new → (end + 1 < 256 → is_open (c' (gate slot (end + 1))) ≡ false) → IsJournal c slot k events → IsJournal c' slot k (events ++ new ∷ [])
+    → end < JOURNAL_EVENTS → is_open (c' (gate slot end)) ≡ true → Begins (c' (body slot end)) new → (end + 1 < JOURNAL_EVENTS → is_open (c' (gate slot (end + 1))) ≡ false) → IsJournal c slot k events → IsJournal c' slot k (events ++ new ∷ [])
 journal_longer [] c c' slot k end new is gates bodies room opened begins closed journal =
     let here : end ≡ k = omega arith in
     subst (λ j. IsJournal c' slot j (new ∷ [])) here (room, opened, begins, closed)

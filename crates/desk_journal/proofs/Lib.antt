@@ -1,4 +1,5 @@
 pub mod Bits
+pub mod Failing
 pub mod Journal
 pub mod Prints
 pub mod Settling
@@ -6,4 +7,6 @@ pub mod Laying
 pub mod Recording
 pub mod Loading
 pub mod Running
+pub mod Chaining
+pub mod Reopening
 pub mod OneMore

@@ -7,7 +7,8 @@ use Rattle.event_bytes.specs.declared.event.Event.{Event}
 use Rattle.event_bytes.specs.Spelling.{Begins}
 use Rattle.event_loop_laws.specs.Desktop.{Desktop, empty_desktop}
 use Rattle.event_loop_laws.specs.Step.{step, steps}
-use Rattle.desk_journal.specs.Layout.{is_label, is_open, slot_gate, gate, body, store_sectors}
+use Rattle.desk_journal.specs.declared.layout.TheConstants.{JOURNAL_EVENTS, STORE_SECTORS}
+use Rattle.desk_journal.specs.Layout.{is_label, is_open, slot_gate, gate, body}
 use Rattle.desk_journal.specs.Meaning.{IsJournal}
 use Rattle.desk_journal.specs.Footprint.{IsLedTo}
 use Rattle.desk_journal.specs.Finding.{IsNoEvent, IsDamagedAt}
@@ -25,7 +26,7 @@ led_on c slot k led opened = λ j below. elim (cases_lt j k) [
   | inr last ↦ let here : k ≡ j = omega (arith, below, last) in subst (λ i. is_open (c (gate slot i)) ≡ true) here opened
 ]
 
-pub one_read : (c : Content) (k : ℕ) (from to next : Desktop) (event : Event) → IsReadTo c 0 k from to → k < 256 → is_open (c (gate 0 k)) ≡ true → Begins (c (body 0 k)) event
+pub one_read : (c : Content) (k : ℕ) (from to next : Desktop) (event : Event) → IsReadTo c 0 k from to → k < JOURNAL_EVENTS → is_open (c (gate 0 k)) ≡ true → Begins (c (body 0 k)) event
     → next ≡ (step to event).0 → IsReadTo c 0 (k + 1) from next
 one_read c k from to next event was room opened begins is = record {
   events = was.events ++ event ∷ [];
@@ -39,7 +40,7 @@ one_read c k from to next event was room opened begins is = record {
   is = is ∙ ap (λ d. (step d event).0) was.is ∙ sym (steps_on from was.events event);
 }
 
-pub all_read : (c : Content) (k : ℕ) (from to : Desktop) → IsReadTo c 0 k from to → (k < 256 → is_open (c (gate 0 k)) ≡ false) → IsReadWhole c 0 k from to
+pub all_read : (c : Content) (k : ℕ) (from to : Desktop) → IsReadTo c 0 k from to → (k < JOURNAL_EVENTS → is_open (c (gate 0 k)) ≡ false) → IsReadWhole c 0 k from to
 all_read c k from to was closed = record {
   events = was.events;
   long = was.count;
@@ -47,11 +48,11 @@ all_read c k from to was closed = record {
   is = was.is;
 }
 
-pub not_read : (c : Content) (k : ℕ) (from to : Desktop) → IsReadTo c 0 k from to → k < 256 → is_open (c (gate 0 k)) ≡ true → ((event : Event) → Begins (c (body 0 k)) event → ⊥) → IsNoEvent c 0 k
+pub not_read : (c : Content) (k : ℕ) (from to : Desktop) → IsReadTo c 0 k from to → k < JOURNAL_EVENTS → is_open (c (gate 0 k)) ≡ true → ((event : Event) → Begins (c (body 0 k)) event → ⊥) → IsNoEvent c 0 k
 not_read c k from to was room opened none = record { within = room; led = led_on c 0 k was.led opened; events = was.each; none = none }
 
 -- what a look at the whole disk found
-pub loaded : (size count : ℕ) (c : Content) (disk : Trail) (desktop : Desktop) → store_sectors ≤ size → ((n : ℕ) → (now disk).pending n ≡ false) → (now disk).reads ≡ c
+pub loaded : (size count : ℕ) (c : Content) (disk : Trail) (desktop : Desktop) → STORE_SECTORS ≤ size → ((n : ℕ) → (now disk).pending n ≡ false) → (now disk).reads ≡ c
     → is_label (c 0) ≡ true → is_open (c 1) ≡ true → IsReadWhole c 0 count empty_desktop desktop → IsKept size disk 1 count desktop
 loaded size count c disk desktop large quiet is label live whole = record {
   standing = record { slot = 0; epoch = 1; start = empty_desktop; events = whole.events };

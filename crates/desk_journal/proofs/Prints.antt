@@ -1,19 +1,23 @@
 -- A meaning depends on its footprint alone, and a content is found to be one thing.
 use Rattle.std.proofs.Common.{◌≡◌, inl, inr, ℕ, zero, suc, ◌+◌, ◌<◌, ◌≤◌, List, length, refl, sym, ◌∙◌, ap, subst, arith, true, false}
 use Rattle.std.proofs.lemmas.Bool.{cases_lt}
-use Rattle.sector_disk.specs.Trail.{Content}
+use Rattle.sector_disk.specs.declared.disk.Disk.{Ghosts}
+use Rattle.sector_disk.specs.Trail.{Content, now}
+use Rattle.sector_disk.proofs.Touching.{read_is_an_image}
 use Rattle.event_bytes.specs.declared.event.Event.{Event}
 use Rattle.event_bytes.specs.Spelling.{Begins}
 use Rattle.event_loop_laws.specs.Desktop.{Desktop}
+use Rattle.desk_journal.specs.declared.layout.TheConstants.{JOURNAL_EVENTS}
 use Rattle.desk_journal.specs.Layout.{is_label, is_open, slot_gate, gate, body}
-use Rattle.desk_journal.specs.Meaning.{IsJournal, Standing, Stands, Means, desktop_of}
+use Rattle.desk_journal.specs.Meaning.{IsJournal, Standing, Stands, Means, Shows, desktop_of}
+use Rattle.desk_journal.specs.Opening.{ReopeningLaw}
 use Rattle.desk_journal.specs.Footprint.{IsLedTo, AgreesOnFootprint, FootprintLaw}
 use Rattle.desk_journal.specs.Finding.{IsForeign, IsNoEvent, IsDamagedAt, FindsOneThing, FindingLaw}
 use Rattle.desk_journal.proofs.Bits.{clash}
 use Rattle.desk_journal.proofs.Journal.{journal_short, journal_led, journal_bodies, led_short, journal_stays, journals_same}
 
 -- where the footprints agree, the same open gates lead on
-led_back : (c c' : Content) (slot k : ℕ) → slot < 1 → k ≤ 256 → AgreesOnFootprint c c' → IsLedTo c' slot k → IsLedTo c slot k
+led_back : (c c' : Content) (slot k : ℕ) → slot < 1 → k ≤ JOURNAL_EVENTS → AgreesOnFootprint c c' → IsLedTo c' slot k → IsLedTo c slot k
 led_back c c' slot zero low high agree led = λ j below. absurd (omega (arith, below))
 led_back c c' slot (suc k) low high agree led =
     let before : IsLedTo c slot k = led_back c c' slot k low (omega (arith, high)) agree (λ j below. led j (omega (arith, below))) in
@@ -56,13 +60,33 @@ footprint size c c' desktop agree = (
 )
 
 -- a content shows at most one thing
+same_events : ((bytes : List ℕ) (e f : Event) → Begins bytes e → Begins bytes f → e ≡ f) → (size : ℕ) (c : Content) (s s' : Standing) → Stands size c s → Stands size c s' → s.events ≡ s'.events
+same_events one_event size c s s' one two =
+    let slots : s.slot ≡ s'.slot = one.slot ∙ sym two.slot in
+    journals_same one_event s.events s'.events c s'.slot 0 (subst (λ n. IsJournal c n 0 s.events) slots one.journal) two.journal
+
 one_standing : ((bytes : List ℕ) (e f : Event) → Begins bytes e → Begins bytes f → e ≡ f) → (size : ℕ) (c : Content) (s s' : Standing) → Stands size c s → Stands size c s' → desktop_of s ≡ desktop_of s'
 one_standing one_event size c s s' one two =
     let starts : s.start ≡ s'.start = one.start ∙ sym two.start in
-    let slots : s.slot ≡ s'.slot = one.slot ∙ sym two.slot in
-    let events : s.events ≡ s'.events = journals_same one_event s.events s'.events c s'.slot 0 (subst (λ n. IsJournal c n 0 s.events) slots one.journal) two.journal in
+    let events = same_events one_event size c s s' one two in
     ap (λ start. desktop_of (record { slot = s.slot; epoch = s.epoch; start = start; events = s.events })) starts
     ∙ ap (λ es. desktop_of (record { slot = s.slot; epoch = s.epoch; start = s'.start; events = es })) events
+
+-- and by one epoch and one number of events
+pub one_showing : ((bytes : List ℕ) (e f : Event) → Begins bytes e → Begins bytes f → e ≡ f) → (size : ℕ) (c : Content) (number count number' count' : ℕ) (d d' : Desktop)
+    → Shows size number count d c → Shows size number' count' d' c → (d' ≡ d) × (number' ≡ number) × (count' ≡ count)
+one_showing one_event size c number count number' count' d d' one two = (
+  sym two.is ∙ one_standing one_event size c two.standing one.standing two.stands one.stands ∙ one.is,
+  sym two.epoch ∙ two.stands.epoch ∙ sym one.stands.epoch ∙ one.epoch,
+  sym two.events ∙ ap length (same_events one_event size c two.standing one.standing two.stands one.stands) ∙ one.events,
+)
+
+-- opening finds what was closed
+pub reopening : ((bytes : List ℕ) (e f : Event) → Begins bytes e → Begins bytes f → e ≡ f) → {D : Type 0} (d : Ghosts D) → ReopeningLaw d
+reopening one_event d closed opened honest durable found =
+    let content = (now (d.trail closed.disk)).reads in
+    one_showing one_event (d.size closed.disk) content closed.epoch closed.events opened.epoch opened.events closed.desktop opened.desktop
+    (durable honest content (read_is_an_image (now (d.trail closed.disk)))) (found.found honest)
 
 -- of two bodies that are the first that is no event, neither comes before the other
 none_before : (c : Content) (slot k k' : ℕ) → IsNoEvent c slot k → IsNoEvent c slot k' → k < k' → ⊥

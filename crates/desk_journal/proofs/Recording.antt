@@ -1,11 +1,12 @@
 -- What the writes of one event make of a settled disk.
 use Rattle.std.proofs.Common.{◌≡◌, ◌≢◌, ◌⊎◌, inl, inr, ℕ, ◌+◌, ◌<◌, ◌≤◌, List, [], ◌∷◌, ◌++◌, length, length-append, refl, sym, ◌∙◌, ap, subst, arith, true, false}
-use Rattle.sector_disk.specs.Trail.{Content, Trail, now, LeavesOnly, Touches, Only}
+use Rattle.sector_disk.specs.Trail.{Content, Trail, now, LeavesOnly, Touches, Only, Nowhere}
 use Rattle.sector_disk.proofs.Touching.{spared, weakened, chained, at_last}
 use Rattle.event_bytes.specs.declared.event.Event.{Event}
 use Rattle.event_bytes.specs.Spelling.{Begins}
 use Rattle.event_loop_laws.specs.Desktop.{Desktop}
 use Rattle.event_loop_laws.specs.Step.{step, steps}
+use Rattle.desk_journal.specs.declared.layout.TheConstants.{JOURNAL_EVENTS}
 use Rattle.desk_journal.specs.Layout.{is_label, is_open, slot_gate, gate, body}
 use Rattle.desk_journal.specs.Meaning.{IsJournal, Standing, desktop_of, Stands, Means, MeansEither, and_then}
 use Rattle.desk_journal.specs.Footprint.{AgreesOnFootprint}
@@ -14,10 +15,10 @@ use Rattle.desk_journal.specs.View.{IsSettled, IsKept}
 use Rattle.desk_journal.proofs.Bits.{true_or_false}
 use Rattle.desk_journal.proofs.Journal.{led_short, journal_shut, journal_longer}
 use Rattle.desk_journal.proofs.Prints.{stands_on}
-use Rattle.desk_journal.proofs.Settling.{kept_means}
+use Rattle.desk_journal.proofs.Settling.{kept_means, kept_on, means_on}
 
 -- The place of the next event is apart from the footprint.
-next_apart : (size : ℕ) (c c' : Content) (s : Standing) (k : ℕ) → k ≡ length s.events → k < 256 → Stands size c s
+next_apart : (size : ℕ) (c c' : Content) (s : Standing) (k : ℕ) → k ≡ length s.events → k < JOURNAL_EVENTS → Stands size c s
     → ((n : ℕ) → ¬ NextRecord s.slot k n → c' n ≡ c n) → AgreesOnFootprint c c'
 next_apart size c c' s k long room was same = record {
   label = same 0 (λ within. elim within [ inl a ↦ omega (arith, a) | inr a ↦ omega (arith, a.0) ]);
@@ -34,7 +35,7 @@ next_apart size c c' s k long room was same = record {
       same (body slot i) (λ within. elim within [ inl a ↦ omega (arith, a, here, short, long) | inr a ↦ omega (arith, a.0, here) ]);
 }
 
-pub staging : (size : ℕ) (old new : Trail) (s : Standing) (k : ℕ) → k ≡ length s.events → k < 256 → IsSettled size old s → Touches (NextRecord s.slot k) old new → LeavesOnly old new (λ c. Stands size c s)
+pub staging : (size : ℕ) (old new : Trail) (s : Standing) (k : ℕ) → k ≡ length s.events → k < JOURNAL_EVENTS → IsSettled size old s → Touches (NextRecord s.slot k) old new → LeavesOnly old new (λ c. Stands size c s)
 staging size old new s k long room was run = spared (λ c. Stands size c s) was.quiet run (λ c same. stands_on size (now old).reads c s (next_apart size (now old).reads c s k long room was.stands same) was.stands)
 
 -- all of a standing but the end of its journal stays where only gate k differs
@@ -50,8 +51,8 @@ only_gate size c c' s k was same events journal = record {
   journal = journal;
 }
 
-module _ (size : ℕ) (c c' : Content) (s : Standing) (event : Event) (k : ℕ) (long : k ≡ length s.events) (room : k < 256) (was : Stands size c s) (begins : Begins (c (body s.slot k)) event)
-    (closed : k + 1 < 256 → is_open (c (gate s.slot (k + 1))) ≡ false) (same : (n : ℕ) → n ≢ gate s.slot k → c' n ≡ c n) where
+module _ (size : ℕ) (c c' : Content) (s : Standing) (event : Event) (k : ℕ) (long : k ≡ length s.events) (room : k < JOURNAL_EVENTS) (was : Stands size c s) (begins : Begins (c (body s.slot k)) event)
+    (closed : k + 1 < JOURNAL_EVENTS → is_open (c (gate s.slot (k + 1))) ≡ false) (same : (n : ℕ) → n ≢ gate s.slot k → c' n ≡ c n) where
   is_kept : is_open (c' (gate s.slot k)) ≡ false → Stands size c' s
   is_kept off = only_gate size c c' s k was same s.events (journal_shut s.events c c' s.slot 0 k (omega (arith, long)) (λ i low. same (gate s.slot i) (omega (arith, low))) (λ i low. same (body s.slot i) (omega (arith, low))) (λ _. off) was.journal)
 
@@ -66,7 +67,7 @@ pub steps_on : (start : Desktop) (events : List Event) (event : Event) → steps
 steps_on start [] event = refl
 steps_on start (e ∷ events) event = steps_on (step start e).0 events event
 
-module _ (size : ℕ) (old new : Trail) (s : Standing) (event : Event) (k : ℕ) (desktop : Desktop) (long : k ≡ length s.events) (room : k < 256) (is : desktop_of s ≡ desktop)
+module _ (size : ℕ) (old new : Trail) (s : Standing) (event : Event) (k : ℕ) (desktop : Desktop) (long : k ≡ length s.events) (room : k < JOURNAL_EVENTS) (is : desktop_of s ≡ desktop)
     (was : IsStaged size old s event k) (run : Touches (Only (gate s.slot k)) old new) where
   sealing : LeavesOnly old new (MeansEither size desktop (step desktop event).0)
   sealing = spared (MeansEither size desktop (step desktop event).0) was.settled.quiet run (λ c same. elim (is_either size (now old).reads c s event k long room was.settled.stands was.begins was.closed same) [
@@ -88,7 +89,7 @@ pub not_begun : (size : ℕ) (d : Trail) (number count : ℕ) (event : Event) (d
 not_begun size d number count event desktop kept = weakened (kept_means size d number count desktop kept) (λ c means. inl means)
 
 -- a post, step by step
-module _ (size : ℕ) (d : Trail) (number count : ℕ) (event : Event) (desktop : Desktop) (kept : IsKept size d number count desktop) (room : count < 256) where
+module _ (size : ℕ) (d : Trail) (number count : ℕ) (event : Event) (desktop : Desktop) (kept : IsKept size d number count desktop) (room : count < JOURNAL_EVENTS) where
   abbrev s : Standing
   s = kept.standing
 
@@ -103,7 +104,7 @@ module _ (size : ℕ) (d : Trail) (number count : ℕ) (event : Event) (desktop 
     one_call = weakened here (λ c stands. inl (s, stands, kept.is))
 
     module _ (quiet : (n : ℕ) → (now first).pending n ≡ false) (begins : Begins ((now first).reads (body 0 count)) event)
-        (closed : count + 1 < 256 → is_open ((now first).reads (gate 0 (count + 1))) ≡ false) (new : Trail) (seals : Touches (Only (gate 0 count)) first new) where
+        (closed : count + 1 < JOURNAL_EVENTS → is_open ((now first).reads (gate 0 (count + 1))) ≡ false) (new : Trail) (seals : Touches (Only (gate 0 count)) first new) where
       staged : IsStaged size first s event count
       staged = record {
         settled = record { quiet = quiet; stands = at_last here (now first).reads (λ n settled. refl) };
@@ -120,3 +121,17 @@ module _ (size : ℕ) (d : Trail) (number count : ℕ) (event : Event) (desktop 
       pub recorded : is_open ((now new).reads (gate 0 count)) ≡ true → ((n : ℕ) → (now new).pending n ≡ false) → IsKept size new number (count + 1) (step desktop event).0
       recorded opened silent = subst (λ n. IsKept size new n (count + 1) (step desktop event).0) kept.epoch
           (sealed size first new s event count desktop (sym kept.events) room kept.is staged seals_here (subst (λ n. is_open ((now new).reads (gate n count)) ≡ true) (sym slot_zero) opened) silent)
+
+-- reads, and then a record
+module _ (size size' : ℕ) (old mid new : Trail) (number k : ℕ) (event : Event) (desktop : Desktop) (same : size' ≡ size) (kept : IsKept size old number k desktop) (reads : Touches Nowhere old mid) where
+  pub kept_then : IsKept size' mid number k desktop
+  kept_then = subst (λ n. IsKept n mid number k desktop) (sym same) (kept_on size old mid number k desktop kept reads)
+
+  pub read_only : LeavesOnly old mid (MeansEither size desktop (step desktop event).0)
+  read_only = weakened (means_on size old mid number k desktop kept reads) (λ c means. inl means)
+
+  pub read_then : LeavesOnly mid new (MeansEither size' desktop (step desktop event).0) → LeavesOnly old new (MeansEither size desktop (step desktop event).0)
+  read_then run = chained read_only (subst (λ n. LeavesOnly mid new (MeansEither n desktop (step desktop event).0)) same run)
+
+  pub kept_after : (desktop' : Desktop) → desktop' ≡ (step desktop event).0 → IsKept size' new number (k + 1) (step desktop event).0 → IsKept size new number (k + 1) desktop'
+  kept_after desktop' is after = subst (λ d. IsKept size new number (k + 1) d) (sym is) (subst (λ n. IsKept n new number (k + 1) (step desktop event).0) same after)

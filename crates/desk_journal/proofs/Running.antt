@@ -55,7 +55,7 @@ begins_running size disk desktop shown = record {
 }
 
 -- what a post's contract says, of a store before and after
-pub record IsPosted (size : ℕ) (event : Event) (answer : Answer) (old new : Trail) (desktop desktop' : Desktop) (broken broken' : Bool) : Type 0 where
+pub record Posted (size : ℕ) (event : Event) (answer : Answer) (old new : Trail) (desktop desktop' : Desktop) (broken broken' : Bool) : Type 0 where
   pub any_moment : broken ≡ false → LeavesOnly old new (MeansEither size desktop (step desktop event).0)
   pub stepped : IfOk answer (λ reply. (desktop', reply) ≡ step desktop event)
   pub acknowledged : OnOk answer (Leaves (now new) (Means size desktop'))
@@ -126,7 +126,7 @@ module _ (size : ℕ) (first : Desktop) (old new : Trail) (from : ℕ) (desktop 
       | inr means ↦ with_event answer posts c (longer answer) taken (after c means)
     ]) last
 
-  done : (reply : Reply) → IsPosted size event (Ok reply) old new desktop desktop' broken broken' → Goal (Ok reply)
+  done : (reply : Reply) → Posted size event (Ok reply) old new desktop desktop' broken broken' → Goal (Ok reply)
   done reply post = elim (true_or_false broken) [
     | inl must ↦ absurd (let never : IsErrOf (Ok reply) MustReopen = post.must_reopen must in cc)
     | inr usable ↦
@@ -165,7 +165,7 @@ module _ (size : ℕ) (first : Desktop) (old new : Trail) (from : ℕ) (desktop 
         shown = λ still c image. subst (λ d. Means size d c) (sym same.1) (was.shown (sym same.2 ∙ still) c (subst (λ (d : Trail). IsImage (now d) c) same.0 image));
       }
 
-  faulted : IsPosted size event (Err Fault) old new desktop desktop' broken broken' → Goal (Err Fault)
+  faulted : Posted size event (Err Fault) old new desktop desktop' broken broken' → Goal (Err Fault)
   faulted post = elim (true_or_false broken) [
     | inl must ↦ absurd (let never : IsErrOf {T = Reply} (Err Fault) MustReopen = post.must_reopen must in cc)
     | inr usable ↦
@@ -183,7 +183,7 @@ module _ (size : ℕ) (first : Desktop) (old new : Trail) (from : ℕ) (desktop 
         }
   ]
 
-  starved : IsPosted size event (Err NoMemory) old new desktop desktop' broken broken' → Goal (Err NoMemory)
+  starved : Posted size event (Err NoMemory) old new desktop desktop' broken broken' → Goal (Err NoMemory)
   starved post = elim (true_or_false broken) [
     | inl must ↦ absurd (let never : IsErrOf {T = Reply} (Err NoMemory) MustReopen = post.must_reopen must in cc)
     | inr usable ↦
@@ -200,11 +200,11 @@ module _ (size : ℕ) (first : Desktop) (old new : Trail) (from : ℕ) (desktop 
         }
   ]
 
-  pub runs_on : (answer : Answer) → IsPosted size event answer old new desktop desktop' broken broken' → Goal answer
+  pub runs_on : (answer : Answer) → Posted size event answer old new desktop desktop' broken broken' → Goal answer
   runs_on (Ok reply) post = done reply post
   runs_on (Err e) post = elim (post.named e refl) [
-    | inl is ↦ subst (λ x. Goal (Err x)) (sym is) (starved (subst (λ x. IsPosted size event (Err x) old new desktop desktop' broken broken') is post))
-    | inr (inl is) ↦ subst (λ x. Goal (Err x)) (sym is) (faulted (subst (λ x. IsPosted size event (Err x) old new desktop desktop' broken broken') is post))
+    | inl is ↦ subst (λ x. Goal (Err x)) (sym is) (starved (subst (λ x. Posted size event (Err x) old new desktop desktop' broken broken') is post))
+    | inr (inl is) ↦ subst (λ x. Goal (Err x)) (sym is) (faulted (subst (λ x. Posted size event (Err x) old new desktop desktop' broken broken') is post))
     | inr (inr (inl is)) ↦ unchanged (Err e) (ap (λ x. accepted (answered (Err x) ∷ [])) is) (post.reopen (ap (λ x. Err x) is))
     | inr (inr (inr is)) ↦ unchanged (Err e) (ap (λ x. accepted (answered (Err x) ∷ [])) is) (post.full (ap (λ x. Err x) is))
   ]

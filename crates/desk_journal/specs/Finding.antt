@@ -4,25 +4,26 @@ use Rattle.sector_disk.specs.Trail.{Content}
 use Rattle.event_bytes.specs.declared.event.Event.{Event}
 use Rattle.event_bytes.specs.Spelling.{Begins}
 use Rattle.event_loop_laws.specs.Desktop.{Desktop}
-use Rattle.desk_journal.specs.Layout.{store_sectors, is_label, is_open, slot_gate, gate, body}
+use Rattle.desk_journal.specs.declared.layout.TheConstants.{JOURNAL_EVENTS, LABEL, STORE_SECTORS}
+use Rattle.desk_journal.specs.Layout.{is_label, is_open, slot_gate, gate, body}
 use Rattle.desk_journal.specs.Meaning.{Means}
 use Rattle.desk_journal.specs.Footprint.{IsLedTo}
 
 -- no store: too small a disk, or another label
 abbrev pub IsForeign : ℕ → Content → Type 0
-IsForeign size c = (size < store_sectors) ⊎ (is_label (c 0) ≡ false)
+IsForeign size c = (size < STORE_SECTORS) ⊎ (is_label (c LABEL) ≡ false)
 
 -- the body under gate k is the first that begins with no event, and open gates lead up to it
 pub record IsNoEvent (c : Content) (slot k : ℕ) : Type 0 where
-  pub within : k < 256
+  pub within : k < JOURNAL_EVENTS
   pub led : IsLedTo c slot (k + 1)
   pub events : (j : ℕ) → j < k → (event : Event) × Begins (c (body slot j)) event
   pub none : (event : Event) → Begins (c (body slot k)) event → ⊥
 
 -- a store whose damage is found in sector n: its slot isn't open, or a body under an open gate is no event
 pub record IsDamagedAt (size : ℕ) (c : Content) (n : ℕ) : Type 0 where
-  pub large : store_sectors ≤ size
-  pub label : is_label (c 0) ≡ true
+  pub large : STORE_SECTORS ≤ size
+  pub label : is_label (c LABEL) ≡ true
   pub damage : ((n ≡ slot_gate 0) × (is_open (c (slot_gate 0)) ≡ false))
       ⊎ ((k : ℕ) × (n ≡ body 0 k) × (is_open (c (slot_gate 0)) ≡ true) × IsNoEvent c 0 k)
 

@@ -1,4 +1,5 @@
 -- The desktop that a store has in memory.
+use Rattle.std.specs.Prelude.{◌≡◌}
 use Rattle.event_loop_laws.specs.Desktop.{Desktop}
 use Rattle.event_loop_laws.specs.Seen.{seen}
 use Rattle.event_loop_laws.specs.Sound.{IsOver}
@@ -8,6 +9,12 @@ use Rattle.desk_journal.specs.declared.live.LiveDesktop.{LiveDesktop}
 abbrev pub shown : LiveDesktop → Desktop
 shown live = seen live.characters live.desktop
 
--- its characters are just those that were written
-abbrev pub IsWhole : LiveDesktop → Type 0
-IsWhole live = IsOver live.characters live.desktop
+-- it stands over its characters
+abbrev pub IsLive : LiveDesktop → Type 0
+IsLive live = IsOver live.characters live.desktop
+
+-- a look: it shows the same where the disk is honest, and keeps the same over every disk
+pub record StaysLive (honest : Type 0) (old new : LiveDesktop) : Type 0 where
+  pub shown_same : honest → shown new ≡ shown old
+  pub kept_same : new.desktop ≡ old.desktop
+  pub over : IsLive new

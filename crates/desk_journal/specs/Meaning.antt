@@ -5,13 +5,14 @@ use Rattle.event_bytes.specs.declared.event.Event.{Event}
 use Rattle.event_bytes.specs.Spelling.{Begins}
 use Rattle.event_loop_laws.specs.Desktop.{Desktop, empty_desktop}
 use Rattle.event_loop_laws.specs.Step.{step, steps}
-use Rattle.desk_journal.specs.Layout.{store_sectors, is_label, is_open, slot_gate, gate, body}
+use Rattle.desk_journal.specs.declared.layout.TheConstants.{JOURNAL_EVENTS, LABEL, STORE_SECTORS}
+use Rattle.desk_journal.specs.Layout.{is_label, is_open, slot_gate, gate, body}
 
 -- From gate k on the journal of a slot has these events: each in a body under an open gate, and behind the last of them
 -- a closed gate, unless it is under gate 255.
 abbrev pub IsJournal : Content → ℕ → ℕ → List Event → Type 0
-IsJournal c slot k [] = k < 256 → is_open (c (gate slot k)) ≡ false
-IsJournal c slot k (event ∷ events) = (k < 256) × (is_open (c (gate slot k)) ≡ true) × Begins (c (body slot k)) event × IsJournal c slot (k + 1) events
+IsJournal c slot k [] = k < JOURNAL_EVENTS → is_open (c (gate slot k)) ≡ false
+IsJournal c slot k (event ∷ events) = (k < JOURNAL_EVENTS) × (is_open (c (gate slot k)) ≡ true) × Begins (c (body slot k)) event × IsJournal c slot (k + 1) events
 
 -- what a content shows: the live slot, its epoch, the desktop that it starts from, and the events since
 pub record Standing : Type 0 where
@@ -25,8 +26,8 @@ desktop_of s = steps s.start s.events
 
 -- A disk of this size with this content shows that. There is one slot yet, and it starts from the empty desktop.
 pub record Stands (size : ℕ) (c : Content) (s : Standing) : Type 0 where
-  pub large : store_sectors ≤ size
-  pub label : is_label (c 0) ≡ true
+  pub large : STORE_SECTORS ≤ size
+  pub label : is_label (c LABEL) ≡ true
   pub slot : s.slot ≡ 0
   pub epoch : s.epoch ≡ 1
   pub start : s.start ≡ empty_desktop

@@ -1,14 +1,17 @@
 -- A run of posts, and what a crash at any moment of it leaves.
-use Rattle.std.specs.Prelude.{◌≡◌, ◌≤◌, ℕ, Bool, true, false, List, [], ◌∷◌, ◌++◌, length, take, drop, map, filter, Result, Ok, Err}
+use Rattle.std.specs.Prelude.{◌≡◌, ◌≤◌, ◌+◌, ℕ, Bool, true, false, List, [], ◌∷◌, ◌++◌, length, take, drop, map, filter, Result, Ok, Err}
 use Rattle.std.specs.List.{list_any}
+use Rattle.sector_disk.specs.declared.disk.Disk.{Ghosts}
 use Rattle.sector_disk.specs.Trail.{Content, Trail, Leaves}
 use Rattle.event_bytes.specs.declared.event.Event.{Event}
 use Rattle.event_loop_laws.specs.declared.reply.Reply.{Reply}
 use Rattle.event_loop_laws.specs.Desktop.{Desktop}
 use Rattle.event_loop_laws.specs.Step.{steps}
 use Rattle.desk_journal.specs.declared.error.Error.{Error}
-use Rattle.desk_journal.specs.declared.error.Error.TheVariants.{NoMemory, Fault, MustReopen, NotAStore, Damaged, Worn, TooSmall, JournalFull}
+use Rattle.desk_journal.specs.declared.error.Error.TheVariants.{NoMemory, Fault, MustReopen, NotAStore, Damaged, TooSmall, JournalFull}
 use Rattle.desk_journal.specs.Meaning.{Means}
+use Rattle.desk_journal.specs.Posting.{IsPosted}
+use Rattle.desk_journal.specs.View.{StoreView, IsDurable}
 
 abbrev pub Answer : Type 0
 Answer = Result Reply Error
@@ -33,7 +36,6 @@ lets_in Fault = true
 lets_in MustReopen = false
 lets_in NotAStore = false
 lets_in (Damaged n) = false
-lets_in Worn = false
 lets_in TooSmall = false
 lets_in JournalFull = false
 
@@ -70,3 +72,34 @@ abbrev pub posts_of : List Event → List Answer → List Post
 posts_of [] answers = []
 posts_of (event ∷ events) [] = []
 posts_of (event ∷ events) (answer ∷ answers) = record { event = event; answer = answer } ∷ posts_of events answers
+
+-- These posts led from the one state of a store to the other: each promises what a post does, from where those before it led.
+abbrev pub IsRun : {D : Type 0} → Ghosts D → List Post → StoreView D → StoreView D → Type 0
+IsRun d [] old new = new ≡ old
+IsRun {D = D} d (post ∷ posts) old new = (mid : StoreView D) × IsPosted d post.event post.answer old mid × IsRun d posts mid new
+
+-- one run after another is a run
+abbrev pub ComposingLaw : {D : Type 0} → Ghosts D → Type 0
+ComposingLaw {D = D} d = (posts more : List Post) (first mid last : StoreView D) → IsRun d posts first mid → IsRun d more mid last → IsRun d (posts ++ more) first last
+
+-- what a crash leaves of a run, wherever it cuts it off
+abbrev pub SurvivesRun : {D : Type 0} → Ghosts D → List Post → StoreView D → StoreView D → Type 0
+SurvivesRun d posts old new = d.honest old.disk → Survives (d.size old.disk) old.desktop (d.trail new.disk) (d.trail old.disk).clock (d.trail new.disk).clock posts
+
+-- a run from a usable store survives
+abbrev pub SurvivalLaw : {D : Type 0} → Ghosts D → Type 0
+SurvivalLaw {D = D} d = (posts : List Post) (old new : StoreView D) → IsRun d posts old new → old.must_reopen ≡ false → IsDurable d old → SurvivesRun d posts old new
+
+-- the content means the desktop after some of the events, the first of them and none left out
+pub record MeansSome (size : ℕ) (desktop : Desktop) (events : List Event) (c : Content) : Type 0 where
+  pub count : ℕ
+  pub within : count ≤ length events
+  pub means : Means size (steps desktop (take count events)) c
+
+-- the store that was opened after all the events: nothing is lost
+pub record IsReopened {D : Type 0} (d : Ghosts D) (events : List Event) (closed reopened : StoreView D) : Type 0 where
+  pub desktop : d.honest closed.disk → reopened.desktop ≡ steps closed.desktop events
+  pub epoch : d.honest closed.disk → reopened.epoch ≡ closed.epoch
+  pub events_more : d.honest closed.disk → reopened.events ≡ closed.events + length events
+  pub durable : IsDurable d reopened
+  pub usable : reopened.must_reopen ≡ false

@@ -1,34 +1,26 @@
 -- A store as its callers see it.
-use Rattle.std.specs.Prelude.{◌≡◌, ◌<◌, ◌≤◌, ◌+◌, ◌⊎◌, ℕ, List, Bool, length, false}
-use Rattle.sector_disk.specs.Trail.{Trail, now, IsImage, Leaves, LeavesOnly}
-use Rattle.event_loop_laws.specs.Desktop.{Desktop}
-use Rattle.desk_journal.specs.Meaning.{Standing, Stands, desktop_of}
+use Rattle.std.specs.Prelude.{◌≡◌, ℕ, Bool, length, false}
+use Rattle.sector_disk.specs.declared.disk.Disk.{Ghosts}
+use Rattle.sector_disk.specs.Trail.{Trail, now, Leaves}
+use Rattle.event_loop_laws.specs.Desktop.{Desktop, KeptDesktop}
+use Rattle.desk_journal.specs.Meaning.{Standing, Stands, Shows, desktop_of}
 
 pub record StoreView (D : Type 0) : Type 0 where
   -- the disk that it stands on
   pub disk : D
   -- what it shows
   pub desktop : Desktop
+  -- the same as it is kept, each character by its offset, which is known of every disk
+  pub kept : KeptDesktop
   -- the epoch of its slot, and how many events its journal has
   pub epoch : ℕ
   pub events : ℕ
   -- a call has failed in the middle of its work: only closing the store and opening it again helps
   pub must_reopen : Bool
 
--- at no moment is there an image that wasn't there before: nothing was written
-abbrev pub WritesNothing : Trail → Trail → Type 0
-WritesNothing old new = LeavesOnly old new (IsImage (now old))
-
--- a look at a store: all that it shows stays, and nothing is written
-pub record IsLookedAt {D : Type 0} (size : D → ℕ) (honest : D → Type 0) (trail : D → Trail) (old new : StoreView D) : Type 0 where
-  pub desktop : new.desktop ≡ old.desktop
-  pub epoch : new.epoch ≡ old.epoch
-  pub events : new.events ≡ old.events
-  pub usable : new.must_reopen ≡ old.must_reopen
-  pub as_large : size new.disk ≡ size old.disk
-  pub still : honest old.disk → honest new.disk
-  pub already : honest new.disk → honest old.disk
-  pub unwritten : honest old.disk → WritesNothing (trail old.disk) (trail new.disk)
+-- a crash now leaves what the store shows
+abbrev pub IsDurable : {D : Type 0} → Ghosts D → StoreView D → Type 0
+IsDurable d store = d.honest store.disk → Leaves (now (d.trail store.disk)) (Shows (d.size store.disk) store.epoch store.events store.desktop)
 
 -- nothing is pending on the disk, and what it reads shows this
 pub record IsSettled (size : ℕ) (disk : Trail) (s : Standing) : Type 0 where

@@ -10,7 +10,7 @@ use thiserror::Error as ErrorText;
 /// Why a call of the store was refused.
 #[derive(Clone, Copy, Debug, PartialEq, Eq, ErrorText)]
 pub enum Error {
-    /// A growth was refused.
+    /// An allocation was refused.
     #[error("memory")]
     NoMemory,
     /// The disk failed in this call.
@@ -25,13 +25,10 @@ pub enum Error {
     /// The store's damage shows in this sector.
     #[error("damaged {0}")]
     Damaged(u32),
-    /// The last epoch is used up.
-    #[error("worn")]
-    Worn,
-    /// A store needs 15,621 sectors.
+    /// The disk has fewer sectors than a store needs.
     #[error("too small")]
     TooSmall,
-    /// The journal has its 256 events.
+    /// The journal has as many events as it holds.
     #[error("full")]
     JournalFull,
 }
@@ -39,6 +36,7 @@ pub enum Error {
 impl From<Fault> for Error {
     ghost from_gives = { λ _ e. e ≡ Failed };
 
+    /// `Fault`.
     fn from(_: Fault) -> Self {
         Error::Fault
     }
@@ -47,6 +45,7 @@ impl From<Fault> for Error {
 impl From<AllocError> for Error {
     ghost from_gives = { λ _ e. e ≡ OutOfMemory };
 
+    /// `NoMemory`.
     fn from(_: AllocError) -> Self {
         Error::NoMemory
     }
@@ -58,6 +57,7 @@ impl From<Stop> for Error {
 
     ghost from_gives = { λ stop e. e ≡ error_of stop };
 
+    /// The same reason.
     fn from(stop: Stop) -> Self {
         match stop {
             Stop::NoMemory => Error::NoMemory,

@@ -1,26 +1,34 @@
 //! The desktop that a store has in memory, with its characters.
-ghost use Rattle.std.specs.Prelude.{◌≡◌, IfOk, OnOk, IsErrOf, option_map};
+ghost use Rattle.std.specs.Prelude.{◌≡◌, ℕ, IfOk, OnOk, option_map};
+ghost use Rattle.sector_disk.specs.Trail.{Nowhere};
+ghost use Rattle.sector_disk.specs.Confined.{IsConfined};
+ghost use Rattle.sector_disk.specs.Faults.{FailsAs};
+ghost use Rattle.event_loop_laws.specs.declared.reply.Reply.TheVariants.{No};
 ghost use Rattle.event_loop_laws.specs.Desktop.{empty_desktop, file_of};
 ghost use Rattle.event_loop_laws.specs.Listing.{entries_of};
 ghost use Rattle.event_loop_laws.specs.Shown.{shown_screen};
 ghost use Rattle.event_loop_laws.specs.Step.{step};
-ghost use Rattle.desk_journal.specs.Live.{shown, IsWhole};
+ghost use Rattle.desk_journal.specs.Errors.{OfDesktop};
+ghost use Rattle.desk_journal.specs.Live.{shown, IsWhole, StaysWhole};
 
+use crate::Error;
 use crate::reading::read_all;
 use char_file::CharFile;
 use event_bytes::{Event, Name};
-use event_loop::{Desktop, Entry, NoMemory, Reply, Stop};
+use event_loop::{Desktop, Entry, NoMemory, Reply};
 use piece_ring::Look;
 use screen_cells::Screen;
+use sector_disk::Disk;
 use std::alloc::Global;
 
 /// A desktop and the characters that its texts name.
 ///
-/// A clause sees it as its characters read (`shown`), and asks that they are just those that were written (`IsWhole`). After an error of
-/// `step` it isn't used again.
+/// A clause sees it as its characters read (`shown`), and asks that they are just those that were written (`IsWhole`). Its calls are handed
+/// the disk, from which they only read, and what they say of characters stands under its premise. After an error of `step` it isn't used
+/// again.
 #[derive(Drop)]
 pub struct LiveDesktop {
-    desktop: Desktop,
+    pub desktop: Desktop,
     characters: CharFile,
 }
 
@@ -37,22 +45,37 @@ impl LiveDesktop {
     }
 
     /// Does the event.
-    pub fn step(&mut self, alloc: Global, event: &Event) -> Result<Reply, Stop>
+    pub fn step<D: Disk>(
+        &mut self,
+        alloc: Global,
+        event: &Event,
+        disk: &mut D,
+    ) -> Result<Reply, Error>
         requires { IsWhole self.old }
-        ensures done { IfOk result (λ reply. (shown self.new, reply) ≡ step (shown self.old) event.now) }
+        ensures done { IfOk result (λ reply. D.honest disk.old → (shown self.new, reply) ≡ step (shown self.old) event.now) }
+        ensures refusal { IfOk result (λ reply. (code : ℕ) → reply ≡ No code → self.new.desktop ≡ self.old.desktop) }
         ensures whole { OnOk result (IsWhole self.new) }
-        ensures never_fault { ¬ IsErrOf result Stop.Fault }
+        ensures disk { IsConfined D.size D.honest D.trail Nowhere disk.old disk.new }
+        ensures faults { FailsAs Error.Fault OfDesktop result (D.failures disk.old) (D.failures disk.new) }
     {
-        self.desktop.step(alloc, event, &mut self.characters)
+        let _ = disk;
+        Ok(self.desktop.step(alloc, event, &mut self.characters)?)
     }
 
     /// The characters of the file of that name, with their looks; None where there is none.
-    pub fn file(&mut self, alloc: Global, name: &Name) -> Result<Option<Vec<(u8, Look)>>, Stop>
+    pub fn file<D: Disk>(
+        &mut self,
+        alloc: Global,
+        name: &Name,
+        disk: &mut D,
+    ) -> Result<Option<Vec<(u8, Look)>>, Error>
         requires { IsWhole self.old }
-        ensures found { IfOk result (λ file. option_map (λ characters. characters.items) file ≡ file_of (shown self.old) name.now) }
-        ensures same { self.new ≡ self.old }
-        ensures never_fault { ¬ IsErrOf result Stop.Fault }
+        ensures found { IfOk result (λ file. D.honest disk.old → option_map (λ characters. characters.items) file ≡ file_of (shown self.old) name.now) }
+        ensures same { StaysWhole (D.honest disk.old) self.old self.new }
+        ensures disk { IsConfined D.size D.honest D.trail Nowhere disk.old disk.new }
+        ensures faults { FailsAs Error.Fault OfDesktop result (D.failures disk.old) (D.failures disk.new) }
     {
+        let _ = disk;
         match self.desktop.file(name) {
             None => Ok(None),
             Some(text) => Ok(Some(read_all(alloc, text, &mut self.characters)?)),
@@ -60,23 +83,33 @@ impl LiveDesktop {
     }
 
     /// What the desktop has.
-    pub fn list(&mut self, alloc: Global) -> Result<Vec<Entry>, Stop>
+    pub fn list<D: Disk>(&mut self, alloc: Global, disk: &mut D) -> Result<Vec<Entry>, Error>
         requires { IsWhole self.old }
-        ensures entries { IfOk result (λ entries. entries.items ≡ entries_of (shown self.old)) }
-        ensures same { self.new ≡ self.old }
-        ensures never_fault { ¬ IsErrOf result Stop.Fault }
+        ensures entries { IfOk result (λ entries. D.honest disk.old → entries.items ≡ entries_of (shown self.old)) }
+        ensures same { StaysWhole (D.honest disk.old) self.old self.new }
+        ensures disk { IsConfined D.size D.honest D.trail Nowhere disk.old disk.new }
+        ensures faults { FailsAs Error.Fault OfDesktop result (D.failures disk.old) (D.failures disk.new) }
     {
-        self.desktop.list(alloc, &mut self.characters)
+        let _ = disk;
+        Ok(self.desktop.list(alloc, &mut self.characters)?)
     }
 
     /// Paints what the desktop shows.
-    pub fn screen(&mut self, alloc: Global, screen: &mut Screen) -> Result<(), Stop>
+    pub fn screen<D: Disk>(
+        &mut self,
+        alloc: Global,
+        screen: &mut Screen,
+        disk: &mut D,
+    ) -> Result<(), Error>
         requires { IsWhole self.old }
-        ensures shown { OnOk result (screen.new ≡ shown_screen (shown self.old)) }
-        ensures same { self.new ≡ self.old }
-        ensures never_fault { ¬ IsErrOf result Stop.Fault }
+        ensures shown { OnOk result (D.honest disk.old → screen.new ≡ shown_screen (shown self.old)) }
+        ensures same { StaysWhole (D.honest disk.old) self.old self.new }
+        ensures disk { IsConfined D.size D.honest D.trail Nowhere disk.old disk.new }
+        ensures faults { FailsAs Error.Fault OfDesktop result (D.failures disk.old) (D.failures disk.new) }
     {
-        self.desktop.screen(alloc, &mut self.characters, screen)
+        let _ = disk;
+        self.desktop.screen(alloc, &mut self.characters, screen)?;
+        Ok(())
     }
 
     /// How many characters were ever written.

@@ -1,5 +1,6 @@
 //! Reading a whole text.
-ghost use Rattle.std.specs.Prelude.{◌≡◌, ◌<◌, length, IfOk, OnOk, IsErrOf};
+ghost use Rattle.std.specs.Prelude.{◌≡◌, [], ◌∷◌, length, IfOk};
+ghost use Rattle.sector_disk.specs.Faults.{FailsAs, OneOf};
 ghost use Rattle.char_file.specs.Source.{OnlyReads};
 ghost use Rattle.piece_ring.specs.Flat.{flat};
 ghost use Rattle.piece_ring.specs.Offsets.{AreWithin};
@@ -14,7 +15,7 @@ use text_core::Text;
 
 /// All characters of a text with their looks.
 ///
-/// NoMemory where a growth is refused; Fault where a character could not be read.
+/// Errors: `NoMemory`; `Fault` where a character could not be read.
 pub fn read_all<S: CharSource>(
     alloc: Global,
     text: &Text,
@@ -23,8 +24,7 @@ pub fn read_all<S: CharSource>(
     requires { AreWithin (length (S.characters source.old)) (flat text.now) }
     ensures read { IfOk result (λ characters. S.honest source.old → characters.items ≡ contents (S.characters source.old) (flat text.now)) }
     ensures reads { OnlyReads S.characters S.failures S.honest S.same_ground source.old source.new }
-    ensures cause { IsErrOf result Stop.Fault → S.failures source.old < S.failures source.new }
-    ensures calm { OnOk result (S.failures source.new ≡ S.failures source.old) }
+    ensures faults { FailsAs Stop.Fault (OneOf (Stop.NoMemory ∷ Stop.Fault ∷ [])) result (S.failures source.old) (S.failures source.new) }
 {
     let mut reader = Reader::open(text, 0);
     let mut characters = Vec::new(alloc);

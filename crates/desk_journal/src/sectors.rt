@@ -5,10 +5,11 @@ ghost use Rattle.event_bytes.specs.Spelling.{Begins};
 ghost use Rattle.desk_journal.specs.Layout.{is_open, is_label};
 
 use event_bytes::Event;
+use sector_disk::Sector;
 
 /// The label, and then zeros.
 #[tactic(auto, unfolding(crate::specs::Layout::is_label))]
-pub fn label() -> [u8; 1024]
+pub fn label() -> Sector
     ensures { is_label result ≡ true }
 {
     let mut label = [0; 1024];
@@ -18,7 +19,7 @@ pub fn label() -> [u8; 1024]
 
 /// The word of an open gate, and then zeros.
 #[tactic(auto, unfolding(crate::specs::Layout::is_open))]
-pub fn open_gate() -> [u8; 1024]
+pub fn open_gate() -> Sector
     ensures { is_open result ≡ true }
 {
     let mut gate = [0; 1024];
@@ -28,14 +29,14 @@ pub fn open_gate() -> [u8; 1024]
 
 /// Zeros.
 #[tactic(auto, unfolding(crate::specs::Layout::is_open))]
-pub fn closed_gate() -> [u8; 1024]
+pub fn closed_gate() -> Sector
     ensures { is_open result ≡ false }
 {
     [0; 1024]
 }
 
 /// The spelling of the event, and then zeros.
-pub fn body_of(event: &Event) -> [u8; 1024]
+pub fn body_of(event: &Event) -> Sector
     ensures { Begins result event.now }
 {
     let spelling = event.encode();
@@ -46,7 +47,7 @@ pub fn body_of(event: &Event) -> [u8; 1024]
 
 /// Whether a sector has the label.
 #[tactic(auto, unfolding(crate::specs::Layout::is_label))]
-pub fn has_label(bytes: &[u8; 1024]) -> bool
+pub fn has_label(bytes: &Sector) -> bool
     ensures { result ≡ is_label bytes.now }
 {
     bytes.starts_with(b"OBERONDESKSTORE1")
@@ -54,14 +55,14 @@ pub fn has_label(bytes: &[u8; 1024]) -> bool
 
 /// Whether a gate is open.
 #[tactic(auto, unfolding(crate::specs::Layout::is_open))]
-pub fn is_open_gate(bytes: &[u8; 1024]) -> bool
+pub fn is_open_gate(bytes: &Sector) -> bool
     ensures { result ≡ is_open bytes.now }
 {
     bytes.starts_with(b"OPENGATE")
 }
 
 /// The event that a body begins with, if it begins with one.
-pub fn event_of(body: &[u8; 1024]) -> Option<Event>
+pub fn event_of(body: &Sector) -> Option<Event>
     ensures found { IfSome result (Begins body.now) }
     ensures only { (event : Event) → Begins body.now event → result ≡ Some event }
 {

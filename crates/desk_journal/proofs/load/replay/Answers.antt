@@ -1,13 +1,15 @@
-use Rattle.std.proofs.Common.{◌≡◌, sym, ◌∙◌, ap, subst, true, false, arith}
+use Rattle.std.proofs.Common.{rules, ◌≡◌, sym, ◌∙◌, ap, subst, true, false, arith}
 use Rattle.std.proofs.lemmas.Result.{err_from_is_err_and}
 use Rattle.event_bytes.specs.declared.event.Event.{Event}
 use Rattle.event_bytes.specs.Spelling.{Begins}
 use Rattle.sector_disk.specs.Trail.{now}
 use Rattle.sector_disk.proofs.Touching.{still_all}
 use Rattle.sector_disk.proofs.Confinement as confined
+use Rattle.desk_journal.specs.declared.layout.TheConstants.{JOURNAL_EVENTS}
 use Rattle.desk_journal.specs.Layout.{is_open, gate, body}
 use Rattle.desk_journal.specs.Live.{shown}
 use Rattle.desk_journal.specs.Load.{IsReadWhole}
+use Rattle.desk_journal.proofs.Failing.{calm_ok}
 use Rattle.desk_journal.proofs.Loading.{one_read, all_read, not_read}
 use Rattle.desk_journal.proofs.load.replay.Goals as goal
 
@@ -37,13 +39,15 @@ loop-k-preserved g c =
     let i = c.loop-k.invariant in
     let k = c.loop-k.k in
     record {
-      kept = confined.joined g.D.Disk.size g.D.Disk.honest g.D.Disk.trail i.kept c.read_event.ensures.kept;
-      calm = c.in_ok-event.ensures.calm ∙ i.calm;
+      kept = confined.joined g.D.Disk.size g.D.Disk.honest g.D.Disk.trail (confined.joined g.D.Disk.size g.D.Disk.honest g.D.Disk.trail i.kept c.read_event.ensures.kept) c.step.ensures.disk;
+      calm = search rules;
       read = λ honest.
           let same = still_all (g.D.Disk.trail c.args.disk.now) (g.D.Disk.trail c.loop-k.disk) (i.kept.moments honest) in
-          let found = (rw c.in-Some.is at c.in_ok-event.ensures.some) (i.kept.still honest) in
+          let mid = i.kept.still honest in
+          let found = (rw c.in-Some.is at c.in_ok-event.ensures.some) mid in
           one_read (now (g.D.Disk.trail c.args.disk.now)).reads k (shown c.args.desktop.now) (shown c.loop-k.desktop) (shown c.step.new.self) c.in-Some.event (i.read honest) c.loop-k-test.true
-          (subst (λ r. is_open (r (gate 0 k)) ≡ true) same found.0) (subst (λ r. Begins (r (body 0 k)) c.in-Some.event) same found.1) (ap (λ x. x.0) c.in_ok-step-in-Some.ensures.done);
+          (subst (λ r. is_open (r (gate 0 k)) ≡ true) same found.0) (subst (λ r. Begins (r (body 0 k)) c.in-Some.event) same found.1)
+          (ap (λ x. x.0) (c.in_ok-step-in-Some.ensures.done (c.read_event.ensures.kept.still mid)));
       characters = c.in_ok-step-in-Some.ensures.whole;
     }
 
@@ -51,6 +55,6 @@ pub returns-clause-whole : goal.returns-clause-whole
 returns-clause-whole g c = λ honest.
     let i = c.loop-k.invariant in
     let R = (now (g.D.Disk.trail c.args.disk.now)).reads in
-    let last : c.loop-k.k ≡ 256 = omega (arith, c.loop-k-test.false, c.loop-k.auto.k-end) in
+    let last : c.loop-k.k ≡ JOURNAL_EVENTS = omega (arith, c.loop-k-test.false, c.loop-k.auto.k-end) in
     subst (λ n. IsReadWhole R 0 n (shown c.args.desktop.now) (shown c.loop-k.desktop)) last
     (all_read R c.loop-k.k (shown c.args.desktop.now) (shown c.loop-k.desktop) (i.read honest) (λ room. absurd (omega (arith, room, c.loop-k-test.false))))

@@ -1,37 +1,96 @@
-use Rattle.std.proofs.Common.{◌≡◌, ◌+◌, refl, sym, ◌∙◌, ap, subst, arith, take, get_or}
-use Rattle.std.proofs.lemmas.List.{take_more, take_all}
+use Rattle.std.proofs.Common.{◌≡◌, ◌+◌, ◌≤◌, refl, sym, ◌∙◌, ap, subst, arith, rules, length}
+use Rattle.std.proofs.lemmas.List.{take_all}
 use Rattle.std.proofs.lemmas.Result.{IfOk-weaker}
-use Rattle.sector_disk.specs.Trail.{now}
+use Rattle.sector_disk.specs.Trail.{LeavesOnly}
 use Rattle.event_loop_laws.specs.Step.{step, steps}
-use Rattle.desk_journal.specs.Meaning.{Means}
-use Rattle.desk_journal.proofs.Recording.{steps_on}
+use Rattle.desk_journal.specs.Device.{IsOnlyRead, disk_after}
+use Rattle.desk_journal.specs.Meaning.{MeansEither}
+use Rattle.desk_journal.specs.Opening.{IsOpened}
+use Rattle.desk_journal.specs.Run.{MeansSome}
+use Rattle.desk_journal.proofs.Reopening.{at_start, same_device, after_some, next_desktop, posted_more, then_read}
 use Rattle.desk_journal.proofs.Running.{shows_means}
 use Rattle.desk_journal.proofs.run.post_and_reopen.Goals as goal
+
+pub loop-event-init : goal.loop-event-init
+loop-event-init g c =
+    let store = c.args.store in
+    let durable = c.info.ensures.durable c.requires in
+    record {
+      within = omega arith;
+      usable = c.requires;
+      durable = durable;
+      device = record { as_large = refl; still = λ h. h; already = λ h. h };
+      calm = refl;
+      epoch = refl;
+      count = omega arith;
+      so_far = λ h. refl;
+      images = λ h. at_start (g.D.Disk.trail store.disk) _ (λ content image.
+      after_some (g.D.Disk.size store.disk) store.desktop c.args.events.now content 0 (omega arith)
+      (shows_means (g.D.Disk.size store.disk) store.epoch store.events store.desktop content (durable h content image)));
+    }
 
 pub loop-event-preserved : goal.loop-event-preserved
 loop-event-preserved g c =
     let i = c.loop-event.invariant in
     let p = c.in_default.ensures in
-    let first = c.args.store.desktop in
+    let first = c.args.store in
+    let old = c.loop-event.store in
+    let new = c.post.new.self in
+    let size = g.D.Disk.size first.disk in
     let events = c.args.events.now in
     let k = c.loop-event.event-index in
     let event = c.event-item.result in
+    let room = c.loop-event-test.true in
+    let here = c.event-item.is in
     record {
-      usable = p.stays;
-      premise = (λ h. i.premise.0 (p.premise.0.0 h), λ h. p.premise.0.1 (i.premise.1 h));
+      within = omega (arith, room);
+      usable = p.ok.usable;
+      durable = p.ok.durable;
+      device = same_device g.D.Disk _ _ _ i.device p.device;
+      calm = p.faults.calm (λ wrong. absurd cc) ∙ i.calm;
+      epoch = p.ok.epoch ∙ i.epoch;
+      count = omega (arith, p.ok.events, i.count);
       so_far = λ h.
-          let stepped : c.post.new.self.desktop ≡ (step c.loop-event.store.desktop event).0 = ap (λ x. x.0) (p.stepped (i.premise.1 h)) in
-          stepped ∙ ap (λ d. (step d event).0) (i.so_far h) ∙ ap (λ e. (step (steps first (take k events)) e).0) c.event-item.is
-          ∙ sym (ap (steps first) (take_more events k event c.loop-event-test.true) ∙ steps_on first (take k events) (get_or events k event));
+          let stepped : new.desktop ≡ (step old.desktop event).0 = ap (λ x. x.0) (p.ok.stepped (i.device.still h)) in
+          stepped ∙ next_desktop size first.desktop events k old.desktop event room here (i.so_far h);
+      images = λ h. posted_more size first.desktop events (g.D.Disk.trail first.disk) (g.D.Disk.trail old.disk) (g.D.Disk.trail new.disk) k old.desktop event room here (i.so_far h) (i.images h)
+      (subst (λ n. LeavesOnly (g.D.Disk.trail old.disk) (g.D.Disk.trail new.disk) (MeansEither n old.desktop (step old.desktop event).0)) i.device.as_large (p.any_moment i.usable (i.device.still h)));
     }
 
-pub returns-clause-kept : goal.returns-clause-kept
-returns-clause-kept g c = IfOk-weaker c.open.result _ _ (λ reopened found honest.
+pub returns-in-Err-clause-any_moment : goal.returns-in-Err-clause-any_moment
+returns-in-Err-clause-any_moment g c = λ h.
+    let i = c.loop-event.invariant in
+    let first = c.args.store in
+    let old = c.loop-event.store in
+    let new = c.post.new.self in
+    let size = g.D.Disk.size first.disk in
+    let events = c.args.events.now in
+    let event = c.event-item.result in
+    subst (λ disk. LeavesOnly (g.D.Disk.trail first.disk) (g.D.Disk.trail disk) (MeansSome size first.desktop events)) (sym c.close.ensures)
+    (posted_more size first.desktop events (g.D.Disk.trail first.disk) (g.D.Disk.trail old.disk) (g.D.Disk.trail new.disk) c.loop-event.event-index old.desktop event c.loop-event-test.true c.event-item.is (i.so_far h) (i.images h)
+    (subst (λ n. LeavesOnly (g.D.Disk.trail old.disk) (g.D.Disk.trail new.disk) (MeansEither n old.desktop (step old.desktop event).0)) i.device.as_large (c.post.ensures.any_moment i.usable (i.device.still h))))
+
+pub returns-clause-ok : goal.returns-clause-ok
+returns-clause-ok g c = IfOk-weaker c.open.result _ _ (λ reopened found.
     let i = c.loop-event.invariant in
     let store = c.loop-event.store in
-    let h = i.premise.1 honest in
-    let S = g.D.Disk.size store.disk in
-    let content = (now (g.D.Disk.trail store.disk)).reads in
-    let meant : Means S store.desktop content = shows_means S store.epoch store.events store.desktop content (c.info.ensures.durable i.usable h content (λ n settled. refl)) in
-    let met = subst (λ d. g.D.Disk.honest d → Means (g.D.Disk.size d) reopened.desktop (now (g.D.Disk.trail d)).reads) c.close-2.ensures found h in
-    (c.finding_law.ensures S content).one_desktop reopened.desktop store.desktop met meant ∙ i.so_far honest ∙ ap (steps c.args.store.desktop) (take_all c.loop-event.event-index c.args.events.now c.loop-event-test.false)) c.open.ensures.found
+    let events = c.args.events.now in
+    let k = c.loop-event.event-index in
+    let all : k ≡ length events = omega (arith, i.within, c.loop-event-test.false) in
+    let opened : IsOpened g.D.Disk store.disk reopened = subst (λ disk. IsOpened g.D.Disk disk reopened) c.close-2.ensures found in
+    record {
+      desktop = λ h. (c.reopening_law.ensures store reopened (i.device.still h) i.durable opened).0 ∙ i.so_far h ∙ ap (steps c.args.store.desktop) (take_all k events c.loop-event-test.false);
+      epoch = λ h. (c.reopening_law.ensures store reopened (i.device.still h) i.durable opened).1 ∙ i.epoch;
+      events_more = λ h. (c.reopening_law.ensures store reopened (i.device.still h) i.durable opened).2 ∙ i.count ∙ ap (λ n. c.args.store.events + n) all;
+      durable = found.durable;
+      usable = found.usable;
+    }) c.open.ensures.ok
+
+pub returns-clause-any_moment : goal.returns-clause-any_moment
+returns-clause-any_moment g c = λ h.
+    let i = c.loop-event.invariant in
+    let first = c.args.store in
+    let store = c.loop-event.store in
+    let last = disk_after (λ s. s.disk) c.open.result in
+    let read : IsOnlyRead g.D.Disk store.disk last = subst (λ disk. IsOnlyRead g.D.Disk disk last) c.close-2.ensures c.open.ensures.any_moment in
+    then_read (g.D.Disk.size first.disk) first.desktop c.args.events.now (g.D.Disk.trail first.disk) (g.D.Disk.trail store.disk) (g.D.Disk.trail last) (i.images h) (read.unwritten (i.device.still h))

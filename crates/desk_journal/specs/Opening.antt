@@ -1,0 +1,26 @@
+-- What formatting and opening promise, outcome by outcome. `d` is what is known of a disk.
+use Rattle.std.specs.Prelude.{◌≡◌, ◌<◌, ℕ, false, Result, Ok, Err, IsErrOf}
+use Rattle.sector_disk.specs.declared.disk.Disk.{Ghosts}
+use Rattle.sector_disk.specs.Trail.{now}
+use Rattle.desk_journal.specs.declared.error.Error.{Error}
+use Rattle.desk_journal.specs.declared.error.Error.TheVariants.{NotAStore, Damaged}
+use Rattle.desk_journal.specs.Finding.{IsForeign, IsDamagedAt}
+use Rattle.desk_journal.specs.Meaning.{Shows}
+use Rattle.desk_journal.specs.View.{StoreView, IsDurable}
+
+module _ {D : Type 0} (d : Ghosts D) where
+  -- Ok: the store shows what the disk means, and every crash leaves that
+  pub record IsOpened (disk : D) (store : StoreView D) : Type 0 where
+    pub found : d.honest disk → Shows (d.size disk) store.epoch store.events store.desktop (now (d.trail disk)).reads
+    pub durable : IsDurable d store
+    pub usable : store.must_reopen ≡ false
+
+  -- NotAStore and Damaged: the disk is so
+  pub record IsNoStore (disk : D) (error : Error) : Type 0 where
+    pub foreign : error ≡ NotAStore → d.honest disk → IsForeign (d.size disk) (now (d.trail disk)).reads
+    pub damaged : (n : ℕ) → error ≡ Damaged n → d.honest disk → IsDamagedAt (d.size disk) (now (d.trail disk)).reads n
+
+  -- Opening finds what was closed.
+  abbrev pub ReopeningLaw : Type 0
+  ReopeningLaw = (closed opened : StoreView D) → d.honest closed.disk → IsDurable d closed → IsOpened closed.disk opened
+      → (opened.desktop ≡ closed.desktop) × (opened.epoch ≡ closed.epoch) × (opened.events ≡ closed.events)

@@ -1,0 +1,69 @@
+-- What a post promises, outcome by outcome. `d` is what is known of a disk.
+use Rattle.std.specs.Prelude.{◌≡◌, ◌<◌, ◌≤◌, ◌+◌, ◌↔◌, ℕ, true, false, Result, Ok, Err, IfOk, IsErrOf}
+use Rattle.sector_disk.specs.declared.disk.Disk.{Ghosts}
+use Rattle.sector_disk.specs.Trail.{LeavesOnly}
+use Rattle.sector_disk.specs.Faults.{FailsAs}
+use Rattle.event_bytes.specs.declared.event.Event.{Event}
+use Rattle.event_loop_laws.specs.declared.reply.Reply.{Reply}
+use Rattle.event_loop_laws.specs.declared.reply.Reply.TheVariants.{No}
+use Rattle.event_loop_laws.specs.Step.{step}
+use Rattle.desk_journal.specs.declared.error.Error.{Error}
+use Rattle.desk_journal.specs.declared.error.Error.TheVariants.{NoMemory, Fault, MustReopen, JournalFull}
+use Rattle.desk_journal.specs.declared.layout.TheConstants.{JOURNAL_EVENTS}
+use Rattle.desk_journal.specs.Device.{IsSameDevice}
+use Rattle.desk_journal.specs.Errors.{OfPost}
+use Rattle.desk_journal.specs.Meaning.{Means, MeansEither}
+use Rattle.desk_journal.specs.View.{StoreView, IsDurable}
+
+-- an error that comes exactly in one state of the store, and changes nothing of store and disk
+pub record TurnsAway {D : Type 0} (refused when : Type 0) (old new : StoreView D) : Type 0 where
+  pub only : refused → when
+  pub always : when → refused
+  pub unchanged : refused → new ≡ old
+
+-- Fault: the event may be in an image, and the store must be opened again
+abbrev pub IsBroken : {D : Type 0} → StoreView D → Type 0
+IsBroken new = new.must_reopen ≡ true
+
+-- JournalFull: at a full journal
+abbrev pub IsFull : {D : Type 0} → Result Reply Error → StoreView D → StoreView D → Type 0
+IsFull answer old new = TurnsAway (IsErrOf answer JournalFull) ((old.must_reopen ≡ false) × (JOURNAL_EVENTS ≤ old.events)) old new
+
+-- MustReopen: after NoMemory or Fault of an earlier post
+abbrev pub IsUnusable : {D : Type 0} → Result Reply Error → StoreView D → StoreView D → Type 0
+IsUnusable answer old new = TurnsAway (IsErrOf answer MustReopen) (old.must_reopen ≡ true) old new
+
+module _ {D : Type 0} (d : Ghosts D) where
+  -- at every moment of the call a crash leaves the desktop from before it or the one after the event
+  abbrev pub LeavesEither : Event → StoreView D → StoreView D → Type 0
+  LeavesEither event old new = old.must_reopen ≡ false → d.honest old.disk
+      → LeavesOnly (d.trail old.disk) (d.trail new.disk) (MeansEither (d.size old.disk) old.desktop (step old.desktop event).0)
+
+  -- Ok: the event is acknowledged, whatever the reply
+  pub record IsAcknowledged (event : Event) (reply : Reply) (old new : StoreView D) : Type 0 where
+    -- the desktop and the reply are those of its step
+    pub stepped : d.honest old.disk → (new.desktop, reply) ≡ step old.desktop event
+    -- from now on a crash leaves that desktop
+    pub durable : IsDurable d new
+    -- the journal has one event more
+    pub epoch : new.epoch ≡ old.epoch
+    pub events : new.events ≡ old.events + 1
+    pub usable : new.must_reopen ≡ false
+    -- over every disk, a refusal leaves the desktop as it is kept
+    pub refusal : (code : ℕ) → reply ≡ No code → new.kept ≡ old.kept
+
+  -- NoMemory: the event is in no image, and the store must be opened again
+  pub record IsStarved (old new : StoreView D) : Type 0 where
+    pub unrecorded : old.must_reopen ≡ false → d.honest old.disk → LeavesOnly (d.trail old.disk) (d.trail new.disk) (Means (d.size old.disk) old.desktop)
+    pub closed : new.must_reopen ≡ true
+
+  -- All that a post of the event promises where it returns this.
+  pub record IsPosted (event : Event) (answer : Result Reply Error) (old new : StoreView D) : Type 0 where
+    pub any_moment : LeavesEither event old new
+    pub ok : IfOk answer (λ reply. IsAcknowledged event reply old new)
+    pub memory : IsErrOf answer NoMemory → IsStarved old new
+    pub fault : IsErrOf answer Fault → IsBroken new
+    pub full : IsFull answer old new
+    pub reopen : IsUnusable answer old new
+    pub faults : FailsAs Fault OfPost answer (d.failures old.disk) (d.failures new.disk)
+    pub device : IsSameDevice d old.disk new.disk
