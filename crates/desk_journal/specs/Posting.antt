@@ -6,6 +6,7 @@ use Rattle.sector_disk.specs.Faults.{FailsAs}
 use Rattle.event_bytes.specs.declared.event.Event.{Event}
 use Rattle.event_loop_laws.specs.declared.reply.Reply.{Reply}
 use Rattle.event_loop_laws.specs.declared.reply.Reply.TheVariants.{No}
+use Rattle.event_loop_laws.specs.Outcome.{IsReply}
 use Rattle.event_loop_laws.specs.Step.{step}
 use Rattle.desk_journal.specs.declared.error.Error.{Error}
 use Rattle.desk_journal.specs.declared.error.Error.TheVariants.{NoMemory, Fault, MustReopen, JournalFull}
@@ -49,7 +50,8 @@ module _ {D : Type 0} (d : Ghosts D) where
     pub epoch : new.epoch ≡ old.epoch
     pub events : new.events ≡ old.events + 1
     pub usable : new.must_reopen ≡ false
-    -- over every disk, a refusal leaves the desktop as it is kept
+    -- over every disk: the reply is one that there is, and a refusal leaves the desktop as it is kept
+    pub known : IsReply reply
     pub refusal : (code : ℕ) → reply ≡ No code → new.kept ≡ old.kept
 
   -- NoMemory: the event is in no image, and the store must be opened again

@@ -1,15 +1,16 @@
 //! The desktop that a store has in memory, with its characters.
-ghost use Rattle.std.specs.Prelude.{◌≡◌, ℕ, IfOk, OnOk, option_map};
+ghost use Rattle.std.specs.Prelude.{◌≡◌, ℕ, Ok, IfOk, OnOk, option_map};
 ghost use Rattle.sector_disk.specs.Trail.{Nowhere};
 ghost use Rattle.sector_disk.specs.Confined.{IsConfined};
 ghost use Rattle.sector_disk.specs.Faults.{FailsAs};
 ghost use Rattle.event_loop_laws.specs.declared.reply.Reply.TheVariants.{No};
 ghost use Rattle.event_loop_laws.specs.Desktop.{empty_desktop, file_of};
+ghost use Rattle.event_loop_laws.specs.Outcome.{IsReply};
 ghost use Rattle.event_loop_laws.specs.Listing.{entries_of};
 ghost use Rattle.event_loop_laws.specs.Shown.{shown_screen};
 ghost use Rattle.event_loop_laws.specs.Step.{step};
 ghost use Rattle.desk_journal.specs.Errors.{OfDesktop};
-ghost use Rattle.desk_journal.specs.Live.{shown, IsWhole, StaysWhole};
+ghost use Rattle.desk_journal.specs.Live.{shown, IsLive, StaysLive};
 
 use crate::Error;
 use crate::reading::read_all;
@@ -23,12 +24,11 @@ use std::alloc::Global;
 
 /// A desktop and the characters that its texts name.
 ///
-/// A clause sees it as its characters read (`shown`), and asks that they are just those that were written (`IsWhole`). Its calls are handed
-/// the disk, from which they only read, and what they say of characters stands under its premise. After an error of `step` it isn't used
-/// again.
+/// A clause sees it as its characters read (`shown`), and asks that it stands over them (`IsLive`). Its calls are handed the disk, from
+/// which they only read, and what they say of characters stands under its premise. After an error of `step` it isn't used again.
 #[derive(Drop)]
 pub struct LiveDesktop {
-    pub desktop: Desktop,
+    desktop: Desktop,
     characters: CharFile,
 }
 
@@ -36,7 +36,7 @@ impl LiveDesktop {
     /// The empty desktop.
     pub fn empty(alloc: Global) -> Result<LiveDesktop, NoMemory>
         ensures empty { IfOk result (λ live. shown live ≡ empty_desktop) }
-        ensures whole { IfOk result (λ live. IsWhole live) }
+        ensures over { IfOk result (λ live. IsLive live) }
     {
         Ok(LiveDesktop {
             desktop: Desktop::empty(alloc)?,
@@ -51,10 +51,11 @@ impl LiveDesktop {
         event: &Event,
         disk: &mut D,
     ) -> Result<Reply, Error>
-        requires { IsWhole self.old }
+        requires { IsLive self.old }
         ensures done { IfOk result (λ reply. D.honest disk.old → (shown self.new, reply) ≡ step (shown self.old) event.now) }
-        ensures refusal { IfOk result (λ reply. (code : ℕ) → reply ≡ No code → self.new.desktop ≡ self.old.desktop) }
-        ensures whole { OnOk result (IsWhole self.new) }
+        ensures replies { IfOk result IsReply }
+        ensures refusal { (code : ℕ) → result ≡ Ok (No code) → self.new.desktop ≡ self.old.desktop }
+        ensures over { OnOk result (IsLive self.new) }
         ensures disk { IsConfined D.size D.honest D.trail Nowhere disk.old disk.new }
         ensures faults { FailsAs Error.Fault OfDesktop result (D.failures disk.old) (D.failures disk.new) }
     {
@@ -69,9 +70,9 @@ impl LiveDesktop {
         name: &Name,
         disk: &mut D,
     ) -> Result<Option<Vec<(u8, Look)>>, Error>
-        requires { IsWhole self.old }
+        requires { IsLive self.old }
         ensures found { IfOk result (λ file. D.honest disk.old → option_map (λ characters. characters.items) file ≡ file_of (shown self.old) name.now) }
-        ensures same { StaysWhole (D.honest disk.old) self.old self.new }
+        ensures same { StaysLive (D.honest disk.old) self.old self.new }
         ensures disk { IsConfined D.size D.honest D.trail Nowhere disk.old disk.new }
         ensures faults { FailsAs Error.Fault OfDesktop result (D.failures disk.old) (D.failures disk.new) }
     {
@@ -84,9 +85,9 @@ impl LiveDesktop {
 
     /// What the desktop has.
     pub fn list<D: Disk>(&mut self, alloc: Global, disk: &mut D) -> Result<Vec<Entry>, Error>
-        requires { IsWhole self.old }
+        requires { IsLive self.old }
         ensures entries { IfOk result (λ entries. D.honest disk.old → entries.items ≡ entries_of (shown self.old)) }
-        ensures same { StaysWhole (D.honest disk.old) self.old self.new }
+        ensures same { StaysLive (D.honest disk.old) self.old self.new }
         ensures disk { IsConfined D.size D.honest D.trail Nowhere disk.old disk.new }
         ensures faults { FailsAs Error.Fault OfDesktop result (D.failures disk.old) (D.failures disk.new) }
     {
@@ -101,9 +102,9 @@ impl LiveDesktop {
         screen: &mut Screen,
         disk: &mut D,
     ) -> Result<(), Error>
-        requires { IsWhole self.old }
+        requires { IsLive self.old }
         ensures shown { OnOk result (D.honest disk.old → screen.new ≡ shown_screen (shown self.old)) }
-        ensures same { StaysWhole (D.honest disk.old) self.old self.new }
+        ensures same { StaysLive (D.honest disk.old) self.old self.new }
         ensures disk { IsConfined D.size D.honest D.trail Nowhere disk.old disk.new }
         ensures faults { FailsAs Error.Fault OfDesktop result (D.failures disk.old) (D.failures disk.new) }
     {

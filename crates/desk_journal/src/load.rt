@@ -9,7 +9,7 @@ ghost use Rattle.event_loop_laws.specs.Desktop.{empty_desktop};
 ghost use Rattle.desk_journal.specs.Errors.{OfOpen, OfReplay};
 ghost use Rattle.desk_journal.specs.Layout.{is_open, is_label, slot_gate, gate, body};
 ghost use Rattle.desk_journal.specs.Finding.{IsForeign, IsDamagedAt, IsNoEvent};
-ghost use Rattle.desk_journal.specs.Live.{shown, IsWhole};
+ghost use Rattle.desk_journal.specs.Live.{shown, IsLive};
 ghost use Rattle.desk_journal.specs.Load.{IsReadWhole};
 ghost use Rattle.desk_journal.specs.Meaning.{Shows};
 ghost use Rattle.desk_journal.specs.View.{IsKept};
@@ -74,12 +74,12 @@ fn read_event<D: Disk>(disk: &mut D, k: u32) -> Result<Option<Event>, Error>
 /// Does the journal's events, and returns how many there are.
 fn replay<D: Disk>(alloc: Global, disk: &mut D, desktop: &mut LiveDesktop) -> Result<u32, Error>
     requires room { STORE_SECTORS ≤ D.size disk.old }
-    requires whole { IsWhole desktop.old }
+    requires over { IsLive desktop.old }
     ensures kept { IsConfined D.size D.honest D.trail Nowhere disk.old disk.new }
     ensures faults { FailsAs Error.Fault OfReplay result (D.failures disk.old) (D.failures disk.new) }
     ensures few { IfOk result (λ count. count ≤ JOURNAL_EVENTS) }
     ensures whole { IfOk result (λ count. D.honest disk.old → IsReadWhole (now (D.trail disk.old)).reads 0 count (shown desktop.old) (shown desktop.new)) }
-    ensures characters { OnOk result (IsWhole desktop.new) }
+    ensures over { OnOk result (IsLive desktop.new) }
     ensures damaged { (n : ℕ) → IsErrOf result (Error.Damaged n) → D.honest disk.old
         → (k : ℕ) × (n ≡ body 0 k) × IsNoEvent (now (D.trail disk.old)).reads 0 k }
 {
@@ -101,7 +101,7 @@ fn rebuild<D: Disk>(alloc: Global, disk: &mut D) -> Result<(LiveDesktop, u32), E
     ensures faults { FailsAs Error.Fault OfReplay result (D.failures disk.old) (D.failures disk.new) }
     ensures few { IfOk result (λ x. x.1 ≤ JOURNAL_EVENTS) }
     ensures whole { IfOk result (λ x. D.honest disk.old → IsReadWhole (now (D.trail disk.old)).reads 0 x.1 empty_desktop (shown x.0)) }
-    ensures characters { IfOk result (λ x. IsWhole x.0) }
+    ensures over { IfOk result (λ x. IsLive x.0) }
     ensures damaged { (n : ℕ) → IsErrOf result (Error.Damaged n) → D.honest disk.old
         → (k : ℕ) × (n ≡ body 0 k) × IsNoEvent (now (D.trail disk.old)).reads 0 k }
 {
@@ -118,7 +118,7 @@ pub fn load<D: Disk>(alloc: Global, disk: &mut D) -> Result<(LiveDesktop, u32), 
     ensures few { IfOk result (λ x. x.1 ≤ JOURNAL_EVENTS) }
     ensures found { IfOk result (λ x. D.honest disk.old → Shows (D.size disk.old) 1 x.1 (shown x.0) (now (D.trail disk.old)).reads) }
     ensures shown { IfOk result (λ x. D.honest disk.old → IsKept (D.size disk.old) (D.trail disk.new) 1 x.1 (shown x.0)) }
-    ensures characters { IfOk result (λ x. IsWhole x.0) }
+    ensures over { IfOk result (λ x. IsLive x.0) }
     ensures foreign { IsErrOf result Error.NotAStore → D.honest disk.old → IsForeign (D.size disk.old) (now (D.trail disk.old)).reads }
     ensures damaged { (n : ℕ) → IsErrOf result (Error.Damaged n) → D.honest disk.old → IsDamagedAt (D.size disk.old) (now (D.trail disk.old)).reads n }
 {

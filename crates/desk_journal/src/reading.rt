@@ -1,7 +1,8 @@
 //! Reading a whole text.
-ghost use Rattle.std.specs.Prelude.{◌≡◌, [], ◌∷◌, length, IfOk};
-ghost use Rattle.sector_disk.specs.Faults.{FailsAs, OneOf};
+ghost use Rattle.std.specs.Prelude.{◌≡◌, length, IfOk};
+ghost use Rattle.sector_disk.specs.Faults.{FailsAs};
 ghost use Rattle.char_file.specs.Source.{OnlyReads};
+ghost use Rattle.event_loop.specs.Stops.{IsStop};
 ghost use Rattle.piece_ring.specs.Flat.{flat};
 ghost use Rattle.piece_ring.specs.Offsets.{AreWithin};
 ghost use Rattle.readers_scanners.specs.Reading.{contents};
@@ -24,7 +25,7 @@ pub fn read_all<S: CharSource>(
     requires { AreWithin (length (S.characters source.old)) (flat text.now) }
     ensures read { IfOk result (λ characters. S.honest source.old → characters.items ≡ contents (S.characters source.old) (flat text.now)) }
     ensures reads { OnlyReads S.characters S.failures S.honest S.same_ground source.old source.new }
-    ensures faults { FailsAs Stop.Fault (OneOf (Stop.NoMemory ∷ Stop.Fault ∷ [])) result (S.failures source.old) (S.failures source.new) }
+    ensures faults { FailsAs Stop.Fault IsStop result (S.failures source.old) (S.failures source.new) }
 {
     let mut reader = Reader::open(text, 0);
     let mut characters = Vec::new(alloc);

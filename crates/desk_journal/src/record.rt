@@ -1,16 +1,17 @@
 //! The two steps that put an event into the journal.
-ghost use Rattle.std.specs.Prelude.{◌≡◌, ◌+◌, ◌<◌, ◌≤◌, true, false, ℕ, OnOk, IfOk, IsErrOf};
+ghost use Rattle.std.specs.Prelude.{◌≡◌, ◌+◌, ◌<◌, ◌≤◌, true, false, ℕ, Ok, OnOk, IfOk, IsErrOf};
 ghost use Rattle.sector_disk.specs.Trail.{LeavesOnly, Only, CountsFault, now};
 ghost use Rattle.sector_disk.specs.Confined.{IsConfined};
 ghost use Rattle.sector_disk.specs.Faults.{FailsAs};
 ghost use Rattle.event_bytes.specs.Spelling.{Begins};
 ghost use Rattle.event_loop_laws.specs.declared.reply.Reply.TheVariants.{No};
 ghost use Rattle.event_loop_laws.specs.Desktop.{Desktop};
+ghost use Rattle.event_loop_laws.specs.Outcome.{IsReply};
 ghost use Rattle.event_loop_laws.specs.Step.{step};
 ghost use Rattle.desk_journal.specs.Device.{IsSameDevice};
 ghost use Rattle.desk_journal.specs.Errors.{OfDesktop};
 ghost use Rattle.desk_journal.specs.Layout.{is_open, gate, body};
-ghost use Rattle.desk_journal.specs.Live.{shown, IsWhole};
+ghost use Rattle.desk_journal.specs.Live.{shown, IsLive};
 ghost use Rattle.desk_journal.specs.Meaning.{Means, MeansEither};
 ghost use Rattle.desk_journal.specs.Record.{NextRecord};
 ghost use Rattle.desk_journal.specs.View.{IsKept};
@@ -96,7 +97,7 @@ pub fn record<D: Disk>(
 ) -> Result<Reply, Error>
     requires room { STORE_SECTORS ≤ D.size disk.old }
     requires index { k < JOURNAL_EVENTS }
-    requires whole { IsWhole desktop.old }
+    requires over { IsLive desktop.old }
     ensures any_moment { D.honest disk.old → (number : ℕ) → IsKept (D.size disk.old) (D.trail disk.old) number k (shown desktop.old)
         → LeavesOnly (D.trail disk.old) (D.trail disk.new) (MeansEither (D.size disk.old) (shown desktop.old) (step (shown desktop.old) event.now).0) }
     ensures unrecorded { IsErrOf result Error.NoMemory → D.honest disk.old → (number : ℕ)
@@ -105,8 +106,9 @@ pub fn record<D: Disk>(
     ensures added { OnOk result (D.honest disk.old → (number : ℕ) → IsKept (D.size disk.old) (D.trail disk.old) number k (shown desktop.old)
         → IsKept (D.size disk.old) (D.trail disk.new) number (k + 1) (shown desktop.new)) }
     ensures stepped { IfOk result (λ reply. D.honest disk.old → (shown desktop.new, reply) ≡ step (shown desktop.old) event.now) }
-    ensures refusal { IfOk result (λ reply. (code : ℕ) → reply ≡ No code → desktop.new.desktop ≡ desktop.old.desktop) }
-    ensures whole { OnOk result (IsWhole desktop.new) }
+    ensures replies { IfOk result IsReply }
+    ensures refusal { (code : ℕ) → result ≡ Ok (No code) → desktop.new.desktop ≡ desktop.old.desktop }
+    ensures over { OnOk result (IsLive desktop.new) }
     ensures device { IsSameDevice D.Disk disk.old disk.new }
     ensures faults { FailsAs Error.Fault OfDesktop result (D.failures disk.old) (D.failures disk.new) }
 {

@@ -62,14 +62,14 @@ pub struct Store<D: Disk> {
 impl<D: Disk> Model for Store<D> {
     ghost use Rattle.std.specs.Prelude.{◌≡◌, ◌≤◌, false};
     ghost use Rattle.desk_journal.specs.declared.layout.TheConstants.{JOURNAL_EVENTS, STORE_SECTORS};
-    ghost use Rattle.desk_journal.specs.Live.{shown, IsWhole};
+    ghost use Rattle.desk_journal.specs.Live.{shown, IsLive};
     ghost use Rattle.desk_journal.specs.View.{StoreView, IsKept};
 
     ghost Value = { StoreView D };
 
     ghost view = { λ s. record { disk = s.disk; desktop = shown s.desktop; kept = s.desktop.desktop; epoch = 1; events = s.events; must_reopen = s.must_reopen } };
 
-    ghost invariant = { λ s. s.must_reopen ≡ false → (s.events ≤ JOURNAL_EVENTS) × (STORE_SECTORS ≤ D.Disk.size s.disk) × IsWhole s.desktop
+    ghost invariant = { λ s. s.must_reopen ≡ false → (s.events ≤ JOURNAL_EVENTS) × (STORE_SECTORS ≤ D.Disk.size s.disk) × IsLive s.desktop
         × (D.Disk.honest s.disk → IsKept (D.Disk.size s.disk) (D.Disk.trail s.disk) 1 s.events (shown s.desktop)) };
 }
 

@@ -48,7 +48,7 @@ loop-k-preserved g c =
           one_read (now (g.D.Disk.trail c.args.disk.now)).reads k (shown c.args.desktop.now) (shown c.loop-k.desktop) (shown c.step.new.self) c.in-Some.event (i.read honest) c.loop-k-test.true
           (subst (λ r. is_open (r (gate 0 k)) ≡ true) same found.0) (subst (λ r. Begins (r (body 0 k)) c.in-Some.event) same found.1)
           (ap (λ x. x.0) (c.in_ok-step-in-Some.ensures.done (c.read_event.ensures.kept.still mid)));
-      characters = c.in_ok-step-in-Some.ensures.whole;
+      over = c.in_ok-step-in-Some.ensures.over;
     }
 
 pub returns-clause-whole : goal.returns-clause-whole

@@ -1,7 +1,7 @@
 use Rattle.std.proofs.Common.{◌≡◌}
 use Rattle.sector_disk.specs.Trail.{Nowhere, now}
 use Rattle.sector_disk.specs.Confined.{IsConfined}
-use Rattle.desk_journal.specs.Live.{shown, IsWhole}
+use Rattle.desk_journal.specs.Live.{shown, IsLive}
 use Rattle.desk_journal.specs.Load.{IsReadTo}
 use Rattle.desk_journal.proofs.load.replay.Given as goal
 
@@ -11,5 +11,5 @@ invariant-loop-k g l = record {
   kept : IsConfined g.D.Disk.size g.D.Disk.honest g.D.Disk.trail Nowhere l.fn.disk l.disk;
   calm : g.D.Disk.failures l.disk ≡ g.D.Disk.failures l.fn.disk;
   read : g.D.Disk.honest l.fn.disk → IsReadTo (now (g.D.Disk.trail l.fn.disk)).reads 0 l.k (shown l.fn.desktop) (shown l.desktop);
-  characters : IsWhole l.desktop;
+  over : IsLive l.desktop;
 }
