@@ -8,6 +8,8 @@
 #[cfg(test)]
 mod characters;
 #[cfg(test)]
+mod crashes;
+#[cfg(test)]
 mod desktops;
 #[cfg(test)]
 mod disks;
@@ -16,7 +18,11 @@ mod events;
 #[cfg(test)]
 mod frames;
 #[cfg(test)]
+mod runs;
+#[cfg(test)]
 mod sources;
+#[cfg(test)]
+mod stores;
 #[cfg(test)]
 mod symbols;
 #[cfg(test)]

@@ -87,8 +87,8 @@ fn post<D: Disk>(alloc: Global, event: &Event, store: &mut Store<D>) -> Result<S
 fn show<D: Disk>(alloc: Global, name: &Name, store: &mut Store<D>) -> Result<Answer, PlayEnd>
     requires { store.old.must_reopen ≡ false }
     ensures answer { IfOk result (λ a. D.honest store.old.disk → bytes_of a ≡ answer (session_of store.old) (Show name.now)) }
-    ensures session { session_of store.new ≡ session_of store.old }
-    ensures usable { store.new.must_reopen ≡ false }
+    ensures session { D.honest store.old.disk → session_of store.new ≡ session_of store.old }
+    ensures usable { OnOk result (store.new.must_reopen ≡ false) }
     ensures calm { OnOk result (D.failures store.new.disk ≡ D.failures store.old.disk) }
     ensures cause { IsErrOf result ends.Fault → D.failures store.old.disk < D.failures store.new.disk }
     ensures named { IfErr result (λ end. (end ≡ ends.Fault) ⊎ (end ≡ ends.Memory)) }
@@ -107,8 +107,8 @@ fn show<D: Disk>(alloc: Global, name: &Name, store: &mut Store<D>) -> Result<Ans
 fn list<D: Disk>(alloc: Global, store: &mut Store<D>) -> Result<Vec<u8>, PlayEnd>
     requires { store.old.must_reopen ≡ false }
     ensures answer { IfOk result (λ text. D.honest store.old.disk → text.items ≡ answer (session_of store.old) Listing) }
-    ensures session { session_of store.new ≡ session_of store.old }
-    ensures usable { store.new.must_reopen ≡ false }
+    ensures session { D.honest store.old.disk → session_of store.new ≡ session_of store.old }
+    ensures usable { OnOk result (store.new.must_reopen ≡ false) }
     ensures calm { OnOk result (D.failures store.new.disk ≡ D.failures store.old.disk) }
     ensures cause { IsErrOf result ends.Fault → D.failures store.old.disk < D.failures store.new.disk }
     ensures named { IfErr result (λ end. (end ≡ ends.Fault) ⊎ (end ≡ ends.Memory)) }
@@ -126,8 +126,8 @@ fn list<D: Disk>(alloc: Global, store: &mut Store<D>) -> Result<Vec<u8>, PlayEnd
 fn screen<D: Disk>(alloc: Global, store: &mut Store<D>) -> Result<Vec<u8>, PlayEnd>
     requires { store.old.must_reopen ≡ false }
     ensures answer { IfOk result (λ text. D.honest store.old.disk → text.items ≡ answer (session_of store.old) Display) }
-    ensures session { session_of store.new ≡ session_of store.old }
-    ensures usable { store.new.must_reopen ≡ false }
+    ensures session { D.honest store.old.disk → session_of store.new ≡ session_of store.old }
+    ensures usable { OnOk result (store.new.must_reopen ≡ false) }
     ensures calm { OnOk result (D.failures store.new.disk ≡ D.failures store.old.disk) }
     ensures cause { IsErrOf result ends.Fault → D.failures store.old.disk < D.failures store.new.disk }
     ensures named { IfErr result (λ end. (end ≡ ends.Fault) ⊎ (end ≡ ends.Memory)) }
