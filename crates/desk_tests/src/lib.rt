@@ -18,6 +18,10 @@ mod events;
 #[cfg(test)]
 mod frames;
 #[cfg(test)]
+mod playing;
+#[cfg(test)]
+mod reports;
+#[cfg(test)]
 mod runs;
 #[cfg(test)]
 mod sources;

@@ -31,6 +31,7 @@ pub enum Refusal {
 }
 
 impl From<AllocError> for Refusal {
+    /// The arguments are refused where an allocation is.
     fn from(_refused: AllocError) -> Refusal {
         Refusal::Memory
     }
@@ -64,6 +65,7 @@ pub fn order_of<'a>(alloc: Global, words: &'a [String]) -> Result<Order<'a>, Ref
     }
 }
 
+/// The program as the command line has it: four commands.
 fn command<'a>(alloc: Global) -> Result<Command<'a>, AllocError> {
     Command::new(alloc, "oberon")
         .subcommand(over_a_path(alloc, "format")?)?
@@ -72,6 +74,7 @@ fn command<'a>(alloc: Global) -> Result<Command<'a>, AllocError> {
         .subcommand(over_a_path(alloc, "check")?)
 }
 
+/// A command over one path.
 fn over_a_path<'a>(alloc: Global, name: &'a str) -> Result<Command<'a>, AllocError> {
     let path = Arg::new(alloc, "path")
         .required(true)

@@ -1,11 +1,13 @@
-//! What the program asks of the host beside reads and writes of sectors: the lock on the store's file, and that the folder of a new file is durable.
+//! What the program asks of the host beside reads and writes of sectors: the lock on the store's file, and that the
+//! folder of a new file is durable.
 
 use desk_journal::Error;
 use std::fs::{File, OpenOptions, TryLockError};
 use std::io::ErrorKind;
 use std::{fs, io};
 
-/// Opens the file and takes its lock for this program alone. `Fault` where the file can't be read and written, or another program holds a lock on it. The lock lasts as long as the file that is returned.
+/// Opens the file and takes its lock for this program alone. `Fault` where the file can't be read and written, or
+/// another program holds a lock on it. The lock lasts as long as the file that is returned.
 pub fn lock_alone(rt: &HostRuntime, path: &str) -> Result<File, Error> {
     let file = opened(OpenOptions::new().read(true).write(true).open(rt, path))?;
     locked(file.try_lock())?;
@@ -32,7 +34,8 @@ pub fn lock_shared(rt: &HostRuntime, path: &str) -> Result<File, Error> {
     Ok(file)
 }
 
-/// Waits until the medium knows the file by its name, which is so when the folder that has it is synced. `Fault` where the host refuses that.
+/// Waits until the medium knows the file by its name, which is so when the folder that has it is synced. `Fault`
+/// where the host refuses that.
 pub fn sync_folder(rt: &HostRuntime, path: &str) -> Result<(), Error> {
     match synced_folder(rt, path) {
         Ok(()) => Ok(()),

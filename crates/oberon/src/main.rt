@@ -1,4 +1,5 @@
-//! The Oberon desktop as a program: `arguments` reads what it is asked to do, `host` locks the store's file, and the rest is the library's.
+//! The Oberon desktop as a program: `arguments` reads what it is asked to do, `host` locks the store's file, and the
+//! rest is the library's.
 #![tactic(auto)]
 
 mod arguments;
@@ -9,11 +10,8 @@ use crate::host::{lock_alone, lock_or_make, lock_shared, sync_folder};
 use desk_journal::{Error, Store};
 use oberon_main::{check, play, refuse, send, status};
 use screen_cells::Screen;
-use sector_disk::{Disk, FileDisk, MemoryDisk};
+use sector_disk::{Disk, FILE_SECTORS, FileDisk, MemoryDisk};
 use std::process::ExitCode;
-
-/// How many sectors a store in memory has.
-const SECTORS: u32 = 15_621;
 
 /// The status where the arguments are none of the program's.
 const USAGE: u8 = 2;
@@ -21,7 +19,8 @@ const USAGE: u8 = 2;
 /// The status where the disk, the input or the output failed.
 const FAULT: u8 = 4;
 
-/// The program. Its status is 0 when done, 2 for other arguments, 3 where there is no store or a damaged one, 4 after a fault of the disk, the input or the output, and 5 for want of memory.
+/// The program. Its status is 0 when done, 2 for other arguments, 3 where there is no store or a damaged one, 4 after
+/// a fault of the disk, the input or the output, and 5 for want of memory.
 fn main(rt: HostRuntime) -> ExitCode {
     ExitCode::from(run(&rt))
 }
@@ -59,7 +58,7 @@ fn decline(rt: &HostRuntime, refusal: Refusal) -> u8 {
 
 /// Plays the script on standard input over a new store in memory.
 fn play_in_memory(rt: &HostRuntime) -> Result<u8, Error> {
-    let disk = MemoryDisk::new(rt.alloc(), SECTORS)?;
+    let disk = MemoryDisk::new(rt.alloc(), FILE_SECTORS)?;
     match Store::format(disk) {
         Ok(disk) => play_over(rt, disk),
         Err((error, _disk)) => Err(error),

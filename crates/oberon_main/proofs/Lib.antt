@@ -1,4 +1,5 @@
 pub mod Decimals
+pub mod Ends
 pub mod Feeds
 pub mod Gathering
 pub mod LongLines

@@ -9,5 +9,6 @@ use Rattle.oberon_main.specs.declared.request.Request.TheVariants.{Malformed}
 
 pub long_malformed : (line : List ℕ) → longest_line < length line → request_of line ≡ Malformed
 unfolding request_of
-long_malformed line long = cond-false (is_readable line) (unwrap_or (command_of (word line) (argument line)) Malformed) Malformed
+long_malformed line long = cond-false (is_readable line)
+    (unwrap_or (command_of (word line) (argument line)) Malformed) Malformed
     (and_left _ (list_all is_printable line) (lt-leb (length line) longest_line long))

@@ -1,5 +1,6 @@
 -- The lines of an answer.
-use Rattle.std.specs.Prelude.{ℕ, ◌+◌, ◌/◌, ◌%◌, Bool, ◌==◌, ◌&&◌, not, nat_lt, if◌then◌else◌, List, [], ◌∷◌, ◌++◌, Option, Some, None, codes}
+use Rattle.std.specs.Prelude.{ℕ, ◌+◌, ◌/◌, ◌%◌, Bool, ◌==◌, ◌&&◌, not, nat_lt, if◌then◌else◌, List, [], ◌∷◌, ◌++◌,
+    Option, Some, None, codes}
 use Rattle.std.specs.List.{flat_map}
 use Rattle.std.specs.Fmt.{decimal, signed_decimal}
 use Rattle.std.specs.Ordering.{int_eq}
@@ -47,7 +48,7 @@ abbrev pub stretches : Text ℕ → List (Look × List ℕ)
 stretches [] = []
 stretches (c ∷ text) = joined c (stretches text)
 
--- font, colour and offset, each with a space behind it, and the bytes
+-- font, colour and offset, each with a space after it, and the bytes
 abbrev pub look_words : Look → List ℕ
 look_words look = decimal look.font ++ 32 ∷ decimal look.colour ++ 32 ∷ signed_decimal look.voff ++ 32 ∷ []
 

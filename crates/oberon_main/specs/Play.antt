@@ -1,6 +1,8 @@
--- What playing a script comes to. Before and after are the sessions; held and held' what the writer held and holds; left is what the
+-- What playing a script comes to. Before and after are the sessions; held and held' what the writer held and holds;
+-- left is what the
 -- reader has left.
-use Rattle.std.specs.Prelude.{◌≡◌, ◌≢◌, ℕ, List, [], ◌∷◌, ◌++◌, Option, Some, codes}
+use Rattle.std.specs.Prelude.{◌≡◌, ◌≢◌, ◌<◌, ◌≤◌, ◌⊎◌, ◌↔◌, ℕ, List, [], ◌∷◌, ◌++◌, Option, Some, IfSome, Result,
+    OnOk, IfErr, codes, false}
 use Rattle.std.specs.Io.KnownBytes.{Appends, Consumes, Keeps}
 use Rattle.oberon_main.specs.declared.playing.PlayEnd.{PlayEnd}
 use Rattle.oberon_main.specs.declared.playing.PlayEnd.TheVariants.{Done, Fault, Memory, Input, Output}
@@ -9,9 +11,14 @@ use Rattle.oberon_main.specs.declared.request.Request.{Request}
 use Rattle.oberon_main.specs.declared.request.Request.TheVariants.{Malformed}
 use Rattle.oberon_main.specs.Request.{request_of}
 use Rattle.oberon_main.specs.Session.{Session, answer, after, out, after_all}
+use Rattle.oberon_main.specs.declared.line.Line.{Line}
+use Rattle.oberon_main.specs.Reading.{Holds}
+use Rattle.oberon_main.specs.Opened.{session_of}
+use Rattle.sector_disk.specs.declared.disk.Disk.{Ghosts}
+use Rattle.desk_journal.specs.View.{StoreView}
 use Rattle.screen_cells.specs.Sent.{AppendsFront}
 
--- what stands behind the last answer
+-- what stands after the last answer
 abbrev pub last_word : PlayEnd → List ℕ
 last_word Done = []
 last_word Fault = ended (codes "fault")
@@ -19,46 +26,104 @@ last_word Memory = ended (codes "memory")
 last_word Input = ended (codes "input")
 last_word Output = []
 
--- Each line was answered, a last one without a line feed too.
-pub record IsPlayed (script : List ℕ) (before after : Session) (held held' : Option (List ℕ)) : Type 0 where
+-- no word
+abbrev pub no_word : PlayEnd → List ℕ
+no_word end = []
+
+-- The number of failures rose where the disk failed, and is equal otherwise.
+abbrev pub CountsEnd : PlayEnd → ℕ → ℕ → Type 0
+CountsEnd Done failed failed' = failed' ≡ failed
+CountsEnd Fault failed failed' = failed < failed'
+CountsEnd Memory failed failed' = failed' ≡ failed
+CountsEnd Input failed failed' = failed' ≡ failed
+CountsEnd Output failed failed' = failed' ≡ failed
+
+-- The text of a script each of whose lines is answered, a last one without a line feed too.
+pub record IsPlayed (script : List ℕ) (before after : Session) (text : List ℕ) : Type 0 where
   pub lines : List (List ℕ)
   pub rest : List ℕ
   pub split : IsSplit script lines rest
-  pub written : Appends held held' (out before (lines_at_end lines rest))
+  pub answers : text ≡ out before (lines_at_end lines rest)
   pub session : after ≡ after_all before (lines_at_end lines rest)
 
--- The lines before one that failed, and that wasn't malformed, were answered, and then the word was written.
-pub record IsStopped (word script : List ℕ) (before : Session) (held held' : Option (List ℕ)) : Type 0 where
+-- The text where a line that isn't malformed fails: the answers to the lines before it, and then the word.
+pub record IsStopped (word script : List ℕ) (before : Session) (text : List ℕ) : Type 0 where
   pub lines : List (List ℕ)
   pub failed : List ℕ
   pub asked : request_of failed ≢ Malformed
   pub begins : BeginsWith script (lines ++ failed ∷ [])
-  pub written : Appends held held' (out before lines ++ word)
+  pub answers : text ≡ out before lines ++ word
 
--- A read failed: the lines that had come whole were answered, and then the word was written.
-pub record IsCutOff (word script : List ℕ) (left : Option (List ℕ)) (before after : Session) (held held' : Option (List ℕ)) : Type 0 where
+-- The text where a read fails: the answers to the lines that came whole before it, and then the word.
+pub record IsCutOff (word script : List ℕ) (left : Option (List ℕ)) (before after : Session)
+    (text : List ℕ) : Type 0 where
   pub read : List ℕ
   pub came : Consumes (Some script) left read
   pub lines : List (List ℕ)
   pub rest : List ℕ
   pub split : IsSplit read lines rest
-  pub written : Appends held held' (out before lines ++ word)
+  pub answers : text ≡ out before lines ++ word
   pub session : after ≡ after_all before lines
 
--- The output failed: it took a front of the answers to the first lines, or of these answers and a last word.
-pub record IsHalted (script : List ℕ) (before : Session) (held held' : Option (List ℕ)) : Type 0 where
-  pub lines : List (List ℕ)
-  pub begins : BeginsWith script lines
-  pub cause : PlayEnd
-  pub written : AppendsFront held held' (out before lines ++ last_word cause)
+-- The text of a script that ends so, with this word last. There is none for an output that fails.
+abbrev pub TextOf : PlayEnd → List ℕ → List ℕ → Option (List ℕ) → Session → Session → List ℕ → Type 0
+TextOf Done word script left before after text = IsPlayed script before after text
+TextOf Fault word script left before after text = IsStopped word script before text
+TextOf Memory word script left before after text = IsStopped word script before text
+TextOf Input word script left before after text = IsCutOff word script left before after text
+TextOf Output word script left before after text = ⊥
 
--- what a script that ended so has come to, with this word behind the answers
-abbrev pub EndsAs : PlayEnd → List ℕ → List ℕ → Option (List ℕ) → Session → Session → Option (List ℕ) → Option (List ℕ) → Type 0
-EndsAs Done word script left before after held held' = IsPlayed script before after held held'
-EndsAs Fault word script left before after held held' = IsStopped word script before held held'
-EndsAs Memory word script left before after held held' = IsStopped word script before held held'
-EndsAs Input word script left before after held held' = IsCutOff word script left before after held held'
-EndsAs Output word script left before after held held' = IsHalted script before held held'
+-- The text of this end was written as a whole.
+pub record IsTold (end : PlayEnd) (word script : List ℕ) (left : Option (List ℕ)) (before after : Session)
+    (held held' : Option (List ℕ)) : Type 0 where
+  pub text : List ℕ
+  pub comes : TextOf end word script left before after text
+  pub written : Appends held held' text
+
+-- The output failed: it took a prefix of the text of another end that the script could have had, and the disk failed
+-- just where that end is a fault.
+pub record IsHalted (script : List ℕ) (left : Option (List ℕ)) (before : Session) (failed failed' : ℕ)
+    (held held' : Option (List ℕ)) : Type 0 where
+  pub end : PlayEnd
+  pub after : Session
+  pub text : List ℕ
+  pub comes : TextOf end (last_word end) script left before after text
+  pub counts : CountsEnd end failed failed'
+  pub written : AppendsFront held held' text
+
+-- what a script that ended so has come to, with this word after the answers
+abbrev pub EndsAs : PlayEnd → List ℕ → List ℕ → Option (List ℕ) → Session → Session → ℕ → ℕ → Option (List ℕ)
+    → Option (List ℕ) → Type 0
+EndsAs Done word script left before after failed failed' held held' =
+    IsTold Done word script left before after held held'
+EndsAs Fault word script left before after failed failed' held held' =
+    IsTold Fault word script left before after held held'
+EndsAs Memory word script left before after failed failed' held held' =
+    IsTold Memory word script left before after held held'
+EndsAs Input word script left before after failed failed' held held' =
+    IsTold Input word script left before after held held'
+EndsAs Output word script left before after failed failed' held held' =
+    IsHalted script left before failed failed' held held'
+
+-- A script was played over a store, and ended so, with what `word` says of an end after the answers.
+pub record Plays {D : Type 0} (word : PlayEnd → List ℕ) (d : Ghosts D) (end : PlayEnd) (left left' held held' : Option
+    (List ℕ)) (old new : StoreView D) : Type 0 where
+  -- over an honest disk, what was written and what the store then shows are those of the script
+  pub told : d.honest old.disk
+      → IfSome left (λ script. EndsAs end (word end) script left' (session_of old) (session_of new)
+          (d.failures old.disk) (d.failures new.disk) held held')
+  -- after another end the store may have to be opened again
+  pub usable : (end ≡ Done) ⊎ (end ≡ Input) → new.must_reopen ≡ false
+  -- the disk is as honest as it was
+  pub premise : d.honest new.disk ↔ d.honest old.disk
+
+-- The failures that a script leaves: as CountsEnd has it, but an output may also have failed in the word of a fault.
+abbrev pub CountsPlay : PlayEnd → ℕ → ℕ → Type 0
+CountsPlay Done failed failed' = failed' ≡ failed
+CountsPlay Fault failed failed' = failed < failed'
+CountsPlay Memory failed failed' = failed' ≡ failed
+CountsPlay Input failed failed' = failed' ≡ failed
+CountsPlay Output failed failed' = failed ≤ failed'
 
 -- ---- one line
 
@@ -67,7 +132,8 @@ pub record IsAnswered (request : Request) (before after_it : Session) (held held
   pub written : Appends held held' (answer before request)
   pub session : after_it ≡ after before request
 
--- A request whose answer wasn't written as a whole: nothing of it was, or the output failed in it. A malformed line is always answered.
+-- A request whose answer wasn't written as a whole: nothing of it was, or the output failed in it. A malformed line
+-- is always answered.
 abbrev pub LineEndsAs : PlayEnd → Request → Session → Option (List ℕ) → Option (List ℕ) → Type 0
 LineEndsAs Done request before held held' = ⊥
 LineEndsAs Fault request before held held' = Keeps held held' × (request ≢ Malformed)
@@ -75,12 +141,23 @@ LineEndsAs Memory request before held held' = Keeps held held' × (request ≢ M
 LineEndsAs Input request before held held' = ⊥
 LineEndsAs Output request before held held' = AppendsFront held held' (answer before request)
 
--- What stands behind the last line feed: nothing, or a line.
+-- A line was played over a store, whatever the line is that is held.
+pub record PlaysLine {D : Type 0} (d : Ghosts D) (line : Line) (result : Result Unit PlayEnd)
+    (held held' : Option (List ℕ)) (old new : StoreView D) : Type 0 where
+  pub answered : OnOk result (d.honest old.disk → (bytes : List ℕ) → Holds line bytes
+      → IsAnswered (request_of bytes) (session_of old) (session_of new) held held')
+  pub unanswered : IfErr result (λ end. d.honest old.disk → (bytes : List ℕ) → Holds line bytes
+      → LineEndsAs end (request_of bytes) (session_of old) held held')
+  pub usable : OnOk result (new.must_reopen ≡ false)
+  pub premise : d.honest new.disk ↔ d.honest old.disk
+
+-- What stands after the last line feed: nothing, or a line.
 pub record IsLastAnswered (rest : List ℕ) (before after_it : Session) (held held' : Option (List ℕ)) : Type 0 where
   pub written : Appends held held' (out before (lines_at_end [] rest))
   pub session : after_it ≡ after_all before (lines_at_end [] rest)
 
-pub record IsLastStopped (end : PlayEnd) (rest : List ℕ) (before : Session) (held held' : Option (List ℕ)) : Type 0 where
+pub record IsLastStopped (end : PlayEnd) (rest : List ℕ) (before : Session)
+    (held held' : Option (List ℕ)) : Type 0 where
   pub there : rest ≢ []
   pub why : LineEndsAs end (request_of rest) before held held'
 

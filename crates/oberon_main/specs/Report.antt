@@ -9,7 +9,8 @@ use Rattle.oberon_main.specs.Script.{ended}
 
 -- a store that can be used: its layout, its epoch, and how many events its journal has
 abbrev pub check_line : ℕ → ℕ → ℕ → List ℕ
-check_line layout epoch events = ended (codes "ok layout " ++ decimal layout ++ codes " epoch " ++ decimal epoch ++ codes " events " ++ decimal events)
+check_line layout epoch events = ended (codes "ok layout " ++ decimal layout ++ codes " epoch " ++ decimal epoch
+    ++ codes " events " ++ decimal events)
 
 abbrev pub refusal_line : Error → List ℕ
 refusal_line NotAStore = ended (codes "not a store")

@@ -1,5 +1,6 @@
 -- What a line of a script asks for.
-use Rattle.std.specs.Prelude.{ℕ, ◌+◌, ◌-◌, ◌*◌, Bool, ◌==◌, ◌&&◌, nat_le, if◌then◌else◌, List, [], ◌∷◌, length, drop, Option, Some, None, unwrap_or, position, codes}
+use Rattle.std.specs.Prelude.{ℕ, ◌+◌, ◌-◌, ◌*◌, Bool, ◌==◌, ◌&&◌, nat_le, if◌then◌else◌, List, [], ◌∷◌, length, drop,
+    Option, Some, None, unwrap_or, position, codes}
 use Rattle.std.specs.Option.{option_map}
 use Rattle.std.specs.List.{list_all, before_first}
 use Rattle.std.specs.Str.{bytes_eq}
@@ -19,7 +20,7 @@ is_space b = b == 32
 abbrev pub word : List ℕ → List ℕ
 word line = before_first is_space line
 
--- what stands behind the first space, None where there is none
+-- what stands after the first space, None where there is none
 abbrev pub argument : List ℕ → Option (List ℕ)
 argument line = option_map (λ i. drop (i + 1) line) (position is_space line)
 
@@ -44,8 +45,8 @@ byte_of_digits high low = do
   l ← digit_value low
   Some (16 * h + l)
 
--- The bytes that a text stands for: each byte for itself, but a percent sign and the two hexadecimal digits behind it
--- for the byte that they spell. None where a percent sign has no such digits behind it.
+-- The bytes that a text stands for: each byte for itself, but a percent sign and the two hexadecimal digits after it
+-- for the byte that they spell. None where a percent sign has no such digits after it.
 unfoldable mutual
   pub meant : List ℕ → Option (List ℕ)
   meant [] = Some []
@@ -70,9 +71,10 @@ file_of name text = do
 abbrev pub show_of : List ℕ → Option Request
 show_of name = if is_name name then Some (Show name) else None
 
--- a command by its word, and what stands behind the word's one space
+-- a command by its word, and what stands after the word's one space
 unfoldable pub command_of : List ℕ → Option (List ℕ) → Option Request
-command_of name None = if bytes_eq name (codes "list") then Some Listing else (if bytes_eq name (codes "screen") then Some Display else None)
+command_of name None = if bytes_eq name (codes "list") then Some Listing else
+    (if bytes_eq name (codes "screen") then Some Display else None)
 command_of name (Some rest) = if bytes_eq name (codes "show") then show_of rest
     else (if bytes_eq name (codes "file") then file_of (word rest) (unwrap_or (argument rest) []) else None)
 

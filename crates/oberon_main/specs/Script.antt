@@ -10,7 +10,7 @@ ended line = line ++ 10 ∷ []
 abbrev pub IsLine : List ℕ → Type 0
 IsLine bytes = AllByRecursion (λ b. b ≢ 10) bytes
 
--- The bytes are these lines, each with its line feed, and behind the last one a rest without a line feed.
+-- The bytes are these lines, each with its line feed, and after the last one a rest without a line feed.
 pub record IsSplit (bytes : List ℕ) (lines : List (List ℕ)) (rest : List ℕ) : Type 0 where
   pub whole : bytes ≡ flat_map ended lines ++ rest
   pub each : AllByRecursion IsLine lines

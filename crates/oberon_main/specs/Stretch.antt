@@ -1,4 +1,4 @@
--- The front of a text in one look.
+-- The beginning of a text in one look.
 use Rattle.std.specs.Prelude.{ℕ, Bool, not, List, map}
 use Rattle.std.specs.List.{position_or_len}
 use Rattle.piece_ring.specs.declared.piece.Look.{Look}

@@ -1,8 +1,40 @@
--- The bytes of an answer that was worked out.
-use Rattle.std.specs.Prelude.{ℕ, List}
+-- An answer that was worked out.
+use Rattle.std.specs.Prelude.{◌≡◌, ◌↔◌, ◌∷◌, [], ℕ, List, Result, IfOk, OnOk, false}
+use Rattle.sector_disk.specs.declared.disk.Disk.{Ghosts}
+use Rattle.sector_disk.specs.Faults.{OneOf}
+use Rattle.desk_journal.specs.declared.error.Error.{Error}
+use Rattle.desk_journal.specs.declared.error.Error.TheVariants.{NoMemory}
+use Rattle.desk_journal.specs.View.{StoreView}
 use Rattle.oberon_main.specs.declared.answering.Answer.{Answer}
 use Rattle.oberon_main.specs.declared.answering.Answer.TheVariants.{Short, Long}
+use Rattle.oberon_main.specs.declared.playing.PlayEnd.{PlayEnd}
+use Rattle.oberon_main.specs.declared.playing.PlayEnd.TheVariants.{Fault, Memory}
+use Rattle.oberon_main.specs.declared.request.Request.{Request}
+use Rattle.oberon_main.specs.Opened.{session_of}
+use Rattle.oberon_main.specs.Session.{answer, after}
 
+-- its bytes
 abbrev pub bytes_of : Answer → List ℕ
 bytes_of (Short line) = line.items
 bytes_of (Long text) = text.items
+
+-- how a script ends where the store refuses: for want of memory, or else as after a fault of the disk
+abbrev pub end_of : Error → PlayEnd
+end_of NoMemory = Memory
+end_of _ = Fault
+
+-- why no answer is worked out
+abbrev pub IsWorkEnd : PlayEnd → Type 0
+IsWorkEnd end = OneOf (Fault ∷ Memory ∷ []) end
+
+-- The answer to a request was worked out over a store, or could not be. What the store shows in the second case isn't
+-- said.
+pub record IsWorkedOut {D : Type 0} (d : Ghosts D) (request : Request) (result : Result Answer PlayEnd)
+    (old new : StoreView D) : Type 0 where
+  -- over an honest disk the bytes are those of the answer, and the session is the one after the request
+  pub bytes : IfOk result (λ a. d.honest old.disk → bytes_of a ≡ answer (session_of old) request)
+  pub session : OnOk result (d.honest old.disk → session_of new ≡ after (session_of old) request)
+  -- the next request can be worked out
+  pub usable : OnOk result (new.must_reopen ≡ false)
+  -- the disk is as honest as it was
+  pub premise : d.honest new.disk ↔ d.honest old.disk

@@ -3,7 +3,8 @@ ghost use Rattle.std.specs.Prelude.{◌≡◌, ◌+◌, ◌<◌, ◌≤◌, ◌+
 ghost use Rattle.std.specs.Fmt.{decimal, signed_decimal};
 ghost use Rattle.arrayvec.specs.ArrayVec.{array_vec_len};
 ghost use Rattle.oberon_main.specs.Script.{ended};
-ghost use Rattle.oberon_main.specs.Answer.{reply_line, refusal_line, digit as digit_of, shown_byte, shown, is_same_look, look_words, stretch_line, text_lines, entry_line, list_lines};
+ghost use Rattle.oberon_main.specs.Answer.{reply_line, refusal_line, digit as digit_of, shown_byte, shown};
+ghost use Rattle.oberon_main.specs.Answer.{is_same_look, look_words, stretch_line, text_lines, entry_line, list_lines};
 ghost use Rattle.screen_cells.specs.Printed.{printed};
 ghost use Rattle.oberon_main.specs.Stretch.{bytes_in, is_in_another, count_in};
 
@@ -19,7 +20,7 @@ pub type ShortLine = ArrayVec<u8, 64>;
 /// The digits of a number.
 pub type Digits = ArrayVec<u8, 10>;
 
-/// A text and a line feed behind it.
+/// A text and a line feed after it.
 pub fn short_line(text: &[u8]) -> ShortLine
     requires { length text.now < 64 }
     ensures { result.items ≡ ended text.now }
@@ -60,7 +61,11 @@ pub fn numbered_line(word: &[u8], number: u32) -> ShortLine
 }
 
 /// The number in decimal digits, without leading zeros.
-#[tactic(auto, using(crate::proofs::Decimals::one_digit, crate::proofs::Decimals::last_digit, crate::proofs::Decimals::front_fits))]
+#[tactic(auto, using(
+    crate::proofs::Decimals::one_digit,
+    crate::proofs::Decimals::last_digit,
+    crate::proofs::Decimals::front_fits,
+))]
 pub fn decimal_digits(number: u32) -> Digits
     ensures { result.items ≡ decimal number }
 {
@@ -81,9 +86,9 @@ pub fn text_bytes(alloc: Global, text: &[(u8, Look)]) -> Result<Vec<u8>, AllocEr
     let mut bytes = Vec::new(alloc);
     let mut rest = text;
     while let Some(first) = rest.first() {
-        let (stretch, behind) = rest.split_at(count_in_look(rest, first.1));
+        let (stretch, others) = rest.split_at(count_in_look(rest, first.1));
         push_stretch(&mut bytes, first.1, stretch)?;
-        rest = behind;
+        rest = others;
     }
     bytes.extend_from_slice(b"end\n")?;
     Ok(bytes)
@@ -99,7 +104,7 @@ fn push_stretch(text: &mut Vec<u8>, look: Look, stretch: &[(u8, Look)]) -> Resul
     Ok(())
 }
 
-/// How many characters at the front have the look.
+/// How many characters at the beginning have the look.
 fn count_in_look(text: &[(u8, Look)], look: Look) -> usize
     ensures count { result ≡ count_in look text.now }
     ensures within { result ≤ length text.now }
@@ -118,13 +123,14 @@ fn other_look(text: &[(u8, Look)], look: Look) -> Option<usize>
     text.iter().position(|c| !is_same(look, c.1))
 }
 
+/// Whether two looks are one.
 fn is_same(a: Look, b: Look) -> bool
     ensures { result ≡ is_same_look a b }
 {
     a.font == b.font && a.colour == b.colour && a.voff == b.voff
 }
 
-/// Adds font, colour and offset, each with a space behind it.
+/// Adds font, colour and offset, each with a space after it.
 fn push_look(text: &mut Vec<u8>, look: Look) -> Result<(), AllocError>
     ensures { OnOk result (text.new.items ≡ text.old.items ++ look_words look) }
 {
@@ -137,7 +143,7 @@ fn push_look(text: &mut Vec<u8>, look: Look) -> Result<(), AllocError>
     Ok(())
 }
 
-/// Adds a number, a negative one with a minus in front.
+/// Adds a number, a negative one with a minus before it.
 fn push_signed(text: &mut Vec<u8>, number: i8) -> Result<(), AllocError>
     ensures { OnOk result (text.new.items ≡ text.old.items ++ signed_decimal number) }
 {
@@ -158,6 +164,7 @@ fn push_shown(text: &mut Vec<u8>, characters: &[(u8, Look)]) -> Result<(), Alloc
     Ok(())
 }
 
+/// A byte as a script spells it: itself, or a percent sign and two hexadecimal digits.
 fn shown_bytes(byte: u8) -> ArrayVec<u8, 3>
     ensures { result.items ≡ shown_byte byte }
 {
@@ -172,6 +179,7 @@ fn shown_bytes(byte: u8) -> ArrayVec<u8, 3>
     shown
 }
 
+/// A hexadecimal digit, in lower case.
 fn digit(value: u8) -> u8
     requires { value < 16 }
     ensures { result ≡ digit_of value }
@@ -195,6 +203,7 @@ pub fn list_bytes(alloc: Global, entries: &[Entry]) -> Result<Vec<u8>, AllocErro
     Ok(text)
 }
 
+/// Adds the line of an entry.
 fn push_entry(text: &mut Vec<u8>, entry: &Entry) -> Result<(), AllocError>
     ensures { OnOk result (text.new.items ≡ text.old.items ++ entry_line entry.now) }
 {
@@ -214,7 +223,7 @@ fn push_entry(text: &mut Vec<u8>, entry: &Entry) -> Result<(), AllocError>
     Ok(())
 }
 
-/// The printed screen. A writer in memory fails only where a growth is refused.
+/// The printed screen. A writer in memory fails only where an allocation is refused.
 pub fn screen_bytes(alloc: Global, screen: &Screen) -> Result<Vec<u8>, AllocError>
     ensures { IfOk result (λ text. text.items ≡ printed screen.now) }
 {

@@ -1,11 +1,10 @@
-//! Working out what a request is answered, over a store.
-ghost use Rattle.std.specs.Prelude.{◌≡◌, ◌⊎◌, ◌<◌, ◌↔◌, false, IfOk, IfErr, IsOk, OnOk, IsErrOf};
-ghost use Rattle.event_bytes.specs.declared.event.Event.{Event as AnEvent};
+//! The answer to a request, worked out over a store.
+ghost use Rattle.std.specs.Prelude.{◌≡◌, ◌≢◌, false, IsOk, IfOk, IfErr, codes};
+ghost use Rattle.sector_disk.specs.Faults.{FailsAs};
 ghost use Rattle.oberon_main.specs.declared.request.Request.TheVariants.{Post, Show, Listing, Display, Malformed};
 ghost use Rattle.oberon_main.specs.declared.playing.PlayEnd.TheVariants as ends;
-ghost use Rattle.oberon_main.specs.Session.{answer, after};
-ghost use Rattle.oberon_main.specs.Opened.{session_of};
-ghost use Rattle.oberon_main.specs.Worked.{bytes_of};
+ghost use Rattle.oberon_main.specs.Script.{ended};
+ghost use Rattle.oberon_main.specs.Worked.{bytes_of, end_of, IsWorkEnd, IsWorkedOut};
 
 use crate::answer::{
     ShortLine, list_bytes, refusal_bytes, reply_bytes, screen_bytes, short_line, text_bytes,
@@ -18,7 +17,7 @@ use screen_cells::Screen;
 use sector_disk::Disk;
 use std::alloc::Global;
 
-/// The bytes of an answer: a short line, which takes no memory, or lines of a look at the desktop.
+/// An answer: a short line, which takes no memory, or the lines of a look at the desktop.
 #[derive(Drop)]
 pub enum Answer {
     Short(ShortLine),
@@ -26,7 +25,7 @@ pub enum Answer {
 }
 
 impl Answer {
-    /// The bytes.
+    /// Its bytes, with the line feed of each line.
     pub fn as_bytes(&self) -> &[u8]
         ensures { result.now ≡ bytes_of self.now }
     {
@@ -37,7 +36,7 @@ impl Answer {
     }
 }
 
-/// The answer to a request, as a whole. An event is posted, and nothing else changes the store.
+/// Works out the answer to a request as a whole. An event is posted, and nothing else changes the store.
 #[tactic(auto, unfolding(crate::specs::Session::answer, crate::specs::Session::after))]
 pub fn work_out<D: Disk>(
     alloc: Global,
@@ -45,100 +44,76 @@ pub fn work_out<D: Disk>(
     store: &mut Store<D>,
 ) -> Result<Answer, PlayEnd>
     requires { store.old.must_reopen ≡ false }
-    ensures answer { IfOk result (λ a. D.honest store.old.disk → bytes_of a ≡ answer (session_of store.old) request.now) }
-    ensures session { OnOk result (D.honest store.old.disk → session_of store.new ≡ after (session_of store.old) request.now) }
-    ensures usable { OnOk result (store.new.must_reopen ≡ false) }
-    ensures calm { OnOk result (D.failures store.new.disk ≡ D.failures store.old.disk) }
-    ensures cause { IsErrOf result ends.Fault → D.failures store.old.disk < D.failures store.new.disk }
-    ensures named { IfErr result (λ end. (end ≡ ends.Fault) ⊎ (end ≡ ends.Memory)) }
+    ensures worked_out { IsWorkedOut D.Disk request.now result store.old store.new }
+    ensures faults { FailsAs ends.Fault IsWorkEnd result (D.failures store.old.disk) (D.failures store.new.disk) }
     ensures malformed { request.now ≡ Malformed → IsOk result }
-    ensures premise { D.honest store.new.disk ↔ D.honest store.old.disk }
 {
     match request {
-        Request::Post(event) => Ok(Answer::Short(post(alloc, event, store)?)),
+        Request::Post(event) => post(alloc, event, store),
         Request::Show(name) => show(alloc, name, store),
-        Request::Listing => Ok(Answer::Long(list(alloc, store)?)),
-        Request::Display => Ok(Answer::Long(screen(alloc, store)?)),
+        Request::Listing => list(alloc, store),
+        Request::Display => screen(alloc, store),
         Request::Malformed => Ok(Answer::Short(short_line(b"?"))),
     }
 }
 
-/// Posts an event. The answer is the reply, or `full` at a full journal.
-fn post<D: Disk>(alloc: Global, event: &Event, store: &mut Store<D>) -> Result<ShortLine, PlayEnd>
+/// Posts an event. Its answer is the reply, or `full` at a full journal.
+fn post<D: Disk>(alloc: Global, event: &Event, store: &mut Store<D>) -> Result<Answer, PlayEnd>
     requires { store.old.must_reopen ≡ false }
-    ensures answer { IfOk result (λ line. D.honest store.old.disk → line.items ≡ answer (session_of store.old) (Post event.now)) }
-    ensures session { OnOk result (D.honest store.old.disk → session_of store.new ≡ after (session_of store.old) (Post event.now)) }
-    ensures usable { OnOk result (store.new.must_reopen ≡ false) }
-    ensures calm { OnOk result (D.failures store.new.disk ≡ D.failures store.old.disk) }
-    ensures cause { IsErrOf result ends.Fault → D.failures store.old.disk < D.failures store.new.disk }
-    ensures named { IfErr result (λ end. (end ≡ ends.Fault) ⊎ (end ≡ ends.Memory)) }
-    ensures premise { D.honest store.new.disk ↔ D.honest store.old.disk }
+    ensures worked_out { IsWorkedOut D.Disk (Post event.now) result store.old store.new }
+    ensures faults { FailsAs ends.Fault IsWorkEnd result (D.failures store.old.disk) (D.failures store.new.disk) }
 {
     match store.post(alloc, event) {
-        Ok(reply) => Ok(reply_bytes(reply)),
-        Err(Error::JournalFull) => Ok(short_line(b"full")),
-        Err(Error::NoMemory) => Err(PlayEnd::Memory),
-        Err(_) => Err(PlayEnd::Fault),
+        Ok(reply) => Ok(Answer::Short(reply_bytes(reply))),
+        Err(error) => refused(error),
     }
 }
 
-/// The lines of a file's text, or that there is no such file.
+/// What a post comes to that was refused: `full` at a full journal, else the script ends.
+fn refused(error: Error) -> Result<Answer, PlayEnd>
+    ensures full { IfOk result (λ a. (error ≡ Error.JournalFull) × (bytes_of a ≡ ended (codes "full"))) }
+    ensures other { IfErr result (λ end. (error ≢ Error.JournalFull) × (end ≡ end_of error)) }
+{
+    match error {
+        Error::JournalFull => Ok(Answer::Short(short_line(b"full"))),
+        _ => Err(PlayEnd::from(error)),
+    }
+}
+
+/// Works out the lines of a file's text, or that there is no such file.
 #[tactic(auto, unfolding(crate::specs::Session::answer, crate::specs::Session::after))]
 fn show<D: Disk>(alloc: Global, name: &Name, store: &mut Store<D>) -> Result<Answer, PlayEnd>
     requires { store.old.must_reopen ≡ false }
-    ensures answer { IfOk result (λ a. D.honest store.old.disk → bytes_of a ≡ answer (session_of store.old) (Show name.now)) }
-    ensures session { D.honest store.old.disk → session_of store.new ≡ session_of store.old }
-    ensures usable { OnOk result (store.new.must_reopen ≡ false) }
-    ensures calm { OnOk result (D.failures store.new.disk ≡ D.failures store.old.disk) }
-    ensures cause { IsErrOf result ends.Fault → D.failures store.old.disk < D.failures store.new.disk }
-    ensures named { IfErr result (λ end. (end ≡ ends.Fault) ⊎ (end ≡ ends.Memory)) }
-    ensures premise { D.honest store.new.disk ↔ D.honest store.old.disk }
+    ensures worked_out { IsWorkedOut D.Disk (Show name.now) result store.old store.new }
+    ensures faults { FailsAs ends.Fault IsWorkEnd result (D.failures store.old.disk) (D.failures store.new.disk) }
 {
-    match store.file(alloc, name) {
-        Ok(None) => Ok(Answer::Short(refusal_bytes(NO_SUCH_FILE))),
-        Ok(Some(text)) => Ok(Answer::Long(text_bytes(alloc, text.as_slice())?)),
-        Err(Error::NoMemory) => Err(PlayEnd::Memory),
-        Err(_) => Err(PlayEnd::Fault),
+    match store.file(alloc, name)? {
+        None => Ok(Answer::Short(refusal_bytes(NO_SUCH_FILE))),
+        Some(text) => Ok(Answer::Long(text_bytes(alloc, text.as_slice())?)),
     }
 }
 
-/// The lines of what the desktop has.
+/// Works out the lines of what the desktop has.
 #[tactic(auto, unfolding(crate::specs::Session::answer, crate::specs::Session::after))]
-fn list<D: Disk>(alloc: Global, store: &mut Store<D>) -> Result<Vec<u8>, PlayEnd>
+fn list<D: Disk>(alloc: Global, store: &mut Store<D>) -> Result<Answer, PlayEnd>
     requires { store.old.must_reopen ≡ false }
-    ensures answer { IfOk result (λ text. D.honest store.old.disk → text.items ≡ answer (session_of store.old) Listing) }
-    ensures session { D.honest store.old.disk → session_of store.new ≡ session_of store.old }
-    ensures usable { OnOk result (store.new.must_reopen ≡ false) }
-    ensures calm { OnOk result (D.failures store.new.disk ≡ D.failures store.old.disk) }
-    ensures cause { IsErrOf result ends.Fault → D.failures store.old.disk < D.failures store.new.disk }
-    ensures named { IfErr result (λ end. (end ≡ ends.Fault) ⊎ (end ≡ ends.Memory)) }
-    ensures premise { D.honest store.new.disk ↔ D.honest store.old.disk }
+    ensures worked_out { IsWorkedOut D.Disk Listing result store.old store.new }
+    ensures faults { FailsAs ends.Fault IsWorkEnd result (D.failures store.old.disk) (D.failures store.new.disk) }
 {
-    match store.list(alloc) {
-        Ok(entries) => Ok(list_bytes(alloc, entries.as_slice())?),
-        Err(Error::NoMemory) => Err(PlayEnd::Memory),
-        Err(_) => Err(PlayEnd::Fault),
-    }
+    let entries = store.list(alloc)?;
+    Ok(Answer::Long(list_bytes(alloc, entries.as_slice())?))
 }
 
-/// The printed screen.
+/// Works out the printed screen.
 #[tactic(auto, unfolding(crate::specs::Session::answer, crate::specs::Session::after))]
-fn screen<D: Disk>(alloc: Global, store: &mut Store<D>) -> Result<Vec<u8>, PlayEnd>
+fn screen<D: Disk>(alloc: Global, store: &mut Store<D>) -> Result<Answer, PlayEnd>
     requires { store.old.must_reopen ≡ false }
-    ensures answer { IfOk result (λ text. D.honest store.old.disk → text.items ≡ answer (session_of store.old) Display) }
-    ensures session { D.honest store.old.disk → session_of store.new ≡ session_of store.old }
-    ensures usable { OnOk result (store.new.must_reopen ≡ false) }
-    ensures calm { OnOk result (D.failures store.new.disk ≡ D.failures store.old.disk) }
-    ensures cause { IsErrOf result ends.Fault → D.failures store.old.disk < D.failures store.new.disk }
-    ensures named { IfErr result (λ end. (end ≡ ends.Fault) ⊎ (end ≡ ends.Memory)) }
-    ensures premise { D.honest store.new.disk ↔ D.honest store.old.disk }
+    ensures worked_out { IsWorkedOut D.Disk Display result store.old store.new }
+    ensures faults { FailsAs ends.Fault IsWorkEnd result (D.failures store.old.disk) (D.failures store.new.disk) }
 {
     let mut screen = Screen::new();
-    match store.screen(alloc, &mut screen) {
-        Ok(()) => Ok(screen_bytes(alloc, &screen)?),
-        Err(Error::NoMemory) => Err(PlayEnd::Memory),
-        Err(_) => Err(PlayEnd::Fault),
-    }
+    store.screen(alloc, &mut screen)?;
+    Ok(Answer::Long(screen_bytes(alloc, &screen)?))
 }
 
 /// The refusal of a look at a file that isn't there.

@@ -1,6 +1,8 @@
 //! Scripts over a store: what they are answered, and what else the program says of a store.
 //!
-//! A script comes in (`line`), each of its lines is read (`request`), its answer worked out over the store (`answering`, `answer`) and written (`sending`); `playing` is the whole of that. `report` says what else there is to say of a store.
+//! A script comes in (`line`), each of its lines is read (`request`), its answer worked out over the store
+//! (`answering`, `answer`) and written (`sending`); `playing` is the whole of that. `report` says what else there is
+//! to say of a store.
 #![tactic(auto)]
 
 mod answer;

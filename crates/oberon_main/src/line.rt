@@ -1,5 +1,6 @@
 //! Taking the lines of a script from a reader, in whatever pieces it gives them.
-ghost use Rattle.std.specs.Prelude.{◌≡◌, ◌==◌, ℕ, List, [], ◌∷◌, ◌+◌, ◌<◌, ◌≤◌, ◌++◌, ◌↔◌, length, position, IsTrue, true, false, Some, IfSome, MatchOption};
+ghost use Rattle.std.specs.Prelude.{◌≡◌, ◌==◌, ℕ, List, [], ◌∷◌, ◌+◌, ◌<◌, ◌≤◌, ◌++◌, ◌↔◌, length, position, IsTrue};
+ghost use Rattle.std.specs.Prelude.{true, false, Some, IfSome, MatchOption};
 ghost use Rattle.std.specs.Io.KnownBytes.{Consumes, IsAtEnd};
 ghost use Rattle.oberon_main.specs.Script.{ended, IsLine};
 ghost use Rattle.oberon_main.specs.Request.{request_of};
@@ -47,6 +48,7 @@ impl Line {
         !self.is_long && self.bytes.is_empty()
     }
 
+    /// Makes it the empty line.
     fn clear(&mut self)
         ensures { Holds self.new [] }
     {
@@ -54,6 +56,7 @@ impl Line {
         self.is_long = false;
     }
 
+    /// Adds bytes at its end.
     fn extend(&mut self, bytes: &[u8])
         ensures { (line : List ℕ) → Holds self.old line → Holds self.new (line ++ bytes.now) }
     {
@@ -75,7 +78,7 @@ pub enum Ending {
     Fault,
 }
 
-/// A script on its way from a reader: a piece of it, of which a front is in lines already.
+/// A script on its way from a reader: a piece of it, of which a prefix is in lines already.
 ///
 /// A clause sees what of the piece is in no line yet, and how many reads may follow.
 #[derive(Drop)]
@@ -101,7 +104,8 @@ impl Model for Script {
 impl Script {
     ghost use Rattle.oberon_main.specs.Reading.{Holds, TakesLine, TakesRest, most_lines};
 
-    /// A script of which nothing is read yet, and that may take so many reads before the one that says that it is at its end.
+    /// A script of which nothing is read yet, and that may take so many reads before the one that says that it is at
+    /// its end.
     pub fn new(reads: u32) -> Script
         ensures pending { result.pending ≡ [] }
         ensures reads { result.reads ≡ reads }
@@ -116,9 +120,11 @@ impl Script {
 
     /// Takes the next line from the reader. It ends at a line feed, at the end of the script, or where a read fails.
     pub fn take_line<R: Read>(&mut self, line: &mut Line, reader: &mut R) -> Ending
-        ensures line { result ≡ Ending.Feed → TakesLine self.old self.new (R.remaining reader.old) (R.remaining reader.new) line.new }
+        ensures line { result ≡ Ending.Feed
+            → TakesLine self.old self.new (R.remaining reader.old) (R.remaining reader.new) line.new }
         ensures fewer { result ≡ Ending.Feed → most_lines self.new < most_lines self.old }
-        ensures rest { (result ≡ Ending.Feed → ⊥) → TakesRest self.old self.new (R.remaining reader.old) (R.remaining reader.new) line.new }
+        ensures rest { (result ≡ Ending.Feed → ⊥)
+            → TakesRest self.old self.new (R.remaining reader.old) (R.remaining reader.new) line.new }
         ensures end { result ≡ Ending.End → IsAtEnd (R.remaining reader.new) }
     {
         line.clear();
@@ -134,7 +140,8 @@ impl Script {
 
     /// Adds what is pending up to the next line feed to the line. Whether there was one: then it is taken too.
     fn take_pending(&mut self, line: &mut Line) -> bool
-        ensures feed { IsTrue result → (front : List ℕ) × IsLine front × (self.old.pending ≡ ended front ++ self.new.pending)
+        ensures feed { IsTrue result → (front : List ℕ) × IsLine front
+            × (self.old.pending ≡ ended front ++ self.new.pending)
             × ((before : List ℕ) → Holds line.old before → Holds line.new (before ++ front)) }
         ensures none { result ≡ false → (self.new.pending ≡ []) × IsLine self.old.pending
             × ((before : List ℕ) → Holds line.old before → Holds line.new (before ++ self.old.pending)) }
@@ -155,7 +162,8 @@ impl Script {
         }
     }
 
-    /// Reads the next piece. The answer is how many bytes it has, 0 at the end of the script; None where the read failed or would be one too many.
+    /// Reads the next piece. Returns how many bytes it has, 0 at the end of the script; None where the read
+    /// failed or would be one too many.
     fn read_piece<R: Read>(&mut self, reader: &mut R) -> Option<usize>
         requires { self.old.pending ≡ [] }
         ensures came { Consumes (R.remaining reader.old) (R.remaining reader.new) self.new.pending }
@@ -163,6 +171,7 @@ impl Script {
         ensures most { length self.new.pending ≤ 8192 }
         ensures end { result ≡ Some 0 → IsAtEnd (R.remaining reader.new) }
         ensures reads { IfSome result (λ n. 0 < n → self.new.reads + 1 ≡ self.old.reads) }
+        ensures no_more { self.new.reads ≤ self.old.reads }
     {
         if self.reads == 0 {
             return None;
@@ -181,6 +190,7 @@ impl Script {
     }
 }
 
+/// Where the first line feed stands.
 fn first_feed(bytes: &[u8]) -> Option<usize>
     ensures first { result ≡ position (λ b. b == 10) bytes.now }
     ensures within { IfSome result (λ i. i < length bytes.now) }

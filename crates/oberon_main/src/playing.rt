@@ -1,19 +1,20 @@
 //! Playing a script over a store.
-ghost use Rattle.std.specs.Prelude.{◌≡◌, ◌<◌, ◌↔◌, ◌⊎◌, ℕ, List, [], false, OnOk, OnErr, IsOk, IfErr, IsErrOf, IfSome};
+ghost use Rattle.std.specs.Prelude.{◌≡◌, ◌↔◌, ℕ, List, [], ◌∷◌, false, OnOk, OnErr, IsOk, IfErr};
 ghost use Rattle.std.specs.Io.KnownBytes.{Appends, Keeps};
-ghost use Rattle.oberon_main.specs.declared.playing.PlayEnd.TheVariants as ends;
+ghost use Rattle.sector_disk.specs.Faults.{FailsAs, OneOf};
 ghost use Rattle.screen_cells.specs.Sent.{AppendsFront};
+ghost use Rattle.oberon_main.specs.declared.playing.PlayEnd.TheVariants as ends;
 ghost use Rattle.oberon_main.specs.Request.{request_of};
-ghost use Rattle.oberon_main.specs.Reading.{Holds};
-ghost use Rattle.oberon_main.specs.Session.{answer, after};
+ghost use Rattle.oberon_main.specs.Reading.{Holds, ComesInPieces};
 ghost use Rattle.oberon_main.specs.Opened.{session_of};
-ghost use Rattle.oberon_main.specs.Play.{EndsAs, IsAnswered, LineEndsAs, RestEndsAs, last_word};
+ghost use Rattle.oberon_main.specs.Play.{Plays, CountsPlay, CountsEnd, PlaysLine, RestEndsAs, last_word, no_word};
+ghost use Rattle.oberon_main.specs.Worked.{end_of};
 
 use crate::answer::short_line;
 use crate::answering::work_out;
 use crate::line::{Ending, Line, Script};
 use crate::sending::{OutputFault, send};
-use desk_journal::Store;
+use desk_journal::{Error, Store};
 use sector_disk::Disk;
 use std::alloc::{AllocError, Global};
 use std::io::{Read, Write};
@@ -25,7 +26,7 @@ pub enum PlayEnd {
     Done,
     /// The disk failed.
     Fault,
-    /// A growth found no memory.
+    /// An allocation was refused.
     Memory,
     /// A read of the script failed, or it took too many.
     Input,
@@ -36,6 +37,7 @@ pub enum PlayEnd {
 impl From<AllocError> for PlayEnd {
     ghost from_gives = { λ _ end. end ≡ ends.Memory };
 
+    /// A script ends by `Memory` where an allocation is refused.
     fn from(_refused: AllocError) -> PlayEnd {
         PlayEnd::Memory
     }
@@ -44,17 +46,36 @@ impl From<AllocError> for PlayEnd {
 impl From<OutputFault> for PlayEnd {
     ghost from_gives = { λ _ end. end ≡ ends.Output };
 
+    /// A script ends by `Output` where the output takes no more.
     fn from(_fault: OutputFault) -> PlayEnd {
         PlayEnd::Output
     }
 }
 
-/// How many read calls a script may take before the one that says that it is at its end.
-const MOST_READS: u32 = 67_108_864;
+impl From<Error> for PlayEnd {
+    ghost use Rattle.std.specs.Prelude.{◌≡◌};
+    ghost use Rattle.oberon_main.specs.Worked.{end_of};
 
-/// Plays the script that the reader gives: each line is answered on the writer before the next one is taken.
+    ghost from_gives = { λ error end. end ≡ end_of error };
+
+    /// A script ends by `Memory` where the store is out of memory, and by `Fault` where it refuses otherwise.
+    fn from(error: Error) -> PlayEnd {
+        match error {
+            Error::NoMemory => PlayEnd::Memory,
+            _ => PlayEnd::Fault,
+        }
+    }
+}
+
+/// How many read calls that give bytes a script may take.
+pub const MOST_READS: u32 = 67_108_864;
+
+/// Plays the script that the reader gives: each line is answered on the writer, and the writer flushed, before the
+/// next line is read.
 ///
-/// It ends with the script, or earlier where the disk, the memory, the reader or the writer fails; but for the writer's failure a last line then says why: `fault`, `memory` or `input`. After 67,108,864 reads that gave bytes the reader counts as failed. The store isn't one to be opened again. The language of scripts is this profile's.
+/// It ends with the script, or earlier where the disk, the memory, the reader or the writer fails; but for the
+/// writer's failure a last line then says why: `fault`, `memory` or `input`. After `MOST_READS` reads that gave bytes
+/// the reader counts as failed. The store must be one that needn't be opened again.
 pub fn play<R: Read, W: Write, D: Disk>(
     alloc: Global,
     reader: &mut R,
@@ -62,13 +83,10 @@ pub fn play<R: Read, W: Write, D: Disk>(
     store: &mut Store<D>,
 ) -> PlayEnd
     requires { store.old.must_reopen ≡ false }
-    // What was written, and what the store is then.
-    ensures told { D.honest store.old.disk → IfSome (R.remaining reader.old) (λ script.
-        EndsAs result (last_word result) script (R.remaining reader.new) (session_of store.old) (session_of store.new) (W.contents writer.old) (W.contents writer.new)) }
-    // After another end the store may have to be opened again.
-    ensures usable { (result ≡ ends.Done) ⊎ (result ≡ ends.Input) → store.new.must_reopen ≡ false }
-    ensures cause { result ≡ ends.Fault → D.failures store.old.disk < D.failures store.new.disk }
-    ensures premise { D.honest store.new.disk ↔ D.honest store.old.disk }
+    ensures played { Plays last_word D.Disk result (R.remaining reader.old) (R.remaining reader.new)
+        (W.contents writer.old) (W.contents writer.new) store.old store.new }
+    ensures pieces { ComesInPieces MOST_READS (R.remaining reader.old) (R.remaining reader.new) }
+    ensures faults { CountsPlay result (D.failures store.old.disk) (D.failures store.new.disk) }
 {
     play_bounded(alloc, reader, writer, store, MOST_READS)
 }
@@ -82,11 +100,10 @@ pub fn play_bounded<R: Read, W: Write, D: Disk>(
     reads: u32,
 ) -> PlayEnd
     requires { store.old.must_reopen ≡ false }
-    ensures told { D.honest store.old.disk → IfSome (R.remaining reader.old) (λ script.
-        EndsAs result (last_word result) script (R.remaining reader.new) (session_of store.old) (session_of store.new) (W.contents writer.old) (W.contents writer.new)) }
-    ensures usable { (result ≡ ends.Done) ⊎ (result ≡ ends.Input) → store.new.must_reopen ≡ false }
-    ensures cause { result ≡ ends.Fault → D.failures store.old.disk < D.failures store.new.disk }
-    ensures premise { D.honest store.new.disk ↔ D.honest store.old.disk }
+    ensures played { Plays last_word D.Disk result (R.remaining reader.old) (R.remaining reader.new)
+        (W.contents writer.old) (W.contents writer.new) store.old store.new }
+    ensures pieces { ComesInPieces reads (R.remaining reader.old) (R.remaining reader.new) }
+    ensures faults { CountsPlay result (D.failures store.old.disk) (D.failures store.new.disk) }
 {
     let end = play_lines(alloc, reader, writer, store, reads);
     match say(writer, end) {
@@ -119,11 +136,10 @@ fn play_lines<R: Read, W: Write, D: Disk>(
     reads: u32,
 ) -> PlayEnd
     requires { store.old.must_reopen ≡ false }
-    ensures told { D.honest store.old.disk → IfSome (R.remaining reader.old) (λ script.
-        EndsAs result [] script (R.remaining reader.new) (session_of store.old) (session_of store.new) (W.contents writer.old) (W.contents writer.new)) }
-    ensures usable { (result ≡ ends.Done) ⊎ (result ≡ ends.Input) → store.new.must_reopen ≡ false }
-    ensures cause { result ≡ ends.Fault → D.failures store.old.disk < D.failures store.new.disk }
-    ensures premise { D.honest store.new.disk ↔ D.honest store.old.disk }
+    ensures played { Plays no_word D.Disk result (R.remaining reader.old) (R.remaining reader.new)
+        (W.contents writer.old) (W.contents writer.new) store.old store.new }
+    ensures pieces { ComesInPieces reads (R.remaining reader.old) (R.remaining reader.new) }
+    ensures faults { CountsEnd result (D.failures store.old.disk) (D.failures store.new.disk) }
 {
     let mut script = Script::new(reads);
     let mut line = Line::new();
@@ -140,7 +156,7 @@ fn play_lines<R: Read, W: Write, D: Disk>(
     }
 }
 
-/// Plays what stands behind the last line feed, where that is anything.
+/// Plays what stands after the last line feed, where that is anything.
 fn play_rest<W: Write, D: Disk>(
     alloc: Global,
     line: &Line,
@@ -149,11 +165,12 @@ fn play_rest<W: Write, D: Disk>(
 ) -> PlayEnd
     requires { store.old.must_reopen ≡ false }
     ensures told { D.honest store.old.disk → (rest : List ℕ) → Holds line.now rest
-        → RestEndsAs result rest (session_of store.old) (session_of store.new) (W.contents writer.old) (W.contents writer.new) }
+        → RestEndsAs result rest (session_of store.old) (session_of store.new)
+            (W.contents writer.old) (W.contents writer.new) }
     ensures usable { result ≡ ends.Done → store.new.must_reopen ≡ false }
     ensures no_input { result ≡ ends.Input → ⊥ }
-    ensures cause { result ≡ ends.Fault → D.failures store.old.disk < D.failures store.new.disk }
     ensures premise { D.honest store.new.disk ↔ D.honest store.old.disk }
+    ensures faults { CountsEnd result (D.failures store.old.disk) (D.failures store.new.disk) }
 {
     if line.is_empty() {
         return PlayEnd::Done;
@@ -172,15 +189,10 @@ fn play_line<W: Write, D: Disk>(
     store: &mut Store<D>,
 ) -> Result<(), PlayEnd>
     requires { store.old.must_reopen ≡ false }
-    ensures answered { OnOk result (D.honest store.old.disk → (bytes : List ℕ) → Holds line.now bytes
-        → IsAnswered (request_of bytes) (session_of store.old) (session_of store.new) (W.contents writer.old) (W.contents writer.new)) }
-    ensures failed { IfErr result (λ end. D.honest store.old.disk → (bytes : List ℕ) → Holds line.now bytes
-        → LineEndsAs end (request_of bytes) (session_of store.old) (W.contents writer.old) (W.contents writer.new)) }
-    ensures named { IfErr result (λ end. (end ≡ ends.Fault) ⊎ ((end ≡ ends.Memory) ⊎ (end ≡ ends.Output))) }
-    ensures usable { OnOk result (store.new.must_reopen ≡ false) }
-    ensures calm { OnOk result (D.failures store.new.disk ≡ D.failures store.old.disk) }
-    ensures cause { IsErrOf result ends.Fault → D.failures store.old.disk < D.failures store.new.disk }
-    ensures premise { D.honest store.new.disk ↔ D.honest store.old.disk }
+    ensures played { PlaysLine D.Disk line.now result (W.contents writer.old) (W.contents writer.new)
+        store.old store.new }
+    ensures faults { FailsAs ends.Fault (OneOf (ends.Fault ∷ ends.Memory ∷ ends.Output ∷ [])) result
+        (D.failures store.old.disk) (D.failures store.new.disk) }
 {
     let answer = work_out(alloc, &line.request(), store)?;
     send(writer, answer.as_bytes())?;

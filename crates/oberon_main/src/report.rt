@@ -16,8 +16,10 @@ use std::io::Write;
 /// Says the layout, the epoch and the number of events of a store that can be used.
 pub fn check<W: Write, D: Disk>(writer: &mut W, store: &Store<D>) -> PlayEnd
     requires { store.now.must_reopen ≡ false }
-    ensures done { result ≡ ends.Done → Appends (W.contents writer.old) (W.contents writer.new) (check_line 1 store.now.epoch store.now.events) }
-    ensures output { result ≡ ends.Output → AppendsFront (W.contents writer.old) (W.contents writer.new) (check_line 1 store.now.epoch store.now.events) }
+    ensures done { result ≡ ends.Done → Appends (W.contents writer.old) (W.contents writer.new)
+        (check_line 1 store.now.epoch store.now.events) }
+    ensures output { result ≡ ends.Output → AppendsFront (W.contents writer.old) (W.contents writer.new)
+        (check_line 1 store.now.epoch store.now.events) }
     ensures named { (result ≡ ends.Done) ⊎ (result ≡ ends.Output) }
 {
     let Ok(info) = store.info() else {
@@ -30,6 +32,7 @@ pub fn check<W: Write, D: Disk>(writer: &mut W, store: &Store<D>) -> PlayEnd
     }
 }
 
+/// The line about a store that can be used.
 fn check_bytes(layout: u32, epoch: u32, events: u32) -> ShortLine
     ensures { result.items ≡ check_line layout epoch events }
 {
@@ -46,7 +49,8 @@ fn check_bytes(layout: u32, epoch: u32, events: u32) -> ShortLine
     short_line(text.as_slice())
 }
 
-/// The status of the program after a script that ended so: 0 where each line was answered, 5 for want of memory, else 4.
+/// The status of the program after a script that ended so: 0 where each line was answered, 5 for want of memory, else
+/// 4.
 pub fn status(end: &PlayEnd) -> u8
     ensures { result ≡ end_status end.now }
 {
@@ -57,7 +61,8 @@ pub fn status(end: &PlayEnd) -> u8
     }
 }
 
-/// Says why a store was refused, as far as the writer takes it. The answer is the status of the program: 3 where there is no store or a damaged one, 5 for want of memory, else 4.
+/// Says why a store was refused, as far as the writer takes it. Returns the status of the program: 3 where
+/// there is no store or a damaged one, 5 for want of memory, else 4.
 pub fn refuse<W: Write>(writer: &mut W, error: &Error) -> u8
     ensures status { result ≡ refusal_status error.now }
     ensures said { AppendsFront (W.contents writer.old) (W.contents writer.new) (refusal_line error.now) }
@@ -70,9 +75,11 @@ pub fn refuse<W: Write>(writer: &mut W, error: &Error) -> u8
     }
 }
 
+/// Writes the line about a refusal.
 fn say_refusal<W: Write>(writer: &mut W, error: &Error) -> Result<(), OutputFault>
     ensures said { OnOk result (Appends (W.contents writer.old) (W.contents writer.new) (refusal_line error.now)) }
-    ensures front { OnErr result (AppendsFront (W.contents writer.old) (W.contents writer.new) (refusal_line error.now)) }
+    ensures front { OnErr result
+        (AppendsFront (W.contents writer.old) (W.contents writer.new) (refusal_line error.now)) }
 {
     let line = match error {
         Error::NotAStore => short_line(b"not a store"),

@@ -1,10 +1,14 @@
 //! What a line of a script asks for.
 //!
-//! `file NAME BYTES` asks for an event: the file becomes these bytes. `file NAME`, with or without a space behind it, makes it empty. `show NAME`, `list` and `screen` ask for a look. Words are parted by exactly one space. In BYTES a percent sign and two hexadecimal digits stand for a byte. What else a line says is malformed.
+//! `file NAME BYTES` asks for an event: the file becomes these bytes. `file NAME`, with or without a space after it,
+//! makes it empty. `show NAME`, `list` and `screen` ask for a look. Words are parted by exactly one space. In BYTES a
+//! percent sign and two hexadecimal digits stand for a byte. What else a line says is malformed.
 ghost use Rattle.std.specs.Prelude.{◌≡◌, ◌<◌, ◌≤◌, ◌∷◌, length, position, None, IfSome, MatchOption};
 ghost use Rattle.std.specs.Option.{option_map};
 ghost use Rattle.std.specs.List.{list_all};
-ghost use Rattle.oberon_main.specs.Request.{is_printable, is_space, word, argument, is_readable, digit_value, byte_of_digits, in_front, meant, escaped as escape_meant, file_bytes_of, show_of, file_of, command_of, request_of};
+ghost use Rattle.oberon_main.specs.Request.{is_printable, is_space, word, argument, is_readable, digit_value};
+ghost use Rattle.oberon_main.specs.Request.{byte_of_digits, in_front, meant, escaped as escape_meant, file_bytes_of};
+ghost use Rattle.oberon_main.specs.Request.{show_of, file_of, command_of, request_of};
 
 use arrayvec::ArrayVec;
 use event_bytes::{Event, FileBytes, Name};
@@ -43,14 +47,19 @@ fn is_text(line: &[u8]) -> bool
     line.len() <= 4096 && are_printable(line)
 }
 
+/// Whether each byte is one from the space to the tilde.
 fn are_printable(bytes: &[u8]) -> bool
     ensures { result ≡ list_all is_printable bytes.now }
 {
     bytes.iter().all(|byte| matches!(*byte, 32..=126))
 }
 
-/// What stands before the first space, and what stands behind it.
-#[tactic(auto, using(crate::proofs::Words::word_whole, crate::proofs::Words::word_front, crate::proofs::Words::argument_behind))]
+/// What stands before the first space, and what stands after it.
+#[tactic(auto, using(
+    crate::proofs::Words::word_whole,
+    crate::proofs::Words::word_front,
+    crate::proofs::Words::argument_behind,
+))]
 fn split_word(line: &[u8]) -> (&[u8], Option<&[u8]>)
     ensures before { result.0.now ≡ word line.now }
     ensures behind { option_map (λ rest. rest.now) result.1 ≡ argument line.now }
@@ -61,6 +70,7 @@ fn split_word(line: &[u8]) -> (&[u8], Option<&[u8]>)
     }
 }
 
+/// Where the first space stands.
 fn first_space(line: &[u8]) -> Option<usize>
     ensures first { result ≡ position is_space line.now }
     ensures within { IfSome result (λ i. i < length line.now) }
@@ -84,12 +94,14 @@ fn command(name: &[u8], rest: Option<&[u8]>) -> Option<Request>
     }
 }
 
+/// The request that `show` makes of its argument.
 fn show(name: &[u8]) -> Option<Request>
     ensures { result ≡ show_of name.now }
 {
     Some(Request::Show(Name::new(name)?))
 }
 
+/// The request that `file` makes of its two arguments.
 fn file(name: &[u8], text: &[u8]) -> Option<Request>
     ensures { result ≡ file_of name.now text.now }
 {
@@ -113,9 +125,10 @@ fn file_bytes(text: &[u8]) -> Option<FileBytes>
 }
 
 #[tactic(auto, unfolding(crate::specs::Request::meant))]
-/// The first byte that a text stands for, and the text behind its spelling.
+/// The first byte that a text stands for, and the text after its spelling.
 fn first_meant(first: u8, rest: &[u8]) -> Option<(u8, &[u8])>
-    ensures meant { MatchOption result (meant (first ∷ rest.now) ≡ None) (λ x. meant (first ∷ rest.now) ≡ in_front x.0 (meant x.1.now)) }
+    ensures meant { MatchOption result (meant (first ∷ rest.now) ≡ None)
+        (λ x. meant (first ∷ rest.now) ≡ in_front x.0 (meant x.1.now)) }
     ensures shorter { IfSome result (λ x. length x.1.now ≤ length rest.now) }
 {
     if first == b'%' {
@@ -126,9 +139,10 @@ fn first_meant(first: u8, rest: &[u8]) -> Option<(u8, &[u8])>
 }
 
 #[tactic(auto, unfolding(crate::specs::Request::escaped))]
-/// The byte that two hexadecimal digits at the front spell, and the text behind them.
+/// The byte that two hexadecimal digits spell at the beginning, and the text after them.
 fn escaped(text: &[u8]) -> Option<(u8, &[u8])>
-    ensures meant { MatchOption result (escape_meant text.now ≡ None) (λ x. escape_meant text.now ≡ in_front x.0 (meant x.1.now)) }
+    ensures meant { MatchOption result (escape_meant text.now ≡ None)
+        (λ x. escape_meant text.now ≡ in_front x.0 (meant x.1.now)) }
     ensures shorter { IfSome result (λ x. length x.1.now ≤ length text.now) }
 {
     let (high, rest) = text.split_first()?;

@@ -9,7 +9,8 @@ use std::io::Write;
 #[derive(Clone, Copy, Debug, PartialEq, Eq)]
 pub struct OutputFault;
 
-/// Writes all of the bytes and flushes the writer. It fails where a write or the flush does, and where a write takes no byte; then a front of the bytes may have been taken.
+/// Writes all of the bytes and flushes the writer. It fails where a write or the flush does, and where a write takes
+/// no byte; then a prefix of the bytes may have been taken.
 pub fn send<W: Write>(writer: &mut W, bytes: &[u8]) -> Result<(), OutputFault>
     ensures sent { OnOk result (Appends (W.contents writer.old) (W.contents writer.new) bytes.now) }
     ensures front { OnErr result (AppendsFront (W.contents writer.old) (W.contents writer.new) bytes.now) }
@@ -22,7 +23,7 @@ pub fn send<W: Write>(writer: &mut W, bytes: &[u8]) -> Result<(), OutputFault>
     flush(writer)
 }
 
-/// One write, which takes at least one of the bytes. The answer is how many it took.
+/// One write, which takes at least one of the bytes. Returns how many it took.
 fn take_some<W: Write>(writer: &mut W, bytes: &[u8]) -> Result<usize, OutputFault>
     ensures some { IfOk result (λ n. 0 < n) }
     ensures within { IfOk result (λ n. n ≤ length bytes.now) }
@@ -35,6 +36,7 @@ fn take_some<W: Write>(writer: &mut W, bytes: &[u8]) -> Result<usize, OutputFaul
     }
 }
 
+/// Flushes the writer.
 fn flush<W: Write>(writer: &mut W) -> Result<(), OutputFault>
     ensures { Keeps (W.contents writer.old) (W.contents writer.new) }
 {

@@ -1,24 +1,57 @@
-use Rattle.std.proofs.Common.{refl, ◌∙◌}
-use Rattle.oberon_main.proofs.Played.{played_none, played_more, stopped_in_line, ended_with_rest, cut_off}
+use Rattle.std.proofs.Common.{refl, ◌∙◌, inl, inr}
+use Rattle.oberon_main.proofs.Played.{played_more, stopped_in_line, ended_with_rest, cut_off, pieces_with_line,
+    pieces_with_rest, counts_of_line, counts_from, only_failures}
 use Rattle.oberon_main.proofs.playing.play_lines.Goals as goal
 
-pub returns-in-Err-clause-told : goal.returns-in-Err-clause-told
-returns-in-Err-clause-told g c = stopped_in_line _ c.in-Err.end _ _ _ _ _ _ _ _ _ _ _ _ c.loop-line.invariant.played (c.in-Feed.ensures.line refl)
-    (λ honest. c.in-Err.ensures.failed (c.loop-line.invariant.still honest))
+pub returns-in-Err-clause-played : goal.returns-in-Err-clause-played
+returns-in-Err-clause-played g c = record {
+  told = stopped_in_line _ c.in-Err.end _ _ _ _ _ _ _ _ _ _ _ _ _ _ _ c.loop-line.invariant.played
+      (c.in-Feed.ensures.line refl)
+      (counts_from c.in-Err.end _ _ _ c.loop-line.invariant.calm
+          (counts_of_line c.in-Err.end _ _ _ _ c.in-Err.is c.play_line.ensures.faults))
+      (λ honest. c.in-Err.ensures.played.unanswered (c.loop-line.invariant.still honest));
+  usable = λ ends. absurd (only_failures c.in-Err.end c.in-Err.ensures.faults.errors ends);
+  premise = (λ honest. c.loop-line.invariant.already (c.in-Err.ensures.played.premise.0 honest),
+      λ honest. c.in-Err.ensures.played.premise.1 (c.loop-line.invariant.still honest));
+}
+
+pub returns-in-Err-clause-pieces : goal.returns-in-Err-clause-pieces
+returns-in-Err-clause-pieces g c = pieces_with_line _ _ _ _ _ _ _ _ _ _ _ _ c.loop-line.invariant.played
+    (c.in-Feed.ensures.line refl)
 
 pub loop-line-preserved : goal.loop-line-preserved
 loop-line-preserved g c = record {
-  played = played_more _ _ _ _ _ _ _ _ _ _ _ _ _ c.loop-line.invariant.played (c.in-Feed.ensures.line refl)
-      (λ honest. c.in_default.ensures.answered (c.loop-line.invariant.still honest));
-  usable = c.in_default.ensures.usable;
-  calm = c.in_default.ensures.calm ∙ c.loop-line.invariant.calm;
-  still = λ honest. c.in_default.ensures.premise.1 (c.loop-line.invariant.still honest);
-  already = λ honest. c.loop-line.invariant.already (c.in_default.ensures.premise.0 honest);
+  played = played_more _ _ _ _ _ _ _ _ _ _ _ _ _ _ c.loop-line.invariant.played (c.in-Feed.ensures.line refl)
+      (λ honest. c.in_default.ensures.played.answered (c.loop-line.invariant.still honest));
+  usable = c.in_default.ensures.played.usable;
+  calm = c.in_default.ensures.faults.calm (λ wrong. cc) ∙ c.loop-line.invariant.calm;
+  still = λ honest. c.in_default.ensures.played.premise.1 (c.loop-line.invariant.still honest);
+  already = λ honest. c.loop-line.invariant.already (c.in_default.ensures.played.premise.0 honest);
 }
 
-pub returns-in-End-clause-told : goal.returns-in-End-clause-told
-returns-in-End-clause-told g c = ended_with_rest _ c.play_rest.result _ _ _ _ _ _ _ _ _ _ _ _ c.loop-line.invariant.played (c.in-End.ensures.rest (λ wrong. cc)) (c.in-End.ensures.end refl)
-    (λ honest. c.play_rest.ensures.told (c.loop-line.invariant.still honest))
+pub returns-in-End-clause-played : goal.returns-in-End-clause-played
+returns-in-End-clause-played g c = record {
+  told = ended_with_rest _ c.play_rest.result _ _ _ _ _ _ _ _ _ _ _ _ _ _ _ c.loop-line.invariant.played
+      (c.in-End.ensures.rest (λ wrong. cc)) (c.in-End.ensures.end refl)
+      (counts_from c.play_rest.result _ _ _ c.loop-line.invariant.calm c.play_rest.ensures.faults)
+      (λ honest. c.play_rest.ensures.told (c.loop-line.invariant.still honest));
+  usable = λ ends. elim ends [ inl done ↦ c.play_rest.ensures.usable done | inr input ↦ absurd
+      (c.play_rest.ensures.no_input input) ];
+  premise = (λ honest. c.loop-line.invariant.already (c.play_rest.ensures.premise.0 honest),
+      λ honest. c.play_rest.ensures.premise.1 (c.loop-line.invariant.still honest));
+}
 
-pub returns-in-Fault-clause-told : goal.returns-in-Fault-clause-told
-returns-in-Fault-clause-told g c = cut_off _ _ _ _ _ _ _ _ _ _ _ c.loop-line.invariant.played (c.in-Fault.ensures.rest (λ wrong. cc))
+pub returns-in-End-clause-pieces : goal.returns-in-End-clause-pieces
+returns-in-End-clause-pieces g c = pieces_with_rest _ _ _ _ _ _ _ _ _ _ _ _ c.loop-line.invariant.played
+    (c.in-End.ensures.rest (λ wrong. cc))
+
+pub returns-in-Fault-clause-played : goal.returns-in-Fault-clause-played
+returns-in-Fault-clause-played g c = record {
+  told = cut_off _ _ _ 0 0 _ _ _ _ _ _ _ _ _ c.loop-line.invariant.played (c.in-Fault.ensures.rest (λ wrong. cc));
+  usable = λ ends. c.loop-line.invariant.usable;
+  premise = (c.loop-line.invariant.already, c.loop-line.invariant.still);
+}
+
+pub returns-in-Fault-clause-pieces : goal.returns-in-Fault-clause-pieces
+returns-in-Fault-clause-pieces g c = pieces_with_rest _ _ _ _ _ _ _ _ _ _ _ _ c.loop-line.invariant.played
+    (c.in-Fault.ensures.rest (λ wrong. cc))

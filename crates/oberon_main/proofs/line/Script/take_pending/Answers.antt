@@ -11,7 +11,9 @@ returns-in-Some-clause-feed c = λ taken.
     let is : c.args.self.now.pending ≡ pending = sym (ap (λ (v : Unplayed). v.pending) c.self.view_is) in (
       take c.in-Some.feed pending,
       before_feed pending c.in-Some.feed (sym c.in-Some.ensures.first),
-      is ∙ behind_feed pending c.in-Some.feed (sym c.in-Some.ensures.first) ∙ ap (λ l. ended (take c.in-Some.feed pending) ++ l) (sym (between_behind c.self.inside.piece c.self.inside.next (c.in-Some.feed + 1) c.self.inside.end)),
+      is ∙ behind_feed pending c.in-Some.feed (sym c.in-Some.ensures.first)
+          ∙ ap (λ l. ended (take c.in-Some.feed pending) ++ l)
+          (sym (between_behind c.self.inside.piece c.self.inside.next (c.in-Some.feed + 1) c.self.inside.end)),
       c.extend.ensures,
     )
 
@@ -21,5 +23,6 @@ returns-in-None-clause-none c = λ none.
     let is : c.args.self.now.pending ≡ pending = sym (ap (λ (v : Unplayed). v.pending) c.self.view_is) in (
       between_none c.self.inside.piece c.self.inside.end,
       subst IsLine (sym is) (no_feed pending (sym c.in-None.ensures.first)),
-      subst (λ l. (before : List ℕ) → Holds c.args.line.now before → Holds c.extend-in-None.new.self (before ++ l)) (sym is) c.extend-in-None.ensures,
+      subst (λ l. (before : List ℕ) → Holds c.args.line.now before → Holds c.extend-in-None.new.self (before ++ l))
+          (sym is) c.extend-in-None.ensures,
     )

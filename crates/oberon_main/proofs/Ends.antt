@@ -1,0 +1,70 @@
+-- How a script ends where the store refuses.
+use Rattle.std.proofs.Common.{◌≡◌, ◌⊎◌, ℕ, ◌<◌, Result, Ok, Err, IfOk, IfErr, ◌≢◌, [], ◌∷◌, inl, inr, refl, sym, ap, ◌∙◌, subst}
+use Rattle.sector_disk.specs.Faults.{FailsAs, OneOf}
+use Rattle.desk_journal.specs.declared.error.Error.{Error}
+use Rattle.desk_journal.specs.declared.error.Error.TheVariants.{NoMemory, Fault, MustReopen, NotAStore, Damaged, TooSmall,
+    JournalFull}
+use Rattle.desk_journal.specs.Errors.{OfPost}
+use Rattle.oberon_main.specs.declared.answering.Answer.{Answer}
+use Rattle.oberon_main.specs.declared.playing.PlayEnd.{PlayEnd}
+use Rattle.oberon_main.specs.declared.playing.PlayEnd.TheVariants as ends
+use Rattle.oberon_main.specs.Worked.{end_of, IsWorkEnd}
+
+-- A store that is in use, and whose journal has room, refuses for want of memory or after a fault of the disk.
+pub record IsRefusal (error : Error) (failed failed' : ℕ) : Type 0 where
+  pub named : (error ≡ NoMemory) ⊎ (error ≡ Fault)
+  pub rose : error ≡ Fault → failed < failed'
+  pub calm : ¬ error ≡ Fault → failed' ≡ failed
+
+another_error : (error : Error) → (error ≡ NoMemory → ⊥) → (error ≡ Fault → ⊥) → (error ≡ NoMemory) ⊎ (error ≡ Fault)
+    → ⊥
+another_error error memory fault (inl is) = memory is
+another_error error memory fault (inr is) = fault is
+
+counts : {T : Type 0} (error : Error) (failed failed' : ℕ) → IsRefusal error failed failed'
+    → FailsAs {T = T} ends.Fault IsWorkEnd (Err (end_of error)) failed failed'
+counts NoMemory failed failed' refusal = record { rose = λ wrong. cc; calm = λ other. refusal.calm (λ wrong. cc);
+    errors = inr refl }
+counts Fault failed failed' refusal = record { rose = λ same. refusal.rose refl; calm = λ wrong. absurd (wrong refl);
+    errors = inl refl }
+counts MustReopen failed failed' refusal = absurd (another_error MustReopen (λ wrong. cc) (λ wrong. cc) refusal.named)
+counts NotAStore failed failed' refusal = absurd (another_error NotAStore (λ wrong. cc) (λ wrong. cc) refusal.named)
+counts (Damaged sector) failed failed' refusal = absurd (another_error (Damaged sector) (λ wrong. cc)
+    (λ wrong. cc) refusal.named)
+counts TooSmall failed failed' refusal = absurd (another_error TooSmall (λ wrong. cc) (λ wrong. cc) refusal.named)
+counts JournalFull failed failed' refusal = absurd (another_error JournalFull (λ wrong. cc) (λ wrong. cc) refusal.named)
+
+pub counts_end : {T : Type 0} (error : Error) (failed failed' : ℕ) → IsRefusal error failed failed' → (end : PlayEnd)
+    → end ≡ end_of error
+    → (result : Result T PlayEnd) → result ≡ Err end → FailsAs ends.Fault IsWorkEnd result failed failed'
+counts_end error failed failed' refusal end is result gives =
+    subst (λ r. FailsAs ends.Fault IsWorkEnd r failed failed') (sym (gives ∙ ap (λ e. Err e) is))
+        (counts error failed failed' refusal)
+
+-- what a post's error is, after the two that say how the store stood before it
+pub refusal_of_post : {T : Type 0} (error : Error) (failed failed' : ℕ)
+    → FailsAs {T = T} Fault OfPost (Err error) failed failed'
+    → (error ≡ MustReopen → ⊥) → (error ≡ JournalFull → ⊥) → IsRefusal error failed failed'
+refusal_of_post error failed failed' faults usable room = record {
+  named = elim faults.errors [
+    | inl memory ↦ inl memory
+    | inr (inl fault) ↦ inr fault
+    | inr (inr (inl reopen)) ↦ absurd (usable reopen)
+    | inr (inr (inr full)) ↦ absurd (room full)
+  ];
+  rose = λ fault. faults.rose (ap (λ e. Err e) fault);
+  calm = λ other. faults.calm (λ fault. other cc);
+}
+
+-- A post that was refused: at a full journal there is an answer, else the script ends.
+pub counts_post : {T : Type 0} (error : Error) (failed failed' : ℕ) → FailsAs {T = T} Fault OfPost (Err error) failed failed'
+    → (error ≡ MustReopen → ⊥) → (bytes : Answer → Type 0) → (result : Result Answer PlayEnd)
+    → IfOk result (λ a. (error ≡ JournalFull) × bytes a) → IfErr result (λ end. (error ≢ JournalFull) × (end ≡ end_of error))
+    → FailsAs ends.Fault IsWorkEnd result failed failed'
+counts_post error failed failed' faults usable bytes (Ok a) full other = record {
+  rose = λ wrong. cc;
+  calm = λ any. faults.calm (λ wrong. cc (wrong, full.0));
+  errors = tt;
+}
+counts_post error failed failed' faults usable bytes (Err end) full other =
+    counts_end error failed failed' (refusal_of_post error failed failed' faults usable other.0) end other.1 (Err end) refl
