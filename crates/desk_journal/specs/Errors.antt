@@ -2,7 +2,8 @@
 use Rattle.std.specs.Prelude.{◌≡◌, ◌⊎◌, ℕ, List, [], ◌∷◌}
 use Rattle.sector_disk.specs.Faults.{OneOf}
 use Rattle.desk_journal.specs.declared.error.Error.{Error}
-use Rattle.desk_journal.specs.declared.error.Error.TheVariants.{NoMemory, Fault, MustReopen, NotAStore, Damaged, TooSmall, JournalFull}
+use Rattle.desk_journal.specs.declared.error.Error.TheVariants.{NoMemory, Fault, MustReopen}
+use Rattle.desk_journal.specs.declared.error.Error.TheVariants.{NotAStore, Damaged, TooSmall, JournalFull}
 
 abbrev pub OfDesktop : Error → Type 0
 OfDesktop = OneOf (NoMemory ∷ Fault ∷ [])

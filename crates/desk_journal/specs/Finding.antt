@@ -27,7 +27,8 @@ pub record IsDamagedAt (size : ℕ) (c : Content) (n : ℕ) : Type 0 where
   pub damage : ((n ≡ slot_gate 0) × (is_open (c (slot_gate 0)) ≡ false))
       ⊎ ((k : ℕ) × (n ≡ body 0 k) × (is_open (c (slot_gate 0)) ≡ true) × IsNoEvent c 0 k)
 
--- A disk is found to be just one of these: a store, no store, a damaged one. A store has one desktop, and one sector is damaged.
+-- A disk is found to be just one of these: a store, no store, a damaged one. A store has one desktop, and one sector is
+-- damaged.
 pub record FindsOneThing (size : ℕ) (c : Content) : Type 0 where
   pub one_desktop : (d d' : Desktop) → Means size d c → Means size d' c → d ≡ d'
   pub one_damage : (n n' : ℕ) → IsDamagedAt size c n → IsDamagedAt size c n' → n ≡ n'

@@ -1,5 +1,5 @@
--- Where the parts of a store stand on its disk, by sector, and what tells an open gate and a label.
--- The numbers stand in src/layout.rt. A store has two slots, 0 and 1, each with a gate and a journal. Slot 1 isn't used yet.
+-- Where the parts of a store stand on its disk, by sector, and what tells an open gate and a label. The numbers stand
+-- in src/layout.rt. A store has two slots, 0 and 1, each with a gate and a journal. Slot 1 isn't used yet.
 use Rattle.std.specs.Prelude.{ℕ, ◌+◌, ◌*◌, List, Bool, nat_eq, codes}
 use Rattle.std.specs.List.{starts_with}
 use Rattle.desk_journal.specs.declared.layout.TheConstants.{SLOT_GATES, JOURNALS, JOURNAL_SECTORS}

@@ -12,7 +12,8 @@ use Rattle.desk_journal.specs.Layout.{is_label, is_open, slot_gate, gate, body}
 -- a closed gate, unless it is under gate 255.
 abbrev pub IsJournal : Content → ℕ → ℕ → List Event → Type 0
 IsJournal c slot k [] = k < JOURNAL_EVENTS → is_open (c (gate slot k)) ≡ false
-IsJournal c slot k (event ∷ events) = (k < JOURNAL_EVENTS) × (is_open (c (gate slot k)) ≡ true) × Begins (c (body slot k)) event × IsJournal c slot (k + 1) events
+IsJournal c slot k (event ∷ events) = (k < JOURNAL_EVENTS) × (is_open (c (gate slot k)) ≡ true)
+    × Begins (c (body slot k)) event × IsJournal c slot (k + 1) events
 
 -- what a content shows: the live slot, its epoch, the desktop that it starts from, and the events since
 pub record Standing : Type 0 where

@@ -28,7 +28,8 @@ IsBroken new = new.must_reopen ≡ true
 
 -- JournalFull: at a full journal
 abbrev pub IsFull : {D : Type 0} → Result Reply Error → StoreView D → StoreView D → Type 0
-IsFull answer old new = TurnsAway (IsErrOf answer JournalFull) ((old.must_reopen ≡ false) × (JOURNAL_EVENTS ≤ old.events)) old new
+IsFull answer old new =
+    TurnsAway (IsErrOf answer JournalFull) ((old.must_reopen ≡ false) × (JOURNAL_EVENTS ≤ old.events)) old new
 
 -- MustReopen: after NoMemory or Fault of an earlier post
 abbrev pub IsUnusable : {D : Type 0} → Result Reply Error → StoreView D → StoreView D → Type 0
@@ -38,7 +39,8 @@ module _ {D : Type 0} (d : Ghosts D) where
   -- at every moment of the call a crash leaves the desktop from before it or the one after the event
   abbrev pub LeavesEither : Event → StoreView D → StoreView D → Type 0
   LeavesEither event old new = old.must_reopen ≡ false → d.honest old.disk
-      → LeavesOnly (d.trail old.disk) (d.trail new.disk) (MeansEither (d.size old.disk) old.desktop (step old.desktop event).0)
+      → LeavesOnly (d.trail old.disk) (d.trail new.disk)
+        (MeansEither (d.size old.disk) old.desktop (step old.desktop event).0)
 
   -- Ok: the event is acknowledged, whatever the reply
   pub record IsAcknowledged (event : Event) (reply : Reply) (old new : StoreView D) : Type 0 where
@@ -56,7 +58,8 @@ module _ {D : Type 0} (d : Ghosts D) where
 
   -- NoMemory: the event is in no image, and the store must be opened again
   pub record IsStarved (old new : StoreView D) : Type 0 where
-    pub unrecorded : old.must_reopen ≡ false → d.honest old.disk → LeavesOnly (d.trail old.disk) (d.trail new.disk) (Means (d.size old.disk) old.desktop)
+    pub unrecorded : old.must_reopen ≡ false → d.honest old.disk
+        → LeavesOnly (d.trail old.disk) (d.trail new.disk) (Means (d.size old.disk) old.desktop)
     pub closed : new.must_reopen ≡ true
 
   -- All that a post of the event promises where it returns this.

@@ -20,7 +20,8 @@ pub record StoreView (D : Type 0) : Type 0 where
 
 -- a crash now leaves what the store shows
 abbrev pub IsDurable : {D : Type 0} → Ghosts D → StoreView D → Type 0
-IsDurable d store = d.honest store.disk → Leaves (now (d.trail store.disk)) (Shows (d.size store.disk) store.epoch store.events store.desktop)
+IsDurable d store = d.honest store.disk
+    → Leaves (now (d.trail store.disk)) (Shows (d.size store.disk) store.epoch store.events store.desktop)
 
 -- nothing is pending on the disk, and what it reads shows this
 pub record IsSettled (size : ℕ) (disk : Trail) (s : Standing) : Type 0 where

@@ -7,14 +7,14 @@ ghost use Rattle.desk_journal.specs.Run.{ComposingLaw, SurvivalLaw};
 use event_bytes::at_most_one_begins;
 use sector_disk::Disk;
 
-/// A meaning depends on its footprint alone: the label, the slot's gate, the journal's gates up to the first closed one and the
-/// bodies before it. So a write anywhere else changes the meaning of no image.
+/// A meaning depends on its footprint alone: the label, the slot's gate, the journal's gates up to the first closed one
+/// and the bodies before it. So a write anywhere else changes the meaning of no image.
 pub fn footprint_law()
     ensures { FootprintLaw }
 {}
 
-/// A content is found to be one thing: the store of one desktop, no store, or a store with its damage in one sector. So what
-/// opening returns, it returns exactly where it is so.
+/// A content is found to be one thing: the store of one desktop, no store, or a store with its damage in one sector. So
+/// what opening returns, it returns exactly where it is so.
 pub fn finding_law()
     ensures { FindingLaw }
 {
@@ -33,8 +33,8 @@ pub fn runs_compose<D: Disk>()
     ensures { ComposingLaw D.Disk }
 {}
 
-/// Whatever the posts of a run returned, and wherever a crash cuts them off, each image means the desktop after some of the accepted
-/// events, the first of them, and among them is every event acknowledged until then.
+/// Whatever the posts of a run returned, and wherever a crash cuts them off, each image means the desktop after some of
+/// the accepted events, the first of them, and among them is every event acknowledged until then.
 pub fn runs_survive<D: Disk>()
     ensures { SurvivalLaw D.Disk }
 {}

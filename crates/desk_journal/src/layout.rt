@@ -1,6 +1,7 @@
 //! Which sector of a store holds what.
 //!
-//! A store has a label and two slots, 0 and 1. Each slot has a gate, and a journal of gates and bodies in turn. Slot 1 isn't used yet.
+//! A store has a label and two slots, 0 and 1. Each slot has a gate, and a journal of gates and bodies in turn. Slot 1
+//! isn't used yet.
 ghost use Rattle.std.specs.Prelude.{◌≡◌, ◌<◌};
 ghost use Rattle.desk_journal.specs.Layout.{slot_gate, gate, body};
 

@@ -24,8 +24,9 @@ use std::alloc::Global;
 
 /// A desktop and the characters that its texts name.
 ///
-/// A clause sees it as its characters read (`shown`), and asks that it stands over them (`IsLive`). Its calls are handed the disk, from
-/// which they only read, and what they say of characters stands under its premise. After an error of `step` it isn't used again.
+/// A clause sees it as its characters read (`shown`), and asks that it stands over them (`IsLive`). Its calls are
+/// handed the disk, from which they only read, and what they say of characters stands under its premise. After an error
+/// of `step` it isn't used again.
 #[derive(Drop)]
 pub struct LiveDesktop {
     desktop: Desktop,
@@ -52,7 +53,8 @@ impl LiveDesktop {
         disk: &mut D,
     ) -> Result<Reply, Error>
         requires { IsLive self.old }
-        ensures done { IfOk result (λ reply. D.honest disk.old → (shown self.new, reply) ≡ step (shown self.old) event.now) }
+        ensures done { IfOk result (λ reply. D.honest disk.old
+            → (shown self.new, reply) ≡ step (shown self.old) event.now) }
         ensures replies { IfOk result IsReply }
         ensures refusal { (code : ℕ) → result ≡ Ok (No code) → self.new.desktop ≡ self.old.desktop }
         ensures over { OnOk result (IsLive self.new) }
@@ -71,7 +73,8 @@ impl LiveDesktop {
         disk: &mut D,
     ) -> Result<Option<Vec<(u8, Look)>>, Error>
         requires { IsLive self.old }
-        ensures found { IfOk result (λ file. D.honest disk.old → option_map (λ characters. characters.items) file ≡ file_of (shown self.old) name.now) }
+        ensures found { IfOk result (λ file. D.honest disk.old
+            → option_map (λ characters. characters.items) file ≡ file_of (shown self.old) name.now) }
         ensures same { StaysLive (D.honest disk.old) self.old self.new }
         ensures disk { IsConfined D.size D.honest D.trail Nowhere disk.old disk.new }
         ensures faults { FailsAs Error.Fault OfDesktop result (D.failures disk.old) (D.failures disk.new) }

@@ -1,5 +1,6 @@
 //! Reading what a disk shows. Nothing is written here.
-ghost use Rattle.std.specs.Prelude.{◌≡◌, ◌⊎◌, ◌<◌, ◌≤◌, ◌+◌, [], ◌∷◌, true, false, ℕ, IfOk, IfNone, IfSome, OnOk, IsErrOf};
+ghost use Rattle.std.specs.Prelude.{◌≡◌, ◌⊎◌, ◌<◌, ◌≤◌, ◌+◌, [], ◌∷◌};
+ghost use Rattle.std.specs.Prelude.{true, false, ℕ, IfOk, IfNone, IfSome, OnOk, IsErrOf};
 ghost use Rattle.sector_disk.specs.Trail.{Nowhere, now};
 ghost use Rattle.sector_disk.specs.Confined.{IsConfined};
 ghost use Rattle.sector_disk.specs.Faults.{FailsAs, OneOf};
@@ -26,12 +27,15 @@ use std::alloc::Global;
 fn check_slot<D: Disk>(disk: &mut D) -> Result<(), Error>
     requires { STORE_SECTORS ≤ D.size disk.old }
     ensures kept { IsConfined D.size D.honest D.trail Nowhere disk.old disk.new }
-    ensures faults { FailsAs Error.Fault (OneOf (Error.Fault ∷ Error.NotAStore ∷ Error.Damaged (slot_gate 0) ∷ [])) result (D.failures disk.old) (D.failures disk.new) }
+    ensures faults { FailsAs Error.Fault (OneOf (Error.Fault ∷ Error.NotAStore ∷ Error.Damaged (slot_gate 0) ∷ [])) result
+        (D.failures disk.old) (D.failures disk.new) }
     ensures label { OnOk result (D.honest disk.old → is_label ((now (D.trail disk.old)).reads LABEL) ≡ true) }
     ensures live { OnOk result (D.honest disk.old → is_open ((now (D.trail disk.old)).reads (slot_gate 0)) ≡ true) }
-    ensures foreign { IsErrOf result Error.NotAStore → D.honest disk.old → is_label ((now (D.trail disk.old)).reads LABEL) ≡ false }
+    ensures foreign { IsErrOf result Error.NotAStore → D.honest disk.old
+        → is_label ((now (D.trail disk.old)).reads LABEL) ≡ false }
     ensures damaged { (n : ℕ) → IsErrOf result (Error.Damaged n) → D.honest disk.old
-        → (n ≡ slot_gate 0) × (is_label ((now (D.trail disk.old)).reads LABEL) ≡ true) × (is_open ((now (D.trail disk.old)).reads (slot_gate 0)) ≡ false) }
+        → (n ≡ slot_gate 0) × (is_label ((now (D.trail disk.old)).reads LABEL) ≡ true)
+        × (is_open ((now (D.trail disk.old)).reads (slot_gate 0)) ≡ false) }
 {
     let mut sector = [0; 1024];
     disk.read(LABEL, &mut sector)?;
@@ -50,9 +54,12 @@ fn read_event<D: Disk>(disk: &mut D, k: u32) -> Result<Option<Event>, Error>
     requires room { STORE_SECTORS ≤ D.size disk.old }
     requires index { k < JOURNAL_EVENTS }
     ensures kept { IsConfined D.size D.honest D.trail Nowhere disk.old disk.new }
-    ensures faults { FailsAs Error.Fault (OneOf (Error.Fault ∷ Error.Damaged (body 0 k) ∷ [])) result (D.failures disk.old) (D.failures disk.new) }
-    ensures none { IfOk result (λ found. IfNone found (D.honest disk.old → is_open ((now (D.trail disk.old)).reads (gate 0 k)) ≡ false)) }
-    ensures some { IfOk result (λ found. IfSome found (λ event. D.honest disk.old → (is_open ((now (D.trail disk.old)).reads (gate 0 k)) ≡ true)
+    ensures faults { FailsAs Error.Fault (OneOf (Error.Fault ∷ Error.Damaged (body 0 k) ∷ [])) result
+        (D.failures disk.old) (D.failures disk.new) }
+    ensures none { IfOk result (λ found. IfNone found (D.honest disk.old
+        → is_open ((now (D.trail disk.old)).reads (gate 0 k)) ≡ false)) }
+    ensures some { IfOk result (λ found. IfSome found (λ event. D.honest disk.old
+        → (is_open ((now (D.trail disk.old)).reads (gate 0 k)) ≡ true)
         × Begins ((now (D.trail disk.old)).reads (body 0 k)) event)) }
     ensures damaged { (n : ℕ) → IsErrOf result (Error.Damaged n) → D.honest disk.old → (n ≡ body 0 k)
         × (is_open ((now (D.trail disk.old)).reads (gate 0 k)) ≡ true)
@@ -78,7 +85,8 @@ fn replay<D: Disk>(alloc: Global, disk: &mut D, desktop: &mut LiveDesktop) -> Re
     ensures kept { IsConfined D.size D.honest D.trail Nowhere disk.old disk.new }
     ensures faults { FailsAs Error.Fault OfReplay result (D.failures disk.old) (D.failures disk.new) }
     ensures few { IfOk result (λ count. count ≤ JOURNAL_EVENTS) }
-    ensures whole { IfOk result (λ count. D.honest disk.old → IsReadWhole (now (D.trail disk.old)).reads 0 count (shown desktop.old) (shown desktop.new)) }
+    ensures whole { IfOk result (λ count. D.honest disk.old
+        → IsReadWhole (now (D.trail disk.old)).reads 0 count (shown desktop.old) (shown desktop.new)) }
     ensures over { OnOk result (IsLive desktop.new) }
     ensures damaged { (n : ℕ) → IsErrOf result (Error.Damaged n) → D.honest disk.old
         → (k : ℕ) × (n ≡ body 0 k) × IsNoEvent (now (D.trail disk.old)).reads 0 k }
@@ -100,7 +108,8 @@ fn rebuild<D: Disk>(alloc: Global, disk: &mut D) -> Result<(LiveDesktop, u32), E
     ensures kept { IsConfined D.size D.honest D.trail Nowhere disk.old disk.new }
     ensures faults { FailsAs Error.Fault OfReplay result (D.failures disk.old) (D.failures disk.new) }
     ensures few { IfOk result (λ x. x.1 ≤ JOURNAL_EVENTS) }
-    ensures whole { IfOk result (λ x. D.honest disk.old → IsReadWhole (now (D.trail disk.old)).reads 0 x.1 empty_desktop (shown x.0)) }
+    ensures whole { IfOk result (λ x. D.honest disk.old
+        → IsReadWhole (now (D.trail disk.old)).reads 0 x.1 empty_desktop (shown x.0)) }
     ensures over { IfOk result (λ x. IsLive x.0) }
     ensures damaged { (n : ℕ) → IsErrOf result (Error.Damaged n) → D.honest disk.old
         → (k : ℕ) × (n ≡ body 0 k) × IsNoEvent (now (D.trail disk.old)).reads 0 k }
@@ -116,11 +125,15 @@ pub fn load<D: Disk>(alloc: Global, disk: &mut D) -> Result<(LiveDesktop, u32), 
     ensures faults { FailsAs Error.Fault OfOpen result (D.failures disk.old) (D.failures disk.new) }
     ensures large { OnOk result (STORE_SECTORS ≤ D.size disk.new) }
     ensures few { IfOk result (λ x. x.1 ≤ JOURNAL_EVENTS) }
-    ensures found { IfOk result (λ x. D.honest disk.old → Shows (D.size disk.old) 1 x.1 (shown x.0) (now (D.trail disk.old)).reads) }
-    ensures shown { IfOk result (λ x. D.honest disk.old → IsKept (D.size disk.old) (D.trail disk.new) 1 x.1 (shown x.0)) }
+    ensures found { IfOk result (λ x. D.honest disk.old
+        → Shows (D.size disk.old) 1 x.1 (shown x.0) (now (D.trail disk.old)).reads) }
+    ensures shown { IfOk result (λ x. D.honest disk.old
+        → IsKept (D.size disk.old) (D.trail disk.new) 1 x.1 (shown x.0)) }
     ensures over { IfOk result (λ x. IsLive x.0) }
-    ensures foreign { IsErrOf result Error.NotAStore → D.honest disk.old → IsForeign (D.size disk.old) (now (D.trail disk.old)).reads }
-    ensures damaged { (n : ℕ) → IsErrOf result (Error.Damaged n) → D.honest disk.old → IsDamagedAt (D.size disk.old) (now (D.trail disk.old)).reads n }
+    ensures foreign { IsErrOf result Error.NotAStore → D.honest disk.old
+        → IsForeign (D.size disk.old) (now (D.trail disk.old)).reads }
+    ensures damaged { (n : ℕ) → IsErrOf result (Error.Damaged n) → D.honest disk.old
+        → IsDamagedAt (D.size disk.old) (now (D.trail disk.old)).reads n }
 {
     disk.sync()?;
     if disk.sectors() < STORE_SECTORS {

@@ -29,7 +29,8 @@ use std::alloc::Global;
 fn close_next<D: Disk>(disk: &mut D, k: u32) -> Result<(), Fault>
     requires room { STORE_SECTORS ≤ D.size disk.old }
     requires index { k < JOURNAL_EVENTS }
-    ensures kept { IsConfined D.size D.honest D.trail (λ n. (n ≡ gate 0 (k + 1)) × (k + 1 < JOURNAL_EVENTS)) disk.old disk.new }
+    ensures kept { IsConfined D.size D.honest D.trail (λ n. (n ≡ gate 0 (k + 1))
+        × (k + 1 < JOURNAL_EVENTS)) disk.old disk.new }
     ensures cause { CountsFault result (D.failures disk.old) (D.failures disk.new) }
     ensures closed { OnOk result (k + 1 < JOURNAL_EVENTS → D.honest disk.old
         → is_open ((now (D.trail disk.new)).reads (gate 0 (k + 1))) ≡ false) }
@@ -77,9 +78,12 @@ fn add_record<D: Disk>(disk: &mut D, k: u32, event: &Event) -> Result<(), Fault>
     requires index { k < JOURNAL_EVENTS }
     ensures device { IsSameDevice D.Disk disk.old disk.new }
     ensures cause { CountsFault result (D.failures disk.old) (D.failures disk.new) }
-    ensures any_moment { D.honest disk.old → (number : ℕ) (desktop : Desktop) → IsKept (D.size disk.old) (D.trail disk.old) number k desktop
-        → LeavesOnly (D.trail disk.old) (D.trail disk.new) (MeansEither (D.size disk.old) desktop (step desktop event.now).0) }
-    ensures added { OnOk result (D.honest disk.old → (number : ℕ) (desktop : Desktop) → IsKept (D.size disk.old) (D.trail disk.old) number k desktop
+    ensures any_moment { D.honest disk.old → (number : ℕ) (desktop : Desktop)
+        → IsKept (D.size disk.old) (D.trail disk.old) number k desktop
+        → LeavesOnly (D.trail disk.old) (D.trail disk.new)
+            (MeansEither (D.size disk.old) desktop (step desktop event.now).0) }
+    ensures added { OnOk result (D.honest disk.old → (number : ℕ) (desktop : Desktop)
+        → IsKept (D.size disk.old) (D.trail disk.old) number k desktop
         → IsKept (D.size disk.old) (D.trail disk.new) number (k + 1) (step desktop event.now).0) }
 {
     stage(disk, k, event)?;
@@ -98,14 +102,18 @@ pub fn record<D: Disk>(
     requires room { STORE_SECTORS ≤ D.size disk.old }
     requires index { k < JOURNAL_EVENTS }
     requires over { IsLive desktop.old }
-    ensures any_moment { D.honest disk.old → (number : ℕ) → IsKept (D.size disk.old) (D.trail disk.old) number k (shown desktop.old)
-        → LeavesOnly (D.trail disk.old) (D.trail disk.new) (MeansEither (D.size disk.old) (shown desktop.old) (step (shown desktop.old) event.now).0) }
+    ensures any_moment { D.honest disk.old → (number : ℕ)
+        → IsKept (D.size disk.old) (D.trail disk.old) number k (shown desktop.old)
+        → LeavesOnly (D.trail disk.old) (D.trail disk.new)
+            (MeansEither (D.size disk.old) (shown desktop.old) (step (shown desktop.old) event.now).0) }
     ensures unrecorded { IsErrOf result Error.NoMemory → D.honest disk.old → (number : ℕ)
         → IsKept (D.size disk.old) (D.trail disk.old) number k (shown desktop.old)
         → LeavesOnly (D.trail disk.old) (D.trail disk.new) (Means (D.size disk.old) (shown desktop.old)) }
-    ensures added { OnOk result (D.honest disk.old → (number : ℕ) → IsKept (D.size disk.old) (D.trail disk.old) number k (shown desktop.old)
+    ensures added { OnOk result (D.honest disk.old → (number : ℕ)
+        → IsKept (D.size disk.old) (D.trail disk.old) number k (shown desktop.old)
         → IsKept (D.size disk.old) (D.trail disk.new) number (k + 1) (shown desktop.new)) }
-    ensures stepped { IfOk result (λ reply. D.honest disk.old → (shown desktop.new, reply) ≡ step (shown desktop.old) event.now) }
+    ensures stepped { IfOk result (λ reply. D.honest disk.old
+        → (shown desktop.new, reply) ≡ step (shown desktop.old) event.now) }
     ensures replies { IfOk result IsReply }
     ensures refusal { (code : ℕ) → result ≡ Ok (No code) → desktop.new.desktop ≡ desktop.old.desktop }
     ensures over { OnOk result (IsLive desktop.new) }

@@ -17,8 +17,8 @@ use std::alloc::Global;
 /// What a post returns.
 pub type Answer = Result<Reply, Error>;
 
-/// Posts the events in order, and returns what each post returned. It allocates the memory for that first, and changes nothing where
-/// there is none.
+/// Posts the events in order, and returns what each post returned. It allocates the memory for that first, and changes
+/// nothing where there is none.
 ///
 /// Error: `NoMemory`.
 pub fn post_all<D: Disk>(
@@ -30,7 +30,8 @@ pub fn post_all<D: Disk>(
     ensures each { IfOk result (λ answers. length answers.items ≡ length events.now) }
     ensures run { IfOk result (λ answers. IsRun D.Disk (posts_of events.now answers.items) store.old store.new) }
     // However the posts ended, and wherever a crash cuts them off.
-    ensures any_moment { IfOk result (λ answers. SurvivesRun D.Disk (posts_of events.now answers.items) store.old store.new) }
+    ensures any_moment { IfOk result (λ answers. SurvivesRun D.Disk
+        (posts_of events.now answers.items) store.old store.new) }
     ensures refused { IsErr result → store.new ≡ store.old }
 {
     let mut answers = Vec::with_capacity(alloc, events.len())?;
@@ -55,10 +56,12 @@ pub fn post_and_reopen<D: Disk>(
     requires { store.must_reopen ≡ false }
     ensures ok { IfOk result (λ reopened. IsReopened D.Disk events.now store reopened) }
     // Wherever a crash cuts it off, and whatever it returns.
-    ensures any_moment { D.honest store.disk → LeavesOnly (D.trail store.disk) (D.trail (disk_after (λ reopened. reopened.disk) result))
+    ensures any_moment { D.honest store.disk
+        → LeavesOnly (D.trail store.disk) (D.trail (disk_after (λ reopened. reopened.disk) result))
         (MeansSome (D.size store.disk) store.desktop events.now) }
     ensures device { IsSameDevice D.Disk store.disk (disk_after (λ reopened. reopened.disk) result) }
-    ensures faults { FailsAs Error.Fault OfReopen (outcome result) (D.failures store.disk) (D.failures (disk_after (λ reopened. reopened.disk) result)) }
+    ensures faults { FailsAs Error.Fault OfReopen (outcome result) (D.failures store.disk) (D.failures (disk_after
+        (λ reopened. reopened.disk) result)) }
 {
     let mut store = store;
     // What the store shows is what a crash would leave now.

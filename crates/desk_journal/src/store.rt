@@ -1,7 +1,7 @@
 //! The store and its calls.
 //!
-//! A clause sees a store as a `StoreView`. What each call promises is said in words, one for an outcome, of `specs/Opening.antt`,
-//! `specs/Posting.antt` and `specs/Looking.antt`.
+//! A clause sees a store as a `StoreView`. What each call promises is said in words, one for an outcome, of
+//! `specs/Opening.antt`, `specs/Posting.antt` and `specs/Looking.antt`.
 ghost use Rattle.std.specs.Prelude.{◌≡◌, ◌<◌, ◌≤◌, ◌↔◌, true, false, Ok, Err, IfOk, IfErr, OnOk, IsErrOf, option_map};
 ghost use Rattle.sector_disk.specs.Trail.{Leaves, now};
 ghost use Rattle.sector_disk.specs.Confined.{IsConfined};
@@ -37,8 +37,8 @@ const LAYOUT: u32 = 1;
 /// The epoch of the one slot.
 const EPOCH: u32 = 1;
 
-/// What a store says of itself: the version of its layout, the epoch of its slot, the number of events in its journal, and the
-/// number of characters ever written.
+/// What a store says of itself: the version of its layout, the epoch of its slot, the number of events in its journal,
+/// and the number of characters ever written.
 #[derive(Clone, Copy, Debug, PartialEq, Eq)]
 pub struct Info {
     pub layout: u32,
@@ -49,8 +49,8 @@ pub struct Info {
 
 /// A desktop on a disk.
 ///
-/// After `NoMemory` or `Fault` of a post the store isn't used again: each call but `close` returns `MustReopen`, and what is on the
-/// disk is found by opening it.
+/// After `NoMemory` or `Fault` of a post the store isn't used again: each call but `close` returns `MustReopen`, and
+/// what is on the disk is found by opening it.
 #[derive(Drop)]
 pub struct Store<D: Disk> {
     disk: D,
@@ -67,23 +67,34 @@ impl<D: Disk> Model for Store<D> {
 
     ghost Value = { StoreView D };
 
-    ghost view = { λ s. record { disk = s.disk; desktop = shown s.desktop; kept = s.desktop.desktop; epoch = 1; events = s.events; must_reopen = s.must_reopen } };
+    ghost view = { λ s. record {
+        disk = s.disk;
+        desktop = shown s.desktop;
+        kept = s.desktop.desktop;
+        epoch = 1;
+        events = s.events;
+        must_reopen = s.must_reopen;
+    } };
 
-    ghost invariant = { λ s. s.must_reopen ≡ false → (s.events ≤ JOURNAL_EVENTS) × (STORE_SECTORS ≤ D.Disk.size s.disk) × IsLive s.desktop
+    ghost invariant = { λ s. s.must_reopen ≡ false → (s.events ≤ JOURNAL_EVENTS)
+        × (STORE_SECTORS ≤ D.Disk.size s.disk) × IsLive s.desktop
         × (D.Disk.honest s.disk → IsKept (D.Disk.size s.disk) (D.Disk.trail s.disk) 1 s.events (shown s.desktop)) };
 }
 
 impl<D: Disk> Store<D> {
     /// Makes the disk a store of the empty desktop. It takes no memory, and hands the disk back.
     ///
-    /// Errors, each with the disk: `TooSmall` where it has fewer sectors than a store needs, and then it is untouched; `Fault`, after
-    /// which it may be no store.
+    /// Errors, each with the disk: `TooSmall` where it has fewer sectors than a store needs, and then it is untouched;
+    /// `Fault`, after which it may be no store.
     pub fn format(disk: D) -> Result<D, (Error, D)>
-        ensures empty { IfOk result (λ new. D.honest disk → Leaves (now (D.trail new)) (Shows (D.size new) 1 0 empty_desktop)) }
+        ensures empty { IfOk result (λ new. D.honest disk
+            → Leaves (now (D.trail new)) (Shows (D.size new) 1 0 empty_desktop)) }
         ensures small { IsErrOf (outcome result) Error.TooSmall ↔ (D.size disk < STORE_SECTORS) }
         ensures untouched { IfErr result (λ e. e.0 ≡ Error.TooSmall → e.1 ≡ disk) }
-        ensures within { IsConfined D.size D.honest D.trail (λ n. n < STORE_SECTORS) disk (disk_after (λ new. new) result) }
-        ensures faults { FailsAs Error.Fault OfFormat (outcome result) (D.failures disk) (D.failures (disk_after (λ new. new) result)) }
+        ensures within { IsConfined D.size D.honest D.trail (λ n. n < STORE_SECTORS) disk (disk_after
+            (λ new. new) result) }
+        ensures faults { FailsAs Error.Fault OfFormat (outcome result) (D.failures disk) (D.failures (disk_after
+            (λ new. new) result)) }
     {
         let mut disk = disk;
         if disk.sectors() < STORE_SECTORS {
@@ -97,13 +108,15 @@ impl<D: Disk> Store<D> {
 
     /// Opens a disk and does the events of its journal. It begins with a sync and writes nothing.
     ///
-    /// Errors, each with the disk: `NotAStore` where it has fewer sectors than a store needs, or another label; `Damaged(n)` where the
-    /// slot's gate, sector n, isn't open, or where the body in sector n, under an open gate, begins with no event; `Fault`; `NoMemory`.
+    /// Errors, each with the disk: `NotAStore` where it has fewer sectors than a store needs, or another label;
+    /// `Damaged(n)` where the slot's gate, sector n, isn't open, or where the body in sector n, under an open gate,
+    /// begins with no event; `Fault`; `NoMemory`.
     pub fn open(alloc: Global, disk: D) -> Result<Store<D>, (Error, D)>
         ensures ok { IfOk result (λ store. IsOpened D.Disk disk store) }
         ensures no_store { IfErr result (λ e. IsNoStore D.Disk disk e.0) }
         ensures any_moment { IsOnlyRead D.Disk disk (disk_after (λ store. store.disk) result) }
-        ensures faults { FailsAs Error.Fault OfOpen (outcome result) (D.failures disk) (D.failures (disk_after (λ store. store.disk) result)) }
+        ensures faults { FailsAs Error.Fault OfOpen (outcome result) (D.failures disk) (D.failures (disk_after
+            (λ store. store.disk) result)) }
     {
         let mut disk = disk;
         match load(alloc, &mut disk) {
@@ -119,8 +132,9 @@ impl<D: Disk> Store<D> {
 
     /// Takes one event: does it, and puts it into the journal. At `Ok` it is acknowledged, whatever the reply.
     ///
-    /// Errors: `MustReopen` after an earlier `NoMemory` or `Fault`; `JournalFull` at 256 events; `NoMemory`, and the event is on the disk
-    /// in no image; `Fault`, and it may be there or not. The first two change nothing; after the last two the store must be opened again.
+    /// Errors: `MustReopen` after an earlier `NoMemory` or `Fault`; `JournalFull` at 256 events; `NoMemory`, and the
+    /// event is on the disk in no image; `Fault`, and it may be there or not. The first two change nothing; after the
+    /// last two the store must be opened again.
     pub fn post(&mut self, alloc: Global, event: &Event) -> Result<Reply, Error>
         ensures any_moment { LeavesEither D.Disk event.now self.old self.new }
         ensures ok { IfOk result (λ reply. IsAcknowledged D.Disk event.now reply self.old self.new) }
@@ -154,7 +168,8 @@ impl<D: Disk> Store<D> {
     ///
     /// Errors: `MustReopen`; `NoMemory`; `Fault`.
     pub fn file(&mut self, alloc: Global, name: &Name) -> Result<Option<Vec<(u8, Look)>>, Error>
-        ensures found { IfOk result (λ file. D.honest self.old.disk → option_map (λ characters. characters.items) file ≡ file_of self.old.desktop name.now) }
+        ensures found { IfOk result (λ file. D.honest self.old.disk
+            → option_map (λ characters. characters.items) file ≡ file_of self.old.desktop name.now) }
         ensures looks { OnlyLooks D.Disk result self.old self.new }
     {
         if self.must_reopen {
@@ -167,7 +182,8 @@ impl<D: Disk> Store<D> {
     ///
     /// Errors: `MustReopen`; `NoMemory`; `Fault`.
     pub fn list(&mut self, alloc: Global) -> Result<Vec<Entry>, Error>
-        ensures entries { IfOk result (λ entries. D.honest self.old.disk → entries.items ≡ entries_of self.old.desktop) }
+        ensures entries { IfOk result (λ entries. D.honest self.old.disk
+            → entries.items ≡ entries_of self.old.desktop) }
         ensures looks { OnlyLooks D.Disk result self.old self.new }
     {
         if self.must_reopen {
@@ -194,7 +210,13 @@ impl<D: Disk> Store<D> {
     /// Error: `MustReopen`.
     pub fn info(&self) -> Result<Info, Error>
         ensures value { self.now.must_reopen ≡ false
-            → result ≡ Ok (record { layout = 1; epoch = self.now.epoch; events = self.now.events; written = self.now.desktop.written }) }
+            → result ≡ Ok
+            (record {
+                layout = 1;
+                epoch = self.now.epoch;
+                events = self.now.events;
+                written = self.now.desktop.written;
+            }) }
         ensures reopen { self.now.must_reopen ≡ true → result ≡ Err Error.MustReopen }
         ensures few { self.now.must_reopen ≡ false → self.now.events ≤ JOURNAL_EVENTS }
         ensures durable { self.now.must_reopen ≡ false → IsDurable D.Disk self.now }

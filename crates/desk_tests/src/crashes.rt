@@ -1,4 +1,5 @@
-//! Crashes of stores, tried one by one: every stop at a call of the disk, with every filling of the sectors that are pending then.
+//! Crashes of stores, tried one by one: every stop at a call of the disk, with every filling of the sectors that are
+//! pending then.
 use crate::stores::{beginning_with, event, fresh, found, opened, post, put, sector, with_events};
 use desk_journal::{Error, Store};
 use sector_disk::{Disk, Fuse, MemoryDisk, OneFault, Sector};
@@ -11,11 +12,12 @@ const CALLS_TO_OPEN: u64 = 6;
 /// How many calls a post makes: a body and a closed gate, a sync, an open gate, a sync.
 const CALLS_TO_POST: u64 = 5;
 
-/// How many calls formatting makes: two gates of slots and a sync, gate 0, the label and a sync, the slot's gate and a sync.
+/// How many calls formatting makes: two gates of slots and a sync, gate 0, the label and a sync, the slot's gate and a
+/// sync.
 const CALLS_TO_FORMAT: u64 = 8;
 
-/// Posts the second of the three events over a disk that fails at some call. Whether the post returned Fault, and the next one that the
-/// store must be opened again; and the disk.
+/// Posts the second of the three events over a disk that fails at some call. Whether the post returned Fault, and the
+/// next one that the store must be opened again; and the disk.
 fn second_post<D: Disk + Drop>(alloc: Global, disk: D) -> Result<(bool, D), Fail> {
     let event = event(1)?;
     let mut store = opened(alloc, disk)?;
@@ -75,7 +77,8 @@ fn filled(disk: &mut MemoryDisk, n: u32, filling: usize) -> Sector {
     bytes
 }
 
-/// The fillings of the pending sectors that a number chooses, each by one of its five digits; None where the number is too large.
+/// The fillings of the pending sectors that a number chooses, each by one of its five digits; None where the number is
+/// too large.
 fn chosen(
     alloc: Global,
     disk: &mut MemoryDisk,
@@ -92,7 +95,8 @@ fn chosen(
     Ok((rest == 0).then_some(sectors))
 }
 
-/// What every image of a disk may show: from the first number of events to the second, or for some that it isn't opened at all.
+/// What every image of a disk may show: from the first number of events to the second, or for some that it isn't opened
+/// at all.
 #[derive(Clone, Copy)]
 struct Wanted {
     least: u32,
@@ -211,8 +215,8 @@ fn formatted(alloc: Global, calls: u64) -> Result<MemoryDisk, Fail> {
     }
 }
 
-/// What the images of a store of three events may show that is formatted anew and stopped at that call. After the first sync the old store
-/// is never found, and before the slot's gate is written none is.
+/// What the images of a store of three events may show that is formatted anew and stopped at that call. After the first
+/// sync the old store is never found, and before the slot's gate is written none is.
 fn wanted_of_format(calls: u64) -> Wanted {
     Wanted {
         least: if calls < 3 { 3 } else { 0 },

@@ -22,7 +22,8 @@ fn three_events(alloc: Global) -> Result<Vec<Event>, Fail> {
     Ok(Vec::from_array(alloc, events)?)
 }
 
-/// Posts the three events as one run over a new store whose disk passes so many calls: what each returned, and the disk.
+/// Posts the three events as one run over a new store whose disk passes so many calls: what each returned, and the
+/// disk.
 fn run(alloc: Global, calls: u64) -> Result<(Vec<Answer>, MemoryDisk), Fail> {
     let events = three_events(alloc)?;
     match Store::open(alloc, Fuse::new(fresh(alloc)?, calls)) {
@@ -56,8 +57,8 @@ fn a_run_over_a_fault(rt: HostRuntime) -> Result<(), Fail> {
     Ok(())
 }
 
-/// Posts the three events over a new store whose disk passes so many calls, closes the store and opens it again. Why that was refused; or
-/// None, and then all the files are there.
+/// Posts the three events over a new store whose disk passes so many calls, closes the store and opens it again. Why
+/// that was refused; or None, and then all the files are there.
 fn reopened(alloc: Global, calls: u64) -> Result<Option<Error>, Fail> {
     let events = three_events(alloc)?;
     match Store::open(alloc, Fuse::new(fresh(alloc)?, calls)) {

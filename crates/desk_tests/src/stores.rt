@@ -133,7 +133,8 @@ pub fn with_events(alloc: Global, events: u32) -> Result<MemoryDisk, Fail> {
     Ok(store.close())
 }
 
-/// How many events a disk shows, and none where it can't be opened. It must show the files of just as many of the three.
+/// How many events a disk shows, and none where it can't be opened. It must show the files of just as many of the
+/// three.
 pub fn found(alloc: Global, disk: MemoryDisk) -> Result<Option<u32>, Fail> {
     match Store::open(alloc, disk) {
         Err(_) => Ok(None),
