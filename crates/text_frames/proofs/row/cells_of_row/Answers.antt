@@ -1,4 +1,4 @@
-use Rattle.std.proofs.Common.{◌≡◌, ◌≤◌, ◌+◌, ◌<◌, arith, ap, sym, ◌∙◌}
+use Rattle.std.proofs.Common.{◌≡◌, ◌≤◌, ◌+◌, arith, ap, sym, ◌∙◌}
 use Rattle.std.specs.Prelude.{length, replicate}
 use Rattle.std.proofs.lemmas.List.Elements.{All-same, All-nil}
 use Rattle.piece_ring.specs.Flat.{flat}
