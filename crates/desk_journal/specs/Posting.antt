@@ -40,7 +40,7 @@ module _ {D : Type 0} (d : Ghosts D) where
   abbrev pub LeavesEither : Event → StoreView D → StoreView D → Type 0
   LeavesEither event old new = old.must_reopen ≡ false → d.honest old.disk
       → LeavesOnly (d.trail old.disk) (d.trail new.disk)
-        (MeansEither (d.size old.disk) old.desktop (step old.desktop event).0)
+      (MeansEither (d.size old.disk) old.desktop (step old.desktop event).0)
 
   -- Ok: the event is acknowledged, whatever the reply
   pub record IsAcknowledged (event : Event) (reply : Reply) (old new : StoreView D) : Type 0 where

@@ -23,4 +23,3 @@ pub use laws::{finding_law, footprint_law, reopening_law, runs_compose, runs_sur
 pub use layout::{JOURNAL_EVENTS, STORE_SECTORS};
 pub use run::{Answer, post_all, post_and_reopen};
 pub use store::{Info, Store};
-

@@ -81,7 +81,7 @@ fn add_record<D: Disk>(disk: &mut D, k: u32, event: &Event) -> Result<(), Fault>
     ensures any_moment { D.honest disk.old → (number : ℕ) (desktop : Desktop)
         → IsKept (D.size disk.old) (D.trail disk.old) number k desktop
         → LeavesOnly (D.trail disk.old) (D.trail disk.new)
-            (MeansEither (D.size disk.old) desktop (step desktop event.now).0) }
+        (MeansEither (D.size disk.old) desktop (step desktop event.now).0) }
     ensures added { OnOk result (D.honest disk.old → (number : ℕ) (desktop : Desktop)
         → IsKept (D.size disk.old) (D.trail disk.old) number k desktop
         → IsKept (D.size disk.old) (D.trail disk.new) number (k + 1) (step desktop event.now).0) }
@@ -105,7 +105,7 @@ pub fn record<D: Disk>(
     ensures any_moment { D.honest disk.old → (number : ℕ)
         → IsKept (D.size disk.old) (D.trail disk.old) number k (shown desktop.old)
         → LeavesOnly (D.trail disk.old) (D.trail disk.new)
-            (MeansEither (D.size disk.old) (shown desktop.old) (step (shown desktop.old) event.now).0) }
+        (MeansEither (D.size disk.old) (shown desktop.old) (step (shown desktop.old) event.now).0) }
     ensures unrecorded { IsErrOf result Error.NoMemory → D.honest disk.old → (number : ℕ)
         → IsKept (D.size disk.old) (D.trail disk.old) number k (shown desktop.old)
         → LeavesOnly (D.trail disk.old) (D.trail disk.new) (Means (D.size disk.old) (shown desktop.old)) }

@@ -68,12 +68,12 @@ impl<D: Disk> Model for Store<D> {
     ghost Value = { StoreView D };
 
     ghost view = { λ s. record {
-        disk = s.disk;
-        desktop = shown s.desktop;
-        kept = s.desktop.desktop;
-        epoch = 1;
-        events = s.events;
-        must_reopen = s.must_reopen;
+      disk = s.disk;
+      desktop = shown s.desktop;
+      kept = s.desktop.desktop;
+      epoch = 1;
+      events = s.events;
+      must_reopen = s.must_reopen;
     } };
 
     ghost invariant = { λ s. s.must_reopen ≡ false → (s.events ≤ JOURNAL_EVENTS)
@@ -152,13 +152,7 @@ impl<D: Disk> Store<D> {
             return Err(Error::JournalFull);
         }
         self.must_reopen = true;
-        let reply = record(
-            alloc,
-            &mut self.desktop,
-            &mut self.disk,
-            self.events,
-            event,
-        )?;
+        let reply = record(alloc, &mut self.desktop, &mut self.disk, self.events, event)?;
         self.events += 1;
         self.must_reopen = false;
         Ok(reply)
@@ -212,10 +206,10 @@ impl<D: Disk> Store<D> {
         ensures value { self.now.must_reopen ≡ false
             → result ≡ Ok
             (record {
-                layout = 1;
-                epoch = self.now.epoch;
-                events = self.now.events;
-                written = self.now.desktop.written;
+              layout = 1;
+              epoch = self.now.epoch;
+              events = self.now.events;
+              written = self.now.desktop.written;
             }) }
         ensures reopen { self.now.must_reopen ≡ true → result ≡ Err Error.MustReopen }
         ensures few { self.now.must_reopen ≡ false → self.now.events ≤ JOURNAL_EVENTS }

@@ -1,6 +1,6 @@
 //! Crashes of stores, tried one by one: every stop at a call of the disk, with every filling of the sectors that are
 //! pending then.
-use crate::stores::{beginning_with, event, fresh, found, opened, post, put, sector, with_events};
+use crate::stores::{beginning_with, event, found, fresh, opened, post, put, sector, with_events};
 use desk_journal::{Error, Store};
 use sector_disk::{Disk, Fuse, MemoryDisk, OneFault, Sector};
 use std::alloc::Global;
@@ -247,7 +247,10 @@ fn format_leaves_a_gate(rt: HostRuntime) -> Result<(), Fail> {
     for calls in 3..7 {
         let mut disk = formatted(alloc, calls)?;
         let images = try_images(alloc, &mut disk, nothing)?;
-        assert!(rt; images > 0 && sector(&mut disk, 3)? == [0; 1024], "call {calls}");
+        assert!(rt;
+            images > 0 && sector(&mut disk, 3)? == [0; 1024],
+            "call {calls}"
+        );
     }
     Ok(())
 }

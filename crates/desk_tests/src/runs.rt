@@ -1,5 +1,5 @@
 //! Runs of posts, and stores that are closed and opened again.
-use crate::stores::{event, fresh, found, shows};
+use crate::stores::{event, found, fresh, shows};
 use desk_journal::{Answer, Error, Store, post_all, post_and_reopen};
 use event_bytes::Event;
 use event_loop::Reply;

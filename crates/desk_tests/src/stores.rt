@@ -265,6 +265,10 @@ fn journal_full(rt: HostRuntime) -> Result<(), Fail> {
         assert!(rt; store.post(alloc, &event) == Ok(Reply::Done));
     }
     assert!(rt; store.post(alloc, &event) == Err(Error::JournalFull));
-    assert!(rt; store.info().is_ok_and(|info| info.events == 256 && info.written == 256));
+    assert!(rt;
+        store
+            .info()
+            .is_ok_and(|info| info.events == 256 && info.written == 256)
+    );
     Ok(())
 }

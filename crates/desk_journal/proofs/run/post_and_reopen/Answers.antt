@@ -25,8 +25,8 @@ loop-event-init g c =
       count = omega arith;
       so_far = λ h. refl;
       images = λ h. at_start (g.D.Disk.trail store.disk) _ (λ content image.
-      after_some (g.D.Disk.size store.disk) store.desktop c.args.events.now content 0 (omega arith)
-      (shows_means (g.D.Disk.size store.disk) store.epoch store.events store.desktop content (durable h content image)));
+          after_some (g.D.Disk.size store.disk) store.desktop c.args.events.now content 0 (omega arith)
+          (shows_means (g.D.Disk.size store.disk) store.epoch store.events store.desktop content (durable h content image)));
     }
 
 pub loop-event-preserved : goal.loop-event-preserved
@@ -54,7 +54,7 @@ loop-event-preserved g c =
           let stepped : new.desktop ≡ (step old.desktop event).0 = ap (λ x. x.0) (p.ok.stepped (i.device.still h)) in
           stepped ∙ next_desktop size first.desktop events k old.desktop event room here (i.so_far h);
       images = λ h. posted_more size first.desktop events (g.D.Disk.trail first.disk) (g.D.Disk.trail old.disk) (g.D.Disk.trail new.disk) k old.desktop event room here (i.so_far h) (i.images h)
-      (subst (λ n. LeavesOnly (g.D.Disk.trail old.disk) (g.D.Disk.trail new.disk) (MeansEither n old.desktop (step old.desktop event).0)) i.device.as_large (p.any_moment i.usable (i.device.still h)));
+          (subst (λ n. LeavesOnly (g.D.Disk.trail old.disk) (g.D.Disk.trail new.disk) (MeansEither n old.desktop (step old.desktop event).0)) i.device.as_large (p.any_moment i.usable (i.device.still h)));
     }
 
 pub returns-in-Err-clause-any_moment : goal.returns-in-Err-clause-any_moment
