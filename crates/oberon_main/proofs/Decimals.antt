@@ -1,6 +1,25 @@
 -- Decimal digits of numbers of 32 bits.
-use Rattle.std.proofs.Common.{◌≡◌, ℕ, ◌+◌, ◌/◌, ◌%◌, ◌^◌, ◌<◌, ◌≤◌, List, [], ◌∷◌, ◌++◌, length, sym, ap, ◌∙◌, subst,
-    arith, add_comm}
+use Rattle.std.proofs.Common.{
+  ◌≡◌,
+  ℕ,
+  ◌+◌,
+  ◌/◌,
+  ◌%◌,
+  ◌^◌,
+  ◌<◌,
+  ◌≤◌,
+  List,
+  [],
+  ◌∷◌,
+  ◌++◌,
+  length,
+  sym,
+  ap,
+  ◌∙◌,
+  subst,
+  arith,
+  add_comm,
+}
 use Rattle.std.specs.Fmt.{decimal}
 use Rattle.std.proofs.lemmas.Fmt.{decimal_digit, decimal_step, length-decimal-le}
 
@@ -16,4 +35,4 @@ pub front_fits : (n : ℕ) (front : List ℕ) → n < 2 ^ 32 → front ≡ decim
 front_fits n front fits is =
     let small : n / 10 < 10 ^ 9 = omega (arith, fits) in
     subst (λ (l : List ℕ). length l ≤ 9) (sym is) (length-decimal-le 9 (n / 10) (omega arith) small
-        (omega (arith, fits)))
+    (omega (arith, fits)))

@@ -2,8 +2,15 @@
 use Rattle.std.proofs.Common.{◌≡◌, ◌⊎◌, ℕ, ◌<◌, Result, Ok, Err, IfOk, IfErr, ◌≢◌, [], ◌∷◌, inl, inr, refl, sym, ap, ◌∙◌, subst}
 use Rattle.sector_disk.specs.Faults.{FailsAs, OneOf}
 use Rattle.desk_journal.specs.declared.error.Error.{Error}
-use Rattle.desk_journal.specs.declared.error.Error.TheVariants.{NoMemory, Fault, MustReopen, NotAStore, Damaged, TooSmall,
-    JournalFull}
+use Rattle.desk_journal.specs.declared.error.Error.TheVariants.{
+  NoMemory,
+  Fault,
+  MustReopen,
+  NotAStore,
+  Damaged,
+  TooSmall,
+  JournalFull,
+}
 use Rattle.desk_journal.specs.Errors.{OfPost}
 use Rattle.oberon_main.specs.declared.answering.Answer.{Answer}
 use Rattle.oberon_main.specs.declared.playing.PlayEnd.{PlayEnd}
@@ -23,10 +30,16 @@ another_error error memory fault (inr is) = fault is
 
 counts : {T : Type 0} (error : Error) (failed failed' : ℕ) → IsRefusal error failed failed'
     → FailsAs {T = T} ends.Fault IsWorkEnd (Err (end_of error)) failed failed'
-counts NoMemory failed failed' refusal = record { rose = λ wrong. cc; calm = λ other. refusal.calm (λ wrong. cc);
-    errors = inr refl }
-counts Fault failed failed' refusal = record { rose = λ same. refusal.rose refl; calm = λ wrong. absurd (wrong refl);
-    errors = inl refl }
+counts NoMemory failed failed' refusal = record {
+  rose = λ wrong. cc;
+  calm = λ other. refusal.calm (λ wrong. cc);
+  errors = inr refl;
+}
+counts Fault failed failed' refusal = record {
+  rose = λ same. refusal.rose refl;
+  calm = λ wrong. absurd (wrong refl);
+  errors = inl refl;
+}
 counts MustReopen failed failed' refusal = absurd (another_error MustReopen (λ wrong. cc) (λ wrong. cc) refusal.named)
 counts NotAStore failed failed' refusal = absurd (another_error NotAStore (λ wrong. cc) (λ wrong. cc) refusal.named)
 counts (Damaged sector) failed failed' refusal = absurd (another_error (Damaged sector) (λ wrong. cc)
@@ -39,7 +52,7 @@ pub counts_end : {T : Type 0} (error : Error) (failed failed' : ℕ) → IsRefus
     → (result : Result T PlayEnd) → result ≡ Err end → FailsAs ends.Fault IsWorkEnd result failed failed'
 counts_end error failed failed' refusal end is result gives =
     subst (λ r. FailsAs ends.Fault IsWorkEnd r failed failed') (sym (gives ∙ ap (λ e. Err e) is))
-        (counts error failed failed' refusal)
+    (counts error failed failed' refusal)
 
 -- what a post's error is, after the two that say how the store stood before it
 pub refusal_of_post : {T : Type 0} (error : Error) (failed failed' : ℕ)

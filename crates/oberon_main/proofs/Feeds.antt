@@ -1,7 +1,41 @@
 -- The first line feed of bytes.
-use Rattle.std.proofs.Common.{◌≡◌, ◌≢◌, ℕ, ◌+◌, ◌-◌, ◌<◌, ◌≤◌, Bool, true, false, cond, eqb, ltb, not, suc, List, [],
-    ◌∷◌, ◌++◌, Option, None, Some, length, take, drop, refl, sym, ap, ◌∙◌, subst, arith, inl, inr, append_assoc,
-    add-one}
+use Rattle.std.proofs.Common.{
+  ◌≡◌,
+  ◌≢◌,
+  ℕ,
+  ◌+◌,
+  ◌-◌,
+  ◌<◌,
+  ◌≤◌,
+  Bool,
+  true,
+  false,
+  cond,
+  eqb,
+  ltb,
+  not,
+  suc,
+  List,
+  [],
+  ◌∷◌,
+  ◌++◌,
+  Option,
+  None,
+  Some,
+  length,
+  take,
+  drop,
+  refl,
+  sym,
+  ap,
+  ◌∙◌,
+  subst,
+  arith,
+  inl,
+  inr,
+  append_assoc,
+  add-one,
+}
 use Rattle.std.specs.Prelude.{position, ◌==◌}
 use Rattle.std.specs.List.{AllByRecursion, between, position_or_len}
 use Rattle.std.proofs.lemmas.Bool.{cases_Bool, eqb-true, eqb-false, ltb-true, ltb-false, cond-true, cond-false}
@@ -27,9 +61,9 @@ here bs = record { plain = tt; found = λ _. refl; whole = λ short. absurd (ome
 later : (b : ℕ) (bs : List ℕ) (i : ℕ) → b ≢ 10 → StandsAt bs i → StandsAt (b ∷ bs) (1 + i)
 later b bs i plain at =
     let front : take (1 + i) (b ∷ bs) ≡ b ∷ take i bs = (let e : 1 + i ≡ suc i = omega arith in
-        ap (λ (n : ℕ). take n (b ∷ bs)) e) in
+    ap (λ (n : ℕ). take n (b ∷ bs)) e) in
     let back : drop (1 + i + 1) (b ∷ bs) ≡ drop (i + 1) bs = (let e : 1 + i + 1 ≡ suc (i + 1) = omega arith in
-        ap (λ (n : ℕ). drop n (b ∷ bs)) e) in
+    ap (λ (n : ℕ). drop n (b ∷ bs)) e) in
     record {
       plain = subst IsLine (sym front) (plain, at.plain);
       found = λ lt. ap (λ l. b ∷ l) (at.found (omega arith))
@@ -62,14 +96,14 @@ no_feed bytes none = (stands bytes).whole ((at_place (feed_at bytes) (length byt
 pub before_feed : (bytes : List ℕ) (i : ℕ) → position is_feed bytes ≡ Some i → IsLine (take i bytes)
 before_feed bytes i found =
     let place : (feed_at bytes ≡ i) × (feed_at bytes < length bytes) =
-        (at_place (feed_at bytes) (length bytes) _ refl).1 i found in
+    (at_place (feed_at bytes) (length bytes) _ refl).1 i found in
     subst (λ (n : ℕ). IsLine (take n bytes)) place.0 (stands bytes).plain
 
 pub behind_feed : (bytes : List ℕ) (i : ℕ) → position is_feed bytes ≡ Some i → bytes ≡ ended (take i bytes)
     ++ drop (i + 1) bytes
 behind_feed bytes i found =
     let place : (feed_at bytes ≡ i) × (feed_at bytes < length bytes) =
-        (at_place (feed_at bytes) (length bytes) _ refl).1 i found in
+    (at_place (feed_at bytes) (length bytes) _ refl).1 i found in
     subst (λ (n : ℕ). bytes ≡ take n bytes ++ 10 ∷ drop (n + 1) bytes) place.0 ((stands bytes).found place.1)
     ∙ sym (append_assoc (take i bytes) (10 ∷ []) (drop (i + 1) bytes))
 

@@ -1,6 +1,28 @@
 -- A line that comes in several pieces.
-use Rattle.std.proofs.Common.{◌≡◌, ◌≢◌, ℕ, ◌+◌, ◌*◌, ◌<◌, ◌≤◌, List, [], ◌∷◌, ◌++◌, Option, length, refl, sym, ap,
-    ◌∙◌, subst, arith, append_assoc, append-nil, length-append}
+use Rattle.std.proofs.Common.{
+  ◌≡◌,
+  ◌≢◌,
+  ℕ,
+  ◌+◌,
+  ◌*◌,
+  ◌<◌,
+  ◌≤◌,
+  List,
+  [],
+  ◌∷◌,
+  ◌++◌,
+  Option,
+  length,
+  refl,
+  sym,
+  ap,
+  ◌∙◌,
+  subst,
+  arith,
+  append_assoc,
+  append-nil,
+  length-append,
+}
 use Rattle.std.specs.List.{AllByRecursion}
 use Rattle.std.specs.Io.KnownBytes.{Consumes}
 use Rattle.std.proofs.KnownBytes.{Consumes-nil, Consumes-trans}
@@ -47,7 +69,7 @@ pub gathered_more : (old mid now : Unplayed) (left left' left'' : Option (List �
     → HasGathered old mid left left' held
     → IsLine mid.pending → ((before : List ℕ) → Holds held before → Holds held' (before ++ mid.pending))
     → Consumes left' left'' now.pending → length now.pending ≤ 8192 → now.reads + 1 ≡ mid.reads
-        → most_lines now ≤ most_lines mid → HasGathered old now left left'' held'
+    → most_lines now ≤ most_lines mid → HasGathered old now left left'' held'
 gathered_more old mid now left left' left'' held held' before plain longer came most one_less fewer = record {
   front = before.front ++ mid.pending;
   read = before.read ++ now.pending;
@@ -63,7 +85,7 @@ gathered_more old mid now left left' left'' held held' before plain longer came 
 pub line_taken : (old mid new : Unplayed) (left left' : Option (List ℕ)) (held held' : Line)
     → HasGathered old mid left left' held
     → ((front : List ℕ) × IsLine front × (mid.pending ≡ ended front ++ new.pending) × ((before : List ℕ)
-        → Holds held before → Holds held' (before ++ front)))
+    → Holds held before → Holds held' (before ++ front)))
     → new.reads ≡ mid.reads → TakesLine old new left left' held'
 line_taken old mid new left left' held held' before (front, plain, parts, longer) reads = record {
   line = before.front ++ front;
@@ -80,12 +102,12 @@ line_taken old mid new left left' held held' before (front, plain, parts, longer
 pub fewer_lines : (old mid new : Unplayed) (left left' : Option (List ℕ)) (held held' : Line)
     → HasGathered old mid left left' held
     → ((front : List ℕ) × IsLine front × (mid.pending ≡ ended front ++ new.pending) × ((before : List ℕ)
-        → Holds held before → Holds held' (before ++ front)))
+    → Holds held before → Holds held' (before ++ front)))
     → new.reads ≡ mid.reads → most_lines new < most_lines old
 fewer_lines old mid new left left' held held' before (front, plain, parts, longer) reads =
     let size : length mid.pending ≡ length front + 1 + length new.pending
     = ap length parts ∙ length-append (ended front) new.pending
-        ∙ ap (λ n. n + length new.pending) (length-append front (10 ∷ [])) in
+    ∙ ap (λ n. n + length new.pending) (length-append front (10 ∷ [])) in
     omega (arith, before.fewer, reads, size)
 
 pub rest_taken : (old mid new : Unplayed) (left left' left'' : Option (List ℕ)) (held held' : Line)

@@ -1,6 +1,35 @@
 -- Playing the lines of a script, one after another.
-use Rattle.std.proofs.Common.{◌≡◌, ◌≢◌, ℕ, List, [], ◌∷◌, ◌++◌, Option, None, Some, IfSome, ◌+◌, ◌<◌, ◌≤◌, Result,
-    Err, length, length-append, arith, refl, sym, ap, ◌∙◌, subst, append_assoc, append-nil, ◌⊎◌, inl, inr}
+use Rattle.std.proofs.Common.{
+  ◌≡◌,
+  ◌≢◌,
+  ℕ,
+  List,
+  [],
+  ◌∷◌,
+  ◌++◌,
+  Option,
+  None,
+  Some,
+  IfSome,
+  ◌+◌,
+  ◌<◌,
+  ◌≤◌,
+  Result,
+  Err,
+  length,
+  length-append,
+  arith,
+  refl,
+  sym,
+  ap,
+  ◌∙◌,
+  subst,
+  append_assoc,
+  append-nil,
+  ◌⊎◌,
+  inl,
+  inr,
+}
 use Rattle.std.specs.List.{AllByRecursion, flat_map}
 use Rattle.std.specs.Io.KnownBytes.{Appends, Consumes, Keeps, IsAtEnd}
 use Rattle.std.proofs.KnownBytes.{Consumes-nil, Consumes-trans, Appends-nil, Appends-trans, Appends-kept}
@@ -15,8 +44,23 @@ use Rattle.oberon_main.specs.Reading.{Holds, Unplayed, TakesLine, TakesRest, Com
 use Rattle.oberon_main.specs.Request.{request_of}
 use Rattle.screen_cells.specs.Sent.{AppendsFront}
 use Rattle.oberon_main.specs.Session.{Session, answer, after, out, after_all}
-use Rattle.oberon_main.specs.Play.{IsPlayed, IsStopped, IsCutOff, TextOf, IsTold, IsHalted, EndsAs, CountsEnd,
-    CountsPlay, last_word, IsAnswered, LineEndsAs, IsLastAnswered, IsLastStopped, RestEndsAs}
+use Rattle.oberon_main.specs.Play.{
+  IsPlayed,
+  IsStopped,
+  IsCutOff,
+  TextOf,
+  IsTold,
+  IsHalted,
+  EndsAs,
+  CountsEnd,
+  CountsPlay,
+  last_word,
+  IsAnswered,
+  LineEndsAs,
+  IsLastAnswered,
+  IsLastStopped,
+  RestEndsAs,
+}
 use Rattle.oberon_main.proofs.Splitting.{some_split}
 
 -- ---- lists of lines
@@ -32,7 +76,7 @@ out_both s [] more = refl
 out_both s (line ∷ lines) more = ap (λ l. answer s (request_of line) ++ l)
     (out_both (after s (request_of line)) lines more)
     ∙ sym (append_assoc (answer s (request_of line)) (out (after s (request_of line)) lines)
-        (out (after_all (after s (request_of line)) lines) more))
+    (out (after_all (after s (request_of line)) lines) more))
 
 pub after_both : (s : Session) (lines more : List (List ℕ))
     → after_all s (lines ++ more) ≡ after_all (after_all s lines) more
@@ -80,7 +124,7 @@ pub begins_read : (script : List ℕ) (left : Option (List ℕ)) (read pending :
 begins_read script None read pending lines came each parts = absurd came
 begins_read script (Some left) read pending lines came each parts =
     begins_split script (pending ++ left) lines each (came ∙ ap (λ l. l ++ left) parts
-        ∙ append_assoc (flat_map ended lines) pending left) (some_split (pending ++ left))
+    ∙ append_assoc (flat_map ended lines) pending left) (some_split (pending ++ left))
 
 all_read : (script : List ℕ) (left : Option (List ℕ)) (read : List ℕ) → Consumes (Some script) left read
     → IsAtEnd left → script ≡ read
@@ -121,10 +165,10 @@ parts_more : (read read' pending pending' line : List ℕ) (lines : List (List �
     → read ++ read' ≡ flat_map ended (lines ++ line ∷ []) ++ pending'
 parts_more read read' pending pending' line lines before now =
     ap (λ l. l ++ read') before ∙ append_assoc (flat_map ended lines) pending read'
-        ∙ ap (λ l. flat_map ended lines ++ l) now
+    ∙ ap (λ l. flat_map ended lines ++ l) now
     ∙ sym (append_assoc (flat_map ended lines) (ended line) pending')
     ∙ ap (λ l. l ++ pending') (ap (λ l. flat_map ended lines ++ l) (sym (append-nil (ended line)))
-        ∙ sym (flat_map-append ended lines (line ∷ [])))
+    ∙ sym (flat_map-append ended lines (line ∷ [])))
 
 few_both : (read read' all old new most : ℕ) → all ≡ read + read' → read + old ≤ most → read' + new ≤ old
     → all + new ≤ most
@@ -137,34 +181,34 @@ pub played_more : (Honest : Type 0) (before now now' : Session) (left left' left
     → HasPlayed Honest before now' left left'' held held'' most new
 played_more Honest before now now' left left' left'' held held' held'' most old new line so_far taken answered =
     record {
-  lines = so_far.lines ++ taken.line ∷ [];
-  read = so_far.read ++ taken.read;
-  came = Consumes-trans left left' left'' so_far.read taken.read so_far.came taken.came;
-  few = few_both (length so_far.read) (length taken.read) _ (most_bytes old.reads) (most_bytes new.reads)
-      (most_bytes most) (length-append so_far.read taken.read) so_far.few taken.few;
-  each = all_both so_far.lines (taken.line ∷ []) so_far.each (taken.plain, tt);
-  parts = parts_more so_far.read taken.read old.pending new.pending taken.line so_far.lines so_far.parts taken.parts;
-  written = λ honest.
-      let one : IsAnswered (request_of taken.line) now now' held' held'' = answered honest taken.line taken.holds in
-      let same : answer now (request_of taken.line) ≡ out (after_all before so_far.lines) (taken.line ∷ [])
-      = ap (λ (s : Session). answer s (request_of taken.line)) (so_far.session honest)
+      lines = so_far.lines ++ taken.line ∷ [];
+      read = so_far.read ++ taken.read;
+      came = Consumes-trans left left' left'' so_far.read taken.read so_far.came taken.came;
+      few = few_both (length so_far.read) (length taken.read) _ (most_bytes old.reads) (most_bytes new.reads)
+          (most_bytes most) (length-append so_far.read taken.read) so_far.few taken.few;
+      each = all_both so_far.lines (taken.line ∷ []) so_far.each (taken.plain, tt);
+      parts = parts_more so_far.read taken.read old.pending new.pending taken.line so_far.lines so_far.parts taken.parts;
+      written = λ honest.
+          let one : IsAnswered (request_of taken.line) now now' held' held'' = answered honest taken.line taken.holds in
+          let same : answer now (request_of taken.line) ≡ out (after_all before so_far.lines) (taken.line ∷ [])
+          = ap (λ (s : Session). answer s (request_of taken.line)) (so_far.session honest)
           ∙ sym (out_one (after_all before so_far.lines) taken.line) in
-      subst (Appends held held'') (ap (λ l. out before so_far.lines ++ l) same
+          subst (Appends held held'') (ap (λ l. out before so_far.lines ++ l) same
           ∙ sym (out_both before so_far.lines (taken.line ∷ [])))
-      (Appends-trans held held' held'' (out before so_far.lines) (answer now (request_of taken.line))
+          (Appends-trans held held' held'' (out before so_far.lines) (answer now (request_of taken.line))
           (so_far.written honest) one.written);
-  session = λ honest.
-      let one : IsAnswered (request_of taken.line) now now' held' held'' = answered honest taken.line taken.holds in
-      one.session ∙ ap (λ (s : Session). after s (request_of taken.line)) (so_far.session honest)
+      session = λ honest.
+          let one : IsAnswered (request_of taken.line) now now' held' held'' = answered honest taken.line taken.holds in
+          one.session ∙ ap (λ (s : Session). after s (request_of taken.line)) (so_far.session honest)
           ∙ sym (after_both before so_far.lines (taken.line ∷ []));
-}
+    }
 
 -- ---- in how many pieces the script came
 
 pub pieces_with_line : (Honest : Type 0) (before now : Session) (left left' left'' held held' : Option (List ℕ))
     (most : ℕ) (old new : Unplayed) (line : Line)
     → HasPlayed Honest before now left left' held held' most old → TakesLine old new left' left'' line
-        → ComesInPieces most left left''
+    → ComesInPieces most left left''
 pieces_with_line Honest before now left left' left'' held held' most old new line so_far taken = record {
   read = so_far.read ++ taken.read;
   came = Consumes-trans left left' left'' so_far.read taken.read so_far.came taken.came;
@@ -177,7 +221,7 @@ pieces_with_line Honest before now left left' left'' held held' most old new lin
 pub pieces_with_rest : (Honest : Type 0) (before now : Session) (left left' left'' held held' : Option (List ℕ))
     (most : ℕ) (old new : Unplayed) (line : Line)
     → HasPlayed Honest before now left left' held held' most old → TakesRest old new left' left'' line
-        → ComesInPieces most left left''
+    → ComesInPieces most left left''
 pieces_with_rest Honest before now left left' left'' held held' most old new line so_far taken = record {
   read = so_far.read ++ taken.read;
   came = Consumes-trans left left' left'' so_far.read taken.read so_far.came taken.came;
@@ -239,7 +283,7 @@ counts_halted Output failed failed' counts = omega (arith, counts)
 stopped_at : (end : PlayEnd) (script : List ℕ) (before : Session) (held held' held'' : Option (List ℕ))
     (lines : List (List ℕ)) (failed : List ℕ)
     → BeginsWith script (lines ++ failed ∷ []) → Appends held held' (out before lines)
-        → Keeps held' held'' × (request_of failed ≢ Malformed)
+    → Keeps held' held'' × (request_of failed ≢ Malformed)
     → (text : List ℕ) × IsStopped [] script before text × Appends held held'' text
 stopped_at end script before held held' held'' lines failed begins written (kept, asked) = (
   out before lines,
@@ -261,7 +305,7 @@ answers_begin script before lines begins = ap (λ ls. out before ls) begins.firs
 halted_in : (script : List ℕ) (left : Option (List ℕ)) (before now : Session) (failed failed' : ℕ)
     (held held' held'' : Option (List ℕ)) (lines : List (List ℕ)) (line : List ℕ)
     → BeginsWith script (lines ++ line ∷ []) → Appends held held' (out before lines) → now ≡ after_all before lines
-        → failed' ≡ failed
+    → failed' ≡ failed
     → AppendsFront held' held'' (answer now (request_of line)) → IsHalted script left before failed failed' held held''
 halted_in script left before now failed failed' held held' held'' lines line begins written session calm front =
     let same : answer now (request_of line) ≡ out (after_all before lines) (line ∷ [])
@@ -294,9 +338,9 @@ halted_in script left before now failed failed' held held' held'' lines line beg
 line_ends : (end : PlayEnd) (script : List ℕ) (left : Option (List ℕ)) (before now now' : Session)
     (failed failed' : ℕ) (held held' held'' : Option (List ℕ)) (lines : List (List ℕ)) (line : List ℕ)
     → BeginsWith script (lines ++ line ∷ []) → Appends held held' (out before lines) → now ≡ after_all before lines
-        → CountsEnd end failed failed'
+    → CountsEnd end failed failed'
     → LineEndsAs end (request_of line) now held' held''
-        → EndsAs end [] script left before now' failed failed' held held''
+    → EndsAs end [] script left before now' failed failed' held held''
 line_ends Done script left before now now' failed failed' held held' held'' lines line begins written session counts
     why = absurd why
 line_ends Fault script left before now now' failed failed' held held' held'' lines line begins written session counts
@@ -316,7 +360,7 @@ line_ends Output script left before now now' failed failed' held held' held'' li
 pub stopped_in_line : (Honest : Type 0) (end : PlayEnd) (before now now' : Session) (failed failed' : ℕ)
     (left left' left'' held held' held'' : Option (List ℕ)) (most : ℕ) (old new : Unplayed) (line : Line)
     → HasPlayed Honest before now left left' held held' most old → TakesLine old new left' left'' line
-        → CountsEnd end failed failed'
+    → CountsEnd end failed failed'
     → (Honest → (bytes : List ℕ) → Holds line bytes → LineEndsAs end (request_of bytes) now held' held'')
     → Honest → IfSome left (λ script. EndsAs end [] script left'' before now' failed failed' held held'')
 stopped_in_line Honest end before now now' failed failed' None left' left'' held held' held'' most old new line so_far
@@ -345,40 +389,40 @@ begins_rest script lines rest split there = record {
 rest_ends : (end : PlayEnd) (script : List ℕ) (left : Option (List ℕ)) (before now now' : Session)
     (failed failed' : ℕ) (held held' held'' : Option (List ℕ)) (lines : List (List ℕ)) (rest : List ℕ)
     → IsSplit script lines rest → Appends held held' (out before lines) → now ≡ after_all before lines
-        → CountsEnd end failed failed'
+    → CountsEnd end failed failed'
     → RestEndsAs end rest now now' held' held'' → EndsAs end [] script left before now' failed failed' held held''
 rest_ends Done script left before now now' failed failed' held held' held'' lines rest split written session counts
     last = record {
-  text = out before (lines_at_end lines rest);
-  comes = record {
-    lines = lines;
-    rest = rest;
-    split = split;
-    answers = refl;
-    session = last.session ∙ ap (λ (s : Session). after_all s (lines_at_end [] rest)) session
-        ∙ sym (after_both before lines (lines_at_end [] rest))
-        ∙ ap (λ ls. after_all before ls) (sym (lines_then lines rest));
-  };
-  written = subst (Appends held held'')
-      (ap (λ (s : Session). out before lines ++ out s (lines_at_end [] rest)) session
+      text = out before (lines_at_end lines rest);
+      comes = record {
+        lines = lines;
+        rest = rest;
+        split = split;
+        answers = refl;
+        session = last.session ∙ ap (λ (s : Session). after_all s (lines_at_end [] rest)) session
+            ∙ sym (after_both before lines (lines_at_end [] rest))
+            ∙ ap (λ ls. after_all before ls) (sym (lines_then lines rest));
+      };
+      written = subst (Appends held held'')
+          (ap (λ (s : Session). out before lines ++ out s (lines_at_end [] rest)) session
           ∙ sym (out_both before lines (lines_at_end [] rest))
-      ∙ ap (λ ls. out before ls) (sym (lines_then lines rest)))
-      (Appends-trans held held' held'' (out before lines) (out now (lines_at_end [] rest)) written last.written);
-}
+          ∙ ap (λ ls. out before ls) (sym (lines_then lines rest)))
+          (Appends-trans held held' held'' (out before lines) (out now (lines_at_end [] rest)) written last.written);
+    }
 rest_ends Fault script left before now now' failed failed' held held' held'' lines rest split written session counts
     last =
     line_ends Fault script left before now now' failed failed' held held' held'' lines rest
-        (begins_rest script lines rest split last.there) written session counts last.why
+    (begins_rest script lines rest split last.there) written session counts last.why
 rest_ends Memory script left before now now' failed failed' held held' held'' lines rest split written session counts
     last =
     line_ends Memory script left before now now' failed failed' held held' held'' lines rest
-        (begins_rest script lines rest split last.there) written session counts last.why
+    (begins_rest script lines rest split last.there) written session counts last.why
 rest_ends Input script left before now now' failed failed' held held' held'' lines rest split written session counts
     last = absurd last
 rest_ends Output script left before now now' failed failed' held held' held'' lines rest split written session counts
     last =
     line_ends Output script left before now now' failed failed' held held' held'' lines rest
-        (begins_rest script lines rest split last.there) written session counts last.why
+    (begins_rest script lines rest split last.there) written session counts last.why
 
 -- all that came, with a rest after the last line feed
 split_rest : (read read' pending rest : List ℕ) (lines : List (List ℕ)) → read ≡ flat_map ended lines ++ pending
@@ -390,7 +434,7 @@ split_rest read read' pending rest lines before now = ap (λ l. l ++ read') befo
 pub ended_with_rest : (Honest : Type 0) (end : PlayEnd) (before now now' : Session) (failed failed' : ℕ)
     (left left' left'' held held' held'' : Option (List ℕ)) (most : ℕ) (old new : Unplayed) (line : Line)
     → HasPlayed Honest before now left left' held held' most old → TakesRest old new left' left'' line
-        → IsAtEnd left'' → CountsEnd end failed failed'
+    → IsAtEnd left'' → CountsEnd end failed failed'
     → (Honest → (rest : List ℕ) → Holds line rest → RestEndsAs end rest now now' held' held'')
     → Honest → IfSome left (λ script. EndsAs end [] script left'' before now' failed failed' held held'')
 ended_with_rest Honest end before now now' failed failed' None left' left'' held held' held'' most old new line so_far
@@ -414,22 +458,22 @@ pub cut_off : (Honest : Type 0) (before now : Session) (failed failed' : ℕ) (l
 cut_off Honest before now failed failed' None left' left'' held held' most old new line so_far taken honest = tt
 cut_off Honest before now failed failed' (Some script) left' left'' held held' most old new line so_far taken honest =
     record {
-  text = out before so_far.lines;
-  comes = record {
-    read = so_far.read ++ taken.read;
-    came = Consumes-trans (Some script) left' left'' so_far.read taken.read so_far.came taken.came;
-    lines = so_far.lines;
-    rest = taken.rest;
-    split = record {
-      whole = split_rest so_far.read taken.read old.pending taken.rest so_far.lines so_far.parts taken.parts;
-      each = so_far.each;
-      last = taken.plain;
-    };
-    answers = sym (append-nil (out before so_far.lines));
-    session = so_far.session honest;
-  };
-  written = so_far.written honest;
-}
+      text = out before so_far.lines;
+      comes = record {
+        read = so_far.read ++ taken.read;
+        came = Consumes-trans (Some script) left' left'' so_far.read taken.read so_far.came taken.came;
+        lines = so_far.lines;
+        rest = taken.rest;
+        split = record {
+          whole = split_rest so_far.read taken.read old.pending taken.rest so_far.lines so_far.parts taken.parts;
+          each = so_far.each;
+          last = taken.plain;
+        };
+        answers = sym (append-nil (out before so_far.lines));
+        session = so_far.session honest;
+      };
+      written = so_far.written honest;
+    }
 
 -- ---- the last word
 
@@ -469,7 +513,7 @@ text_with Output script left before now text comes = absurd comes
 told_with : (end : PlayEnd) (script : List ℕ) (left : Option (List ℕ)) (before now : Session)
     (held held' held'' : Option (List ℕ))
     → IsTold end [] script left before now held held' → Appends held' held'' (last_word end)
-        → IsTold end (last_word end) script left before now held held''
+    → IsTold end (last_word end) script left before now held held''
 told_with end script left before now held held' held'' told said = record {
   text = told.text ++ last_word end;
   comes = text_with end script left before now told.text told.comes;
@@ -480,7 +524,7 @@ told_with end script left before now held held' held'' told said = record {
 halted_after : (end : PlayEnd) (script : List ℕ) (left : Option (List ℕ)) (before now : Session) (failed failed' : ℕ)
     (held held' held'' : Option (List ℕ))
     → IsTold end [] script left before now held held' → CountsEnd end failed failed'
-        → AppendsFront held' held'' (last_word end)
+    → AppendsFront held' held'' (last_word end)
     → IsHalted script left before failed failed' held held''
 halted_after cause script left before now failed failed' held held' held'' told counts front = record {
   end = cause;
@@ -500,7 +544,7 @@ halted_after cause script left before now failed failed' held held' held'' told 
 still_halted : (script : List ℕ) (left : Option (List ℕ)) (before : Session) (failed failed' : ℕ)
     (held held' held'' : Option (List ℕ))
     → IsHalted script left before failed failed' held held' → Appends held' held'' []
-        → IsHalted script left before failed failed' held held''
+    → IsHalted script left before failed failed' held held''
 still_halted script left before failed failed' held held' held'' halted said = record {
   end = halted.end;
   after = halted.after;
@@ -534,7 +578,7 @@ said_for Output script left before now failed failed' held held' held'' ends sai
 pub said : (end : PlayEnd) (from left : Option (List ℕ)) (before now : Session) (failed failed' : ℕ)
     (held held' held'' : Option (List ℕ))
     → IfSome from (λ script. EndsAs end [] script left before now failed failed' held held')
-        → Appends held' held'' (last_word end)
+    → Appends held' held'' (last_word end)
     → IfSome from (λ script. EndsAs end (last_word end) script left before now failed failed' held held'')
 said end None left before now failed failed' held held' held'' ends word = tt
 said end (Some script) left before now failed failed' held held' held'' ends word =
@@ -543,7 +587,7 @@ said end (Some script) left before now failed failed' held held' held'' ends wor
 unsaid_for : (end : PlayEnd) (script : List ℕ) (left : Option (List ℕ)) (before now : Session) (failed failed' : ℕ)
     (held held' held'' : Option (List ℕ))
     → (end ≡ Output → ⊥) → EndsAs end [] script left before now failed failed' held held'
-        → CountsEnd end failed failed' → AppendsFront held' held'' (last_word end)
+    → CountsEnd end failed failed' → AppendsFront held' held'' (last_word end)
     → IsHalted script left before failed failed' held held''
 unsaid_for Done script left before now failed failed' held held' held'' output ends counts front =
     halted_after Done script left before now failed failed' held held' held'' ends counts front
@@ -559,7 +603,7 @@ unsaid_for Output script left before now failed failed' held held' held'' output
 pub unsaid : (end : PlayEnd) (from left : Option (List ℕ)) (before now : Session) (failed failed' : ℕ)
     (held held' held'' : Option (List ℕ)) → (end ≡ Output → ⊥)
     → IfSome from (λ script. EndsAs end [] script left before now failed failed' held held')
-        → CountsEnd end failed failed' → AppendsFront held' held'' (last_word end)
+    → CountsEnd end failed failed' → AppendsFront held' held'' (last_word end)
     → IfSome from (λ script. EndsAs Output (last_word Output) script left before now failed failed' held held'')
 unsaid end None left before now failed failed' held held' held'' output ends counts front = tt
 unsaid end (Some script) left before now failed failed' held held' held'' output ends counts front =

@@ -35,9 +35,15 @@ unfolding after
 reply_after s now event reply room stepped epoch events =
     let desktop : now.desktop ≡ (step s.desktop event).0 = ap (λ (p : Desktop × Reply). p.0) stepped in
     ap (λ (d : Desktop). let now' : Session = record { desktop = d; epoch = now.epoch; events = now.events } in
-        now') desktop
-    ∙ ap (λ (n : ℕ). let now' : Session = record { desktop = (step s.desktop event).0; epoch = n;
-        events = now.events } in now') epoch
-    ∙ ap (λ (n : ℕ). let now' : Session = record { desktop = (step s.desktop event).0; epoch = s.epoch;
-        events = n } in now') events
+    now') desktop
+    ∙ ap (λ (n : ℕ). let now' : Session = record {
+      desktop = (step s.desktop event).0;
+      epoch = n;
+      events = now.events;
+    } in now') epoch
+    ∙ ap (λ (n : ℕ). let now' : Session = record {
+      desktop = (step s.desktop event).0;
+      epoch = s.epoch;
+      events = n;
+    } in now') events
     ∙ sym (cond-false (is_full s) s _ (lt-leb 256 s.events room))

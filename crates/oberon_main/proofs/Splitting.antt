@@ -1,6 +1,22 @@
 -- Splitting bytes into lines.
-use Rattle.std.proofs.Common.{◌≡◌, ◌≢◌, ℕ, List, [], ◌∷◌, ◌++◌, refl, sym, ap, ◌∙◌, subst, append_assoc, append-nil,
-    inl, inr}
+use Rattle.std.proofs.Common.{
+  ◌≡◌,
+  ◌≢◌,
+  ℕ,
+  List,
+  [],
+  ◌∷◌,
+  ◌++◌,
+  refl,
+  sym,
+  ap,
+  ◌∙◌,
+  subst,
+  append_assoc,
+  append-nil,
+  inl,
+  inr,
+}
 use Rattle.std.specs.List.{AllByRecursion, flat_map}
 use Rattle.std.proofs.lemmas.Bool.{cases_eq}
 use Rattle.oberon_main.specs.Script.{ended, IsLine, IsSplit, OneSplit, SomeSplit}
@@ -9,13 +25,27 @@ use Rattle.oberon_main.specs.Script.{ended, IsLine, IsSplit, OneSplit, SomeSplit
 
 after_feed : (bs : List ℕ) → ((lines : List (List ℕ)) × (rest : List ℕ) × IsSplit bs lines rest)
     → (lines : List (List ℕ)) × (rest : List ℕ) × IsSplit (10 ∷ bs) lines rest
-after_feed bs (lines, rest, split) = ([] ∷ lines, rest, record { whole = ap (λ l. 10 ∷ l) split.whole;
-    each = (tt, split.each); last = split.last })
+after_feed bs (lines, rest, split) = (
+  [] ∷ lines,
+  rest,
+  record {
+    whole = ap (λ l. 10 ∷ l) split.whole;
+    each = (tt, split.each);
+    last = split.last;
+  },
+)
 
 after_byte : (b : ℕ) (bs : List ℕ) → b ≢ 10 → ((lines : List (List ℕ)) × (rest : List ℕ) × IsSplit bs lines rest)
     → (lines : List (List ℕ)) × (rest : List ℕ) × IsSplit (b ∷ bs) lines rest
-after_byte b bs plain ([], rest, split) = ([], b ∷ rest, record { whole = ap (λ l. b ∷ l) split.whole; each = tt;
-    last = (plain, split.last) })
+after_byte b bs plain ([], rest, split) = (
+  [],
+  b ∷ rest,
+  record {
+    whole = ap (λ l. b ∷ l) split.whole;
+    each = tt;
+    last = (plain, split.last);
+  },
+)
 after_byte b bs plain (line ∷ lines, rest, split) = (
   (b ∷ line) ∷ lines,
   rest,

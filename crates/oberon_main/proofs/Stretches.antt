@@ -1,7 +1,39 @@
 -- The stretches of one look, one after another.
-use Rattle.std.proofs.Common.{◌≡◌, ℕ, zero, suc, ◌+◌, ◌<◌, Bool, true, false, cond, List, [], ◌∷◌, ◌++◌, map, take,
-    drop, length, Option, Some, None, position, nat_lt, ◌≤◌, slice_get, refl, sym, ap, subst, ◌∙◌, append_assoc,
-    Decides, arith}
+use Rattle.std.proofs.Common.{
+  ◌≡◌,
+  ℕ,
+  zero,
+  suc,
+  ◌+◌,
+  ◌<◌,
+  Bool,
+  true,
+  false,
+  cond,
+  List,
+  [],
+  ◌∷◌,
+  ◌++◌,
+  map,
+  take,
+  drop,
+  length,
+  Option,
+  Some,
+  None,
+  position,
+  nat_lt,
+  ◌≤◌,
+  slice_get,
+  refl,
+  sym,
+  ap,
+  subst,
+  ◌∙◌,
+  append_assoc,
+  Decides,
+  arith,
+}
 use Rattle.std.specs.Prelude.{not, ◌==◌, ◌&&◌}
 use Rattle.std.specs.List.{flat_map, position_or_len}
 use Rattle.std.specs.Ordering.{int_eq}
@@ -22,8 +54,11 @@ same_is : (a b : Look) → is_same_look a b ≡ true → a ≡ b
 same_is a b same =
     let (font, rest) = both _ _ same in
     let (colour, voff) = both _ _ rest in
-    λ k. record { font = (unsigned_Decides a.font b.font).0 font k;
-        colour = (unsigned_Decides a.colour b.colour).0 colour k; voff = (signed_Decides a.voff b.voff).0 voff k }
+    λ k. record {
+      font = (unsigned_Decides a.font b.font).0 font k;
+      colour = (unsigned_Decides a.colour b.colour).0 colour k;
+      voff = (signed_Decides a.voff b.voff).0 voff k;
+    }
 
 is_itself : (a : Look) → is_same_look a a ≡ true
 is_itself a = λ k. (unsigned_Decides a.font a.font).1 refl k && ((unsigned_Decides a.colour a.colour).1 refl k &&
@@ -63,10 +98,12 @@ first_stretch c (d ∷ text) =
     let rest = first_stretch d text in
     ap (joined c) rest ∙ (elim (is_same_look c.1 d.1) as (λ b. is_same_look c.1 d.1 ≡ b →
     (let l : Stretches = cond b ((d.1, c.0 ∷ d.0 ∷ bytes_in (take (count_in d.1 text) text)) ∷ stretches
-        (drop (count_in d.1 text) text)) ((c.1, c.0 ∷ []) ∷ cut_at d text (count_in d.1 text)) in l)
+    (drop (count_in d.1 text) text)) ((c.1, c.0 ∷ []) ∷ cut_at d text (count_in d.1 text)) in l)
     ≡ cut_at c (d ∷ text) (cond b (suc (count_in c.1 text)) 0)) [
-      | true ↦ λ same. (λ k. (sym (same_is c.1 d.1 same) k,
-          c.0 ∷ d.0 ∷ bytes_in (take (count_in (sym (same_is c.1 d.1 same) k) text) text)) ∷ stretches
+      | true ↦ λ same. (λ k. (
+        sym (same_is c.1 d.1 same) k,
+        c.0 ∷ d.0 ∷ bytes_in (take (count_in (sym (same_is c.1 d.1 same) k) text) text),
+      ) ∷ stretches
           (drop (count_in (sym (same_is c.1 d.1 same) k) text) text))
       | false ↦ λ other. ap (λ (l : Stretches). (c.1, c.0 ∷ []) ∷ l) (sym rest)
     ]) refl ∙ ap (cut_at c (d ∷ text)) (sym (counted c.1 d text))
@@ -89,21 +126,21 @@ stretches_of [] c is = absurd cc
 stretches_of (d ∷ text) c is =
     let same : d ≡ c = cc is in
     subst (λ (x : ℕ × Look). stretches (d ∷ text)
-        ≡ (x.1, bytes_in (take (count_in x.1 (d ∷ text)) (d ∷ text))) ∷ stretches (drop (count_in x.1 (d ∷ text))
-        (d ∷ text))) same
+    ≡ (x.1, bytes_in (take (count_in x.1 (d ∷ text)) (d ∷ text))) ∷ stretches (drop (count_in x.1 (d ∷ text))
+    (d ∷ text))) same
     (first_stretch d text ∙ (λ k. (d.1, bytes_in (take (sym (itself_counted d text) k) (d ∷ text))) ∷ stretches
-        (drop (sym (itself_counted d text) k) (d ∷ text))))
+    (drop (sym (itself_counted d text) k) (d ∷ text))))
 
 -- one more line
 pub line_more : (before after : List ℕ) (text : Text ℕ) (c : ℕ × Look) (n : ℕ) (all : List ℕ)
     → slice_get text 0 ≡ Some c → n ≡ count_in c.1 text
     → after ≡ before ++ stretch_line (c.1, bytes_in (take n text))
     → before ++ flat_map stretch_line (stretches text) ≡ all
-        → after ++ flat_map stretch_line (stretches (drop n text)) ≡ all
+    → after ++ flat_map stretch_line (stretches (drop n text)) ≡ all
 line_more before after text c n all first count grown was =
     let line = stretch_line (c.1, bytes_in (take n text)) in
     let rest = flat_map stretch_line (stretches (drop n text)) in
     let parts : stretches text ≡ (c.1, bytes_in (take n text)) ∷ stretches (drop n text) = stretches_of text c first
-        ∙ (λ k. (c.1, bytes_in (take (sym count k) text)) ∷ stretches (drop (sym count k) text)) in
+    ∙ (λ k. (c.1, bytes_in (take (sym count k) text)) ∷ stretches (drop (sym count k) text)) in
     ap (λ l. l ++ rest) grown ∙ append_assoc before line rest
-        ∙ ap (λ (ss : Stretches). before ++ flat_map stretch_line ss) (sym parts) ∙ was
+    ∙ ap (λ (ss : Stretches). before ++ flat_map stretch_line ss) (sym parts) ∙ was

@@ -1,6 +1,25 @@
 -- A writer that takes a text in several writes.
-use Rattle.std.proofs.Common.{◌≡◌, ℕ, List, [], ◌∷◌, ◌++◌, Option, take, drop, refl, sym, ap, ◌∙◌, subst,
-    append_assoc, append-nil, take-append-drop, length, arith}
+use Rattle.std.proofs.Common.{
+  ◌≡◌,
+  ℕ,
+  List,
+  [],
+  ◌∷◌,
+  ◌++◌,
+  Option,
+  take,
+  drop,
+  refl,
+  sym,
+  ap,
+  ◌∙◌,
+  subst,
+  append_assoc,
+  append-nil,
+  take-append-drop,
+  length,
+  arith,
+}
 use Rattle.std.specs.List.{between}
 use Rattle.std.proofs.lemmas.Slice.{between_to_end}
 use Rattle.std.specs.Io.KnownBytes.{Appends, Keeps}
@@ -32,7 +51,7 @@ pub taken_all : (old mid new : Option (List ℕ)) (text rest : List ℕ) → Has
     → Keeps mid new → Appends old new text
 taken_all old mid new text rest before none kept =
     Appends-kept old mid new text (subst (Appends old mid) (sym (before.parts ∙ ap (λ l. before.front ++ l) none
-        ∙ append-nil before.front)) before.taken) kept
+    ∙ append-nil before.front)) before.taken) kept
 
 pub front_taken : (old mid new : Option (List ℕ)) (text rest : List ℕ) → HasTaken old mid text rest → Keeps mid new
     → AppendsFront old new text

@@ -1,8 +1,27 @@
 -- What playing a script comes to. Before and after are the sessions; held and held' what the writer held and holds;
 -- left is what the
 -- reader has left.
-use Rattle.std.specs.Prelude.{◌≡◌, ◌≢◌, ◌<◌, ◌≤◌, ◌⊎◌, ◌↔◌, ℕ, List, [], ◌∷◌, ◌++◌, Option, Some, IfSome, Result,
-    OnOk, IfErr, codes, false}
+use Rattle.std.specs.Prelude.{
+  ◌≡◌,
+  ◌≢◌,
+  ◌<◌,
+  ◌≤◌,
+  ◌⊎◌,
+  ◌↔◌,
+  ℕ,
+  List,
+  [],
+  ◌∷◌,
+  ◌++◌,
+  Option,
+  Some,
+  IfSome,
+  Result,
+  OnOk,
+  IfErr,
+  codes,
+  false,
+}
 use Rattle.std.specs.Io.KnownBytes.{Appends, Consumes, Keeps}
 use Rattle.oberon_main.specs.declared.playing.PlayEnd.{PlayEnd}
 use Rattle.oberon_main.specs.declared.playing.PlayEnd.TheVariants.{Done, Fault, Memory, Input, Output}
@@ -111,7 +130,7 @@ pub record Plays {D : Type 0} (word : PlayEnd → List ℕ) (d : Ghosts D) (end 
   -- over an honest disk, what was written and what the store then shows are those of the script
   pub told : d.honest old.disk
       → IfSome left (λ script. EndsAs end (word end) script left' (session_of old) (session_of new)
-          (d.failures old.disk) (d.failures new.disk) held held')
+      (d.failures old.disk) (d.failures new.disk) held held')
   -- after another end the store may have to be opened again
   pub usable : (end ≡ Done) ⊎ (end ≡ Input) → new.must_reopen ≡ false
   -- the disk is as honest as it was

@@ -30,8 +30,11 @@ answer s Malformed = ended (codes "?")
 
 -- The session after a request: an event is stepped, and stands in the journal, whatever its reply.
 unfoldable pub after : Session → Request → Session
-after s (Post event) = if is_full s then s else record { desktop = (step s.desktop event).0; epoch = s.epoch;
-    events = s.events + 1 }
+after s (Post event) = if is_full s then s else record {
+  desktop = (step s.desktop event).0;
+  epoch = s.epoch;
+  events = s.events + 1;
+}
 after s (Show name) = s
 after s Listing = s
 after s Display = s

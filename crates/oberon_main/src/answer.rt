@@ -61,11 +61,7 @@ pub fn numbered_line(word: &[u8], number: u32) -> ShortLine
 }
 
 /// The number in decimal digits, without leading zeros.
-#[tactic(auto, using(
-    crate::proofs::Decimals::one_digit,
-    crate::proofs::Decimals::last_digit,
-    crate::proofs::Decimals::front_fits,
-))]
+#[tactic(auto, using(crate::proofs::Decimals::one_digit, crate::proofs::Decimals::last_digit, crate::proofs::Decimals::front_fits,))]
 pub fn decimal_digits(number: u32) -> Digits
     ensures { result.items ≡ decimal number }
 {

@@ -166,7 +166,7 @@ fn play_rest<W: Write, D: Disk>(
     requires { store.old.must_reopen ≡ false }
     ensures told { D.honest store.old.disk → (rest : List ℕ) → Holds line.now rest
         → RestEndsAs result rest (session_of store.old) (session_of store.new)
-            (W.contents writer.old) (W.contents writer.new) }
+        (W.contents writer.old) (W.contents writer.new) }
     ensures usable { result ≡ ends.Done → store.new.must_reopen ≡ false }
     ensures no_input { result ≡ ends.Input → ⊥ }
     ensures premise { D.honest store.new.disk ↔ D.honest store.old.disk }

@@ -55,11 +55,7 @@ fn are_printable(bytes: &[u8]) -> bool
 }
 
 /// What stands before the first space, and what stands after it.
-#[tactic(auto, using(
-    crate::proofs::Words::word_whole,
-    crate::proofs::Words::word_front,
-    crate::proofs::Words::argument_behind,
-))]
+#[tactic(auto, using(crate::proofs::Words::word_whole, crate::proofs::Words::word_front, crate::proofs::Words::argument_behind,))]
 fn split_word(line: &[u8]) -> (&[u8], Option<&[u8]>)
     ensures before { result.0.now ≡ word line.now }
     ensures behind { option_map (λ rest. rest.now) result.1 ≡ argument line.now }

@@ -12,7 +12,7 @@ loop-first-smaller c =
     let count = c.count_in_look.ensures in
     let some = some_counted rest c.in-Some.first.now (sym c.in-Some.ensures.value) in
     let behind : length c.split_at.result.1.now ≡ length (drop c.count_in_look.result rest) =
-        ap length c.split_at.ensures.back in
+    ap length c.split_at.ensures.back in
     let shorter = length-drop c.count_in_look.result rest in
     omega (arith, some, count.count, count.within, behind, shorter)
 
@@ -22,9 +22,11 @@ loop-first-preserved c =
     let first = c.in-Some.first.now in
     let n = c.count_in_look.result in
     let all = flat_map stretch_line (stretches c.args.text.now) in
-    let grown = c.in_ok-push_stretch.ensures ∙ ap (λ (s : Text _). c.loop-first.bytes.items ++ stretch_line (first.1,
-        bytes_in s)) c.split_at.ensures.front in
+    let grown = c.in_ok-push_stretch.ensures ∙ ap (λ (s : Text _). c.loop-first.bytes.items ++ stretch_line (
+      first.1,
+      bytes_in s,
+    )) c.split_at.ensures.front in
     subst (λ (r : Text _). c.push_stretch.new.text.items ++ flat_map stretch_line (stretches r) ≡ all)
-        (sym c.split_at.ensures.back)
+    (sym c.split_at.ensures.back)
     (line_more c.loop-first.bytes.items c.push_stretch.new.text.items rest first n all
-        (sym c.in-Some.ensures.value) c.count_in_look.ensures.count grown c.loop-first.invariant)
+    (sym c.in-Some.ensures.value) c.count_in_look.ensures.count grown c.loop-first.invariant)

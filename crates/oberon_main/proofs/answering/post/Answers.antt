@@ -20,7 +20,7 @@ returns-in-Ok-clause-worked_out g c = record {
   session = λ honest. reply_after (session_of c.args.store.now)
       (session_of c.post.new.self) c.args.event.now c.in-Ok.reply
       (below _ c.requires c.in-Ok.ensures.full.always (λ wrong. cc))
-          (c.in-Ok.ensures.ok.stepped honest) c.in-Ok.ensures.ok.epoch c.in-Ok.ensures.ok.events;
+      (c.in-Ok.ensures.ok.stepped honest) c.in-Ok.ensures.ok.epoch c.in-Ok.ensures.ok.events;
   usable = c.in-Ok.ensures.ok.usable;
   premise = (c.in-Ok.ensures.device.already, c.in-Ok.ensures.device.still);
 }

@@ -1,6 +1,15 @@
 use Rattle.std.proofs.Common.{refl, ◌∙◌, inl, inr}
-use Rattle.oberon_main.proofs.Played.{played_more, stopped_in_line, ended_with_rest, cut_off, pieces_with_line,
-    pieces_with_rest, counts_of_line, counts_from, only_failures}
+use Rattle.oberon_main.proofs.Played.{
+  played_more,
+  stopped_in_line,
+  ended_with_rest,
+  cut_off,
+  pieces_with_line,
+  pieces_with_rest,
+  counts_of_line,
+  counts_from,
+  only_failures,
+}
 use Rattle.oberon_main.proofs.playing.play_lines.Goals as goal
 
 pub returns-in-Err-clause-played : goal.returns-in-Err-clause-played
@@ -8,11 +17,13 @@ returns-in-Err-clause-played g c = record {
   told = stopped_in_line _ c.in-Err.end _ _ _ _ _ _ _ _ _ _ _ _ _ _ _ c.loop-line.invariant.played
       (c.in-Feed.ensures.line refl)
       (counts_from c.in-Err.end _ _ _ c.loop-line.invariant.calm
-          (counts_of_line c.in-Err.end _ _ _ _ c.in-Err.is c.play_line.ensures.faults))
+      (counts_of_line c.in-Err.end _ _ _ _ c.in-Err.is c.play_line.ensures.faults))
       (λ honest. c.in-Err.ensures.played.unanswered (c.loop-line.invariant.still honest));
   usable = λ ends. absurd (only_failures c.in-Err.end c.in-Err.ensures.faults.errors ends);
-  premise = (λ honest. c.loop-line.invariant.already (c.in-Err.ensures.played.premise.0 honest),
-      λ honest. c.in-Err.ensures.played.premise.1 (c.loop-line.invariant.still honest));
+  premise = (
+    λ honest. c.loop-line.invariant.already (c.in-Err.ensures.played.premise.0 honest),
+    λ honest. c.in-Err.ensures.played.premise.1 (c.loop-line.invariant.still honest),
+  );
 }
 
 pub returns-in-Err-clause-pieces : goal.returns-in-Err-clause-pieces
@@ -35,10 +46,15 @@ returns-in-End-clause-played g c = record {
       (c.in-End.ensures.rest (λ wrong. cc)) (c.in-End.ensures.end refl)
       (counts_from c.play_rest.result _ _ _ c.loop-line.invariant.calm c.play_rest.ensures.faults)
       (λ honest. c.play_rest.ensures.told (c.loop-line.invariant.still honest));
-  usable = λ ends. elim ends [ inl done ↦ c.play_rest.ensures.usable done | inr input ↦ absurd
-      (c.play_rest.ensures.no_input input) ];
-  premise = (λ honest. c.loop-line.invariant.already (c.play_rest.ensures.premise.0 honest),
-      λ honest. c.play_rest.ensures.premise.1 (c.loop-line.invariant.still honest));
+  usable = λ ends. elim ends [
+    | inl done ↦ c.play_rest.ensures.usable done
+    | inr input ↦ absurd
+        (c.play_rest.ensures.no_input input)
+  ];
+  premise = (
+    λ honest. c.loop-line.invariant.already (c.play_rest.ensures.premise.0 honest),
+    λ honest. c.play_rest.ensures.premise.1 (c.loop-line.invariant.still honest),
+  );
 }
 
 pub returns-in-End-clause-pieces : goal.returns-in-End-clause-pieces

@@ -8,7 +8,7 @@ abbrev pub invariant-loop-line : goal.invariant-loop-line
 invariant-loop-line g l = record {
   played : HasPlayed (g.D.Disk.honest l.fn.store.disk) (session_of l.fn.store) (session_of l.store)
       (g.R.Read.remaining l.fn.reader) (g.R.Read.remaining l.reader) (g.W.Write.contents l.fn.writer)
-          (g.W.Write.contents l.writer) l.fn.reads l.script;
+      (g.W.Write.contents l.writer) l.fn.reads l.script;
   usable : l.store.must_reopen ≡ false;
   calm : g.D.Disk.failures l.store.disk ≡ g.D.Disk.failures l.fn.store.disk;
   still : g.D.Disk.honest l.fn.store.disk → g.D.Disk.honest l.store.disk;
