@@ -22,6 +22,8 @@ mod playing;
 #[cfg(test)]
 mod reports;
 #[cfg(test)]
+mod rings;
+#[cfg(test)]
 mod runs;
 #[cfg(test)]
 mod sources;
@@ -29,6 +31,8 @@ mod sources;
 mod stores;
 #[cfg(test)]
 mod symbols;
+#[cfg(test)]
+mod texts_and_buffers;
 #[cfg(test)]
 mod tracks;
 #[cfg(test)]

@@ -1,6 +1,5 @@
-//! The worked rows, the number of freed nodes, and each growth refused: a call whose memory is
-//! refused has to leave the texts, and is then made again, so that every test also passes under `rt
-//! try --test --fail-alloc N`, for each N.
+//! The number of freed nodes, which only a private call tells. A call whose memory is refused is
+//! made again, so that each test also passes under `rt try --test --fail-alloc N`, for each N.
 
 use crate::{Look, NoMemory, Piece, Ring};
 use std::alloc::Global;
@@ -73,14 +72,6 @@ fn splice(
     }
 }
 
-fn copy(rt: &impl Abort, ring: &Ring, alloc: Global, beg: u32, end: u32) -> Result<Ring, NoMemory> {
-    assert!(rt; beg <= end && end <= ring.len());
-    match ring.copy(alloc, beg, end) {
-        Ok(copy) => Ok(copy),
-        Err(_) => ring.copy(alloc, beg, end),
-    }
-}
-
 fn split_at(
     rt: &impl Abort,
     ring: &mut Ring,
@@ -96,20 +87,7 @@ fn split_at(
     Ok(())
 }
 
-/// Asserts that the ring has the characters at these offsets, in these looks, and that its cursor
-/// follows at most one link for each.
-fn expect_text(rt: &impl Abort, ring: &Ring, wanted: &[(u32, Look)]) {
-    assert_eq!(rt; ring.len() as usize, wanted.len());
-    let mut cursor = ring.cursor(0);
-    for want in wanted {
-        assert_eq!(rt; cursor.next(), Some(*want));
-        assert!(rt; cursor.links() <= 1);
-    }
-    assert_eq!(rt; cursor.next(), None);
-    assert_eq!(rt; cursor.links(), 0);
-}
-
-/// The same for offsets that are all in the plain look.
+/// Asserts that the ring has the characters at these offsets, in the plain look.
 fn expect_plain(rt: &impl Abort, ring: &Ring, wanted: &[u32]) {
     assert_eq!(rt; ring.len() as usize, wanted.len());
     let mut cursor = ring.cursor(0);
@@ -117,95 +95,6 @@ fn expect_plain(rt: &impl Abort, ring: &Ring, wanted: &[u32]) {
         assert_eq!(rt; cursor.next(), Some((*off, PLAIN)));
     }
     assert_eq!(rt; cursor.next(), None);
-}
-
-/// The number of links that a walk along the whole ring follows: one behind each piece.
-fn links_of_a_walk(rt: &impl Abort, ring: &Ring) -> u32 {
-    let mut cursor = ring.cursor(0);
-    let mut links = 0u32;
-    for _ in 0..ring.len() {
-        assert!(rt; cursor.next().is_some());
-        assert!(rt; cursor.links() <= 1);
-        links = links.saturating_add(cursor.links());
-    }
-    links
-}
-
-#[test]
-fn ring(rt: HostRuntime) -> Result<(), Fail> {
-    let alloc = rt.alloc();
-    let mut ring = six(&rt, alloc)?;
-    let taken = cut(&rt, &mut ring, alloc, 1, 3, &[0, 1, 2, 3, 4, 5])?;
-    expect_plain(&rt, &taken, &[1, 2]);
-    expect_plain(&rt, &ring, &[0, 3, 4, 5]);
-    splice(&rt, &mut ring, alloc, 2, taken, &[0, 3, 4, 5], &[1, 2])?;
-    expect_plain(&rt, &ring, &[0, 3, 1, 2, 4, 5]);
-    assert_eq!(rt; links_of_a_walk(&rt, &ring), 4);
-    let copied = copy(&rt, &ring, alloc, 1, 3)?;
-    expect_plain(&rt, &copied, &[3, 1]);
-    expect_plain(&rt, &ring, &[0, 3, 1, 2, 4, 5]);
-    Ok(())
-}
-
-#[test]
-fn split(rt: HostRuntime) -> Result<(), Fail> {
-    let alloc = rt.alloc();
-    let mut ring = six(&rt, alloc)?;
-    split_at(&rt, &mut ring, alloc, 3, &[0, 1, 2, 3, 4, 5])?;
-    split_at(&rt, &mut ring, alloc, 6, &[0, 1, 2, 3, 4, 5])?;
-    expect_plain(&rt, &ring, &[0, 1, 2, 3, 4, 5]);
-    Ok(())
-}
-
-#[test]
-fn set_looks(rt: HostRuntime) -> Result<(), Fail> {
-    let alloc = rt.alloc();
-    let mut ring = six(&rt, alloc)?;
-    assert!(rt; 6 <= ring.len());
-    let bold = Look {
-        font: 3,
-        colour: 0,
-        voff: 0,
-    };
-    if ring.set_looks(alloc, 2, 4, 1, bold).is_err() {
-        expect_plain(&rt, &ring, &[0, 1, 2, 3, 4, 5]);
-        assert!(rt; 6 <= ring.len());
-        ring.set_looks(alloc, 2, 4, 1, bold)?;
-    }
-    let font_3 = Look {
-        font: 3,
-        colour: 15,
-        voff: 0,
-    };
-    let wanted = [
-        (0, PLAIN),
-        (1, PLAIN),
-        (2, font_3),
-        (3, font_3),
-        (4, PLAIN),
-        (5, PLAIN),
-    ];
-    expect_text(&rt, &ring, &wanted);
-    Ok(())
-}
-
-#[test]
-fn cut_all_and_nothing(rt: HostRuntime) -> Result<(), Fail> {
-    let alloc = rt.alloc();
-    let mut ring = six(&rt, alloc)?;
-    let all = cut(&rt, &mut ring, alloc, 0, 6, &[0, 1, 2, 3, 4, 5])?;
-    expect_plain(&rt, &all, &[0, 1, 2, 3, 4, 5]);
-    expect_plain(&rt, &ring, &[]);
-
-    let mut ring = six(&rt, alloc)?;
-    let none = cut(&rt, &mut ring, alloc, 2, 2, &[0, 1, 2, 3, 4, 5])?;
-    expect_plain(&rt, &none, &[]);
-    expect_plain(&rt, &ring, &[0, 1, 2, 3, 4, 5]);
-
-    let ring = six(&rt, alloc)?;
-    assert!(rt; 6 <= ring.len());
-    assert_eq!(rt; ring.cursor(6).next(), None);
-    Ok(())
 }
 
 /// A node is freed for each piece, and one for the trailer.

@@ -1,10 +1,16 @@
-//! Random cuts and splices in a ring of many pieces, for a script to time.
-//! The arguments are the number of pieces and the number of rounds; the number of characters that are there in the end is printed.
+//! Edits in a ring of many pieces, for a script to time. The arguments are what is done, a number of pieces and a number of rounds:
+//!
+//! - `far`: each round takes a random stretch out and puts it in at a random position.
+//! - `near`: each round does so within 50 characters of the last one's place.
+//! - `type`: the rounds add one character each, which continues the one before it; the pieces are those that stand before.
+//! - `rows`: the worked rows of a ring; the numbers mean nothing.
+//!
+//! The number of characters and of pieces that are there in the end is printed.
 #![tactic(auto)]
 
 ghost use Rattle.std.specs.Prelude.{◌<◌};
 
-use piece_ring::{Look, NoMemory, Piece, Ring};
+use piece_ring::{DEFAULT_LOOK, NoMemory, Piece, Ring};
 use std::alloc::Global;
 use std::{env, io};
 
@@ -14,6 +20,9 @@ const LIMIT: u32 = 1_000_000;
 /// The longest stretch that a round moves.
 const LONGEST: u32 = 16;
 
+/// How far from the last place a near round may be.
+const NEAR: u32 = 50;
+
 /// Numbers by Marsaglia's xorshift of 32 bits.
 #[derive(Drop)]
 struct Random {
@@ -21,6 +30,7 @@ struct Random {
 }
 
 impl Random {
+    /// A number below the bound.
     fn below(&mut self, bound: u32) -> u32
         requires { 0 < bound }
         ensures { result < bound }
@@ -34,60 +44,124 @@ impl Random {
     }
 }
 
+/// What the rounds do.
+#[derive(Clone, Copy, PartialEq, Eq)]
+enum Mode {
+    Far,
+    Near,
+    Typing,
+    Rows,
+}
+
+/// Adds one character at the end, if there are fewer than the limit.
+fn add(alloc: Global, ring: &mut Ring, off: u32) -> Result<(), NoMemory> {
+    let look = DEFAULT_LOOK;
+    if off < LIMIT + LIMIT && ring.len() < LIMIT {
+        ring.add(alloc, Piece { off, len: 1, look })?;
+    }
+    Ok(())
+}
+
 /// A ring of pieces of one character, of which none follows the one before it in the file.
 fn ring_of(alloc: Global, pieces: u32) -> Result<Ring, NoMemory> {
-    let look = Look {
-        font: 0,
-        colour: 15,
-        voff: 0,
-    };
     let mut ring = Ring::new(alloc)?;
     for i in 0..pieces.min(LIMIT) {
-        if ring.len() < LIMIT {
-            ring.add(
-                alloc,
-                Piece {
-                    off: 2 * i,
-                    len: 1,
-                    look,
-                },
-            )?;
-        }
+        add(alloc, &mut ring, 2 * i)?;
     }
     Ok(ring)
 }
 
-/// Takes a random stretch out and puts it in at a random position.
-fn round(alloc: Global, ring: &mut Ring, random: &mut Random) -> Result<(), NoMemory> {
+/// Takes a stretch out, at the second attempt if memory is refused.
+fn cut(alloc: Global, ring: &mut Ring, beg: u32, long: u32) -> Result<Ring, NoMemory> {
     let len = ring.len();
-    if len == 0 || len > LIMIT {
-        return Ok(());
+    if beg > len || long > len - beg {
+        return Ring::new(alloc);
     }
-    let beg = random.below(len);
-    let end = beg + 1 + random.below(LONGEST.min(len - beg));
-    let part = ring.cut(alloc, beg, end)?;
-    let rest = ring.len();
-    if rest > LIMIT || part.len() > LIMIT {
-        return Ok(());
-    }
-    let pos = random.below(rest + 1);
-    match ring.splice(alloc, pos, part) {
-        Ok(()) => Ok(()),
-        Err((refused, _)) => Err(refused),
+    match ring.cut(alloc, beg, beg + long) {
+        Ok(part) => Ok(part),
+        Err(_) => ring.cut(alloc, beg, beg + long),
     }
 }
 
-fn run(alloc: Global, pieces: u32, rounds: u32) -> Result<u32, NoMemory> {
+/// Puts a part in at `pos`, or at the end if that is past it, at the second attempt if memory is refused.
+fn splice(alloc: Global, ring: &mut Ring, pos: u32, part: Ring) -> Result<(), NoMemory> {
+    if ring.len() > LIMIT || part.len() > LIMIT {
+        return Ok(());
+    }
+    let pos = pos.min(ring.len());
+    match ring.splice(alloc, pos, part) {
+        Ok(()) => Ok(()),
+        Err((_, part)) => match ring.splice(alloc, pos, part) {
+            Ok(()) => Ok(()),
+            Err((refused, _)) => Err(refused),
+        },
+    }
+}
+
+/// Takes a stretch from `beg` on out and puts it in at `to`, or at the end if that is past it.
+fn shift(alloc: Global, ring: &mut Ring, beg: u32, long: u32, to: u32) -> Result<(), NoMemory> {
+    let part = cut(alloc, ring, beg, long)?;
+    splice(alloc, ring, to, part)
+}
+
+/// A random position, or one within `NEAR` of the last.
+fn place(mode: Mode, random: &mut Random, len: u32, last: u32) -> u32 {
+    if mode == Mode::Near {
+        let low = last.saturating_sub(NEAR);
+        return low.saturating_add(random.below(2 * NEAR)).min(len);
+    }
+    random.below(len.max(1))
+}
+
+/// Does the rounds, and leaves the ring.
+fn run(alloc: Global, mode: Mode, pieces: u32, rounds: u32) -> Result<Ring, NoMemory> {
     let mut ring = ring_of(alloc, pieces)?;
     let mut random = Random {
         state: 2_463_534_242,
     };
-    for _ in 0..rounds {
-        round(alloc, &mut ring, &mut random)?;
+    let mut last = ring.len() / 2;
+    for round in 0..rounds {
+        if mode == Mode::Typing {
+            add(alloc, &mut ring, LIMIT.saturating_add(round))?;
+            continue;
+        }
+        let beg = place(mode, &mut random, ring.len(), last);
+        let long = (1 + random.below(LONGEST)).min(ring.len().saturating_sub(beg));
+        last = place(mode, &mut random, ring.len(), beg);
+        shift(alloc, &mut ring, beg, long, last)?;
     }
-    Ok(ring.len())
+    Ok(ring)
 }
 
+/// The worked rows: a piece of six characters, of which two are taken out and put in elsewhere, and back.
+fn rows(alloc: Global) -> Result<Ring, NoMemory> {
+    let mut ring = match Ring::new(alloc) {
+        Ok(ring) => ring,
+        Err(_) => Ring::new(alloc)?,
+    };
+    for off in 0..6 {
+        match add(alloc, &mut ring, off) {
+            Ok(()) => {}
+            Err(_) => add(alloc, &mut ring, off)?,
+        }
+    }
+    shift(alloc, &mut ring, 1, 2, 2)?;
+    shift(alloc, &mut ring, 2, 2, 1)?;
+    Ok(ring)
+}
+
+/// The mode that a word names.
+fn mode_of(word: Option<String>) -> Option<Mode> {
+    match word?.as_str() {
+        "far" => Some(Mode::Far),
+        "near" => Some(Mode::Near),
+        "type" => Some(Mode::Typing),
+        "rows" => Some(Mode::Rows),
+        _ => None,
+    }
+}
+
+/// The number that a word spells.
 fn number(word: Option<String>) -> Option<u32> {
     word?.parse().ok()
 }
@@ -95,12 +169,21 @@ fn number(word: Option<String>) -> Option<u32> {
 fn main(rt: HostRuntime) -> io::Result<()> {
     let mut words = env::args(&rt)?;
     words.next();
-    let (Some(pieces), Some(rounds)) = (number(words.next()), number(words.next())) else {
-        println!(rt; "usage: ring_bench PIECES ROUNDS")?;
+    let (Some(mode), Some(pieces), Some(rounds)) = (
+        mode_of(words.next()),
+        number(words.next()),
+        number(words.next()),
+    ) else {
+        println!(rt; "usage: ring_bench far|near|type|rows PIECES ROUNDS")?;
         return Ok(());
     };
-    match run(rt.alloc(), pieces, rounds) {
-        Ok(len) => println!(rt; "{len}")?,
+    let done = if mode == Mode::Rows {
+        rows(rt.alloc())
+    } else {
+        run(rt.alloc(), mode, pieces, rounds)
+    };
+    match done {
+        Ok(ring) => println!(rt; "{} {}", ring.len(), ring.pieces())?,
         Err(NoMemory) => println!(rt; "out of memory")?,
     }
     Ok(())

@@ -9,6 +9,3 @@ mod buffer;
 
 pub use buffer::Buffer;
 pub use piece_ring::{Look, NoMemory, Piece};
-
-#[cfg(test)]
-mod tests;

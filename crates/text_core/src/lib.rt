@@ -14,6 +14,3 @@ pub use laws::ends_are_clipped;
 pub use piece_ring::{Cursor, DEFAULT_LOOK, Look, NoMemory, Piece};
 pub use text::Text;
 pub use text_buffers::Buffer;
-
-#[cfg(test)]
-mod tests;
