@@ -7,8 +7,10 @@ use Rattle.desk_journal.specs.Layout.{is_label, is_open}
 use Rattle.desk_journal.specs.View.{IsKept}
 
 -- the label and the first closed gate were written before the slot was opened
-pub laid_out : (size : ℕ) (written opened : Trail) → STORE_SECTORS ≤ size → is_label ((now written).reads 0) ≡ true → is_open ((now written).reads 5) ≡ false
-    → Touches (Only 1) written opened → is_open ((now opened).reads 1) ≡ true → ((n : ℕ) → (now opened).pending n ≡ false) → IsKept size opened 1 0 empty_desktop
+pub laid_out : (size : ℕ) (written opened : Trail) → STORE_SECTORS ≤ size → is_label ((now written).reads 0) ≡ true
+    → is_open ((now written).reads 5) ≡ false
+    → Touches (Only 1) written opened → is_open ((now opened).reads 1) ≡ true
+    → ((n : ℕ) → (now opened).pending n ≡ false) → IsKept size opened 1 0 empty_desktop
 laid_out size written opened large label closed run live quiet = record {
   standing = record { slot = 0; epoch = 1; start = empty_desktop; events = [] };
   settled = record {

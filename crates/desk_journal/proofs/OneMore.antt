@@ -1,5 +1,6 @@
 -- A text, read one character after another.
-use Rattle.std.proofs.Common.{◌≡◌, ℕ, zero, suc, ◌+◌, ◌<◌, ◌≤◌, List, [], ◌∷◌, ◌++◌, take, length, Option, Some, IsNone, slice_get, refl, sym, ap, subst, ◌∙◌, arith, inl, inr, min}
+use Rattle.std.proofs.Common.{◌≡◌, ℕ, zero, suc, ◌+◌, ◌<◌, ◌≤◌, List, [], ◌∷◌, ◌++◌, take, length, Option, Some, IsNone}
+use Rattle.std.proofs.Common.{slice_get, refl, sym, ap, subst, ◌∙◌, arith, inl, inr, min}
 use Rattle.std.proofs.lemmas.Bool.{cases_lt}
 use Rattle.desk_journal.proofs.Bits.{clash}
 
@@ -9,13 +10,15 @@ take_one_more (y ∷ l) zero x is = let same : y ≡ x = cc is in ap (λ z. z �
 take_one_more (y ∷ l) (suc n) x is = ap (λ t. y ∷ t) (take_one_more l n x is)
 
 -- the characters so far, and one more
-pub read_more : {X : Type 0} (all before after : List X) (from to : ℕ) (x : X) → slice_get all from ≡ Some x → to ≡ from + 1 → before ≡ take from all → after ≡ before ++ x ∷ [] → after ≡ take to all
+pub read_more : {X : Type 0} (all before after : List X) (from to : ℕ) (x : X) → slice_get all from ≡ Some x → to
+    ≡ from + 1 → before ≡ take from all → after ≡ before ++ x ∷ [] → after ≡ take to all
 read_more all before after from to x is next was grown =
     let step : suc from ≡ to = omega (arith, next) in
     grown ∙ ap (λ l. l ++ x ∷ []) was ∙ sym (take_one_more all from x is) ∙ ap (λ n. take n all) step
 
 -- a place with a character is before the end
-pub not_at_end : {X : Type 0} (item : Option X) (x : X) (p n : ℕ) → item ≡ Some x → (p ≡ n → IsNone item) → p ≤ n → p < n
+pub not_at_end : {X : Type 0} (item : Option X) (x : X) (p n : ℕ) → item ≡ Some x → (p ≡ n → IsNone item) → p ≤ n
+    → p < n
 not_at_end item x p n is ends within = elim (cases_lt p n) [
   | inl before ↦ before
   | inr past ↦ let last : p ≡ n = omega (arith, past, within) in absurd (clash refl (subst IsNone is (ends last)))

@@ -1,5 +1,6 @@
 -- How a run of posts goes on, answer by answer.
-use Rattle.std.proofs.Common.{◌≡◌, ◌⊎◌, inl, inr, ℕ, ◌+◌, ◌<◌, ◌≤◌, Bool, true, false, List, [], ◌∷◌, ◌++◌, length, take, drop, map, filter, get_or, Ok, Err, refl, sym, ◌∙◌, ap, subst, arith, length-append}
+use Rattle.std.proofs.Common.{◌≡◌, ◌⊎◌, inl, inr, ℕ, ◌+◌, ◌<◌, ◌≤◌, Bool, true, false, List, [], ◌∷◌, ◌++◌, length}
+use Rattle.std.proofs.Common.{take, drop, map, filter, get_or, Ok, Err, refl, sym, ◌∙◌, ap, subst, arith, length-append}
 use Rattle.std.specs.Prelude.{IfOk, OnOk, IsErrOf, ◌↔◌}
 use Rattle.std.specs.List.{list_any}
 use Rattle.std.proofs.lemmas.List.{append-nil, take_more, map-append, take_at, drop_at}
@@ -14,7 +15,8 @@ use Rattle.event_loop_laws.specs.Step.{step, steps}
 use Rattle.desk_journal.specs.declared.error.Error.{Error}
 use Rattle.desk_journal.specs.declared.error.Error.TheVariants.{NoMemory, Fault, MustReopen, JournalFull}
 use Rattle.desk_journal.specs.Meaning.{Means, MeansEither, Shows}
-use Rattle.desk_journal.specs.Run.{Answer, Post, is_acknowledged, lets_in_at, accepted, events_of, MeansPrefix, Survives, none, one_more, posts_of}
+use Rattle.desk_journal.specs.Run.{Answer, Post, is_acknowledged, lets_in_at, accepted, events_of, MeansPrefix}
+use Rattle.desk_journal.specs.Run.{Survives, none, one_more, posts_of}
 use Rattle.desk_journal.proofs.Bits.{true_or_false, clash}
 use Rattle.desk_journal.proofs.Recording.{steps_on}
 
@@ -22,7 +24,9 @@ abbrev pub led_to : Desktop → List Post → Desktop
 led_to first posts = steps first (events_of (accepted posts))
 
 -- all the accepted events are there
-pub whole : (size : ℕ) (first : Desktop) (so_far all : List Post) (c : Content) → length (accepted so_far) ≤ length (accepted all) → Means size (led_to first all) c → MeansPrefix size first so_far all c
+pub whole : (size : ℕ) (first : Desktop) (so_far all : List Post) (c : Content)
+    → length (accepted so_far) ≤ length (accepted all) → Means size (led_to first all) c
+    → MeansPrefix size first so_far all c
 whole size first so_far all c more means = record {
   count = length (accepted all);
   within = omega arith;
@@ -31,22 +35,29 @@ whole size first so_far all c more means = record {
 }
 
 -- the moments up to some clock stayed
-pub carried : {size : ℕ} {first : Desktop} {old new : Trail} {from to : ℕ} {posts : List Post} → Survives size first old from to posts → ((t : ℕ) → t ≤ to → new.at t ≡ old.at t) → Survives size first new from to posts
+pub carried : {size : ℕ} {first : Desktop} {old new : Trail} {from to : ℕ} {posts : List Post}
+    → Survives size first old from to posts → ((t : ℕ) → t ≤ to → new.at t ≡ old.at t)
+    → Survives size first new from to posts
 carried none kept = none
-carried {size = size} {first = first} {old = old} {new = new} {to = to} (one_more {mid = mid} {posts = posts} post before later each last) kept = one_more post
+carried {size = size} {first = first} {old = old} {new = new} {to = to}
+    (one_more {mid = mid} {posts = posts} post before later each last) kept = one_more post
     (carried before (λ t le. kept t (omega (arith, le, later)))) later
-    (λ t above below. subst (λ m. Leaves m (MeansPrefix size first posts (posts ++ post ∷ []))) (sym (kept t below)) (each t above below))
-    (subst (λ m. Leaves m (MeansPrefix size first (posts ++ post ∷ []) (posts ++ post ∷ []))) (sym (kept to (omega arith))) last)
+    (λ t above below. subst (λ m. Leaves m (MeansPrefix size first posts (posts ++ post ∷ []))) (sym (kept t below))
+    (each t above below))
+    (subst (λ m. Leaves m (MeansPrefix size first (posts ++ post ∷ []) (posts ++ post ∷ [])))
+    (sym (kept to (omega arith))) last)
 
 -- what is known between two posts
-pub record IsRunning (size : ℕ) (first : Desktop) (disk : Trail) (from : ℕ) (desktop : Desktop) (broken : Bool) (posts : List Post) : Type 0 where
+pub record IsRunning (size : ℕ) (first : Desktop) (disk : Trail) (from : ℕ) (desktop : Desktop) (broken : Bool)
+    (posts : List Post) : Type 0 where
   pub survived : Survives size first disk from disk.clock posts
   pub prefix : Leaves (now disk) (MeansPrefix size first posts posts)
   pub is : broken ≡ false → desktop ≡ led_to first posts
   pub shown : broken ≡ false → Leaves (now disk) (Means size desktop)
 
 -- no post yet
-pub begins_running : (size : ℕ) (disk : Trail) (desktop : Desktop) → Leaves (now disk) (Means size desktop) → IsRunning size desktop disk disk.clock desktop false []
+pub begins_running : (size : ℕ) (disk : Trail) (desktop : Desktop) → Leaves (now disk) (Means size desktop)
+    → IsRunning size desktop disk disk.clock desktop false []
 begins_running size disk desktop shown = record {
   survived = none;
   prefix = λ c image. whole size desktop [] [] c (omega arith) (shown c image);
@@ -55,7 +66,8 @@ begins_running size disk desktop shown = record {
 }
 
 -- what a post's contract says, of a store before and after
-pub record Posted (size : ℕ) (event : Event) (answer : Answer) (old new : Trail) (desktop desktop' : Desktop) (broken broken' : Bool) : Type 0 where
+pub record Posted (size : ℕ) (event : Event) (answer : Answer) (old new : Trail) (desktop desktop' : Desktop)
+    (broken broken' : Bool) : Type 0 where
   pub any_moment : broken ≡ false → LeavesOnly old new (MeansEither size desktop (step desktop event).0)
   pub stepped : IfOk answer (λ reply. (desktop', reply) ≡ step desktop event)
   pub acknowledged : OnOk answer (Leaves (now new) (Means size desktop'))
@@ -67,7 +79,9 @@ pub record Posted (size : ℕ) (event : Event) (answer : Answer) (old new : Trai
   pub must_reopen : broken ≡ true → IsErrOf answer MustReopen
   pub named : (e : Error) → IsErrOf answer e → (e ≡ NoMemory) ⊎ ((e ≡ Fault) ⊎ ((e ≡ MustReopen) ⊎ (e ≡ JournalFull)))
 
-module _ (size : ℕ) (first : Desktop) (old new : Trail) (from : ℕ) (desktop desktop' : Desktop) (broken broken' : Bool) (posts : List Post) (event : Event) (was : IsRunning size first old from desktop broken posts) where
+module _ (size : ℕ) (first : Desktop) (old new : Trail) (from : ℕ) (desktop desktop' : Desktop)
+    (broken broken' : Bool) (posts : List Post) (event : Event)
+    (was : IsRunning size first old from desktop broken posts) where
   abbrev answered : Answer → Post
   answered answer = record { event = event; answer = answer }
 
@@ -78,62 +92,87 @@ module _ (size : ℕ) (first : Desktop) (old new : Trail) (from : ℕ) (desktop 
   accepted-grown answer = filter-append (λ p. lets_in_at p.answer) posts (answered answer ∷ [])
 
   longer : (answer : Answer) → length (accepted posts) ≤ length (accepted (grown answer))
-  longer answer = omega (arith, ap length (accepted-grown answer), length-append (accepted posts) (accepted (answered answer ∷ [])))
+  longer answer = omega (
+    arith,
+    ap length (accepted-grown answer),
+    length-append (accepted posts)
+        (accepted (answered answer ∷ [])),
+  )
 
   -- the event isn't there; none that was acknowledged is missing, if this one wasn't
-  without : (answer : Answer) (so_far : List Post) (c : Content) → Means size (led_to first posts) c → list_any is_acknowledged (drop (length (accepted posts)) (accepted so_far)) ≡ false → MeansPrefix size first so_far (grown answer) c
+  without : (answer : Answer) (so_far : List Post) (c : Content) → Means size (led_to first posts) c
+      → list_any is_acknowledged (drop (length (accepted posts)) (accepted so_far)) ≡ false
+      → MeansPrefix size first so_far (grown answer) c
   without answer so_far c means none_lost = record {
     count = length (accepted posts);
     within = longer answer;
     none_lost = none_lost;
-    means = subst (λ ps. Means size (steps first (events_of ps)) c) (sym (ap (take (length (accepted posts))) (accepted-grown answer) ∙ take_at (accepted posts) (accepted (answered answer ∷ [])) (length (accepted posts)) refl)) means;
+    means = subst (λ ps. Means size (steps first (events_of ps)) c)
+        (sym (ap (take (length (accepted posts))) (accepted-grown answer)
+        ∙ take_at (accepted posts) (accepted (answered answer ∷ [])) (length (accepted posts)) refl)) means;
   }
 
-  without_before : (answer : Answer) (c : Content) → Means size (led_to first posts) c → MeansPrefix size first posts (grown answer) c
-  without_before answer c means = without answer posts c means (ap (list_any is_acknowledged) (drop-length (accepted posts)))
+  without_before : (answer : Answer) (c : Content) → Means size (led_to first posts) c
+      → MeansPrefix size first posts (grown answer) c
+  without_before answer c means = without answer posts c means
+      (ap (list_any is_acknowledged) (drop-length (accepted posts)))
 
-  without_after : (answer : Answer) (c : Content) → list_any is_acknowledged (accepted (answered answer ∷ [])) ≡ false → Means size (led_to first posts) c → MeansPrefix size first (grown answer) (grown answer) c
+  without_after : (answer : Answer) (c : Content) → list_any is_acknowledged (accepted (answered answer ∷ [])) ≡ false
+      → Means size (led_to first posts) c → MeansPrefix size first (grown answer) (grown answer) c
   without_after answer c unanswered means = without answer (grown answer) c means
-      (ap (list_any is_acknowledged) (ap (drop (length (accepted posts))) (accepted-grown answer) ∙ drop_at (accepted posts) (accepted (answered answer ∷ [])) (length (accepted posts)) refl) ∙ unanswered)
+      (ap (list_any is_acknowledged) (ap (drop (length (accepted posts))) (accepted-grown answer)
+      ∙ drop_at (accepted posts) (accepted (answered answer ∷ [])) (length (accepted posts)) refl) ∙ unanswered)
 
   -- where an accepted event leads
-  led_on : (answer : Answer) → accepted (answered answer ∷ []) ≡ answered answer ∷ [] → (step (led_to first posts) event).0 ≡ led_to first (grown answer)
+  led_on : (answer : Answer) → accepted (answered answer ∷ []) ≡ answered answer ∷ []
+      → (step (led_to first posts) event).0 ≡ led_to first (grown answer)
   led_on answer taken = sym (
       ap (λ ps. steps first (events_of ps)) (accepted-grown answer ∙ ap (λ ps. accepted posts ++ ps) taken)
       ∙ ap (steps first) (map-append (λ (p : Post). p.event) (accepted posts) (answered answer ∷ []))
       ∙ steps_on first (events_of (accepted posts)) event)
 
-  led_nowhere : (answer : Answer) → accepted (answered answer ∷ []) ≡ [] → led_to first posts ≡ led_to first (grown answer)
-  led_nowhere answer turned_away = ap (λ ps. steps first (events_of ps)) (sym (accepted-grown answer ∙ ap (λ ps. accepted posts ++ ps) turned_away ∙ append-nil (accepted posts)))
+  led_nowhere : (answer : Answer) → accepted (answered answer ∷ []) ≡ [] → led_to first posts
+      ≡ led_to first (grown answer)
+  led_nowhere answer turned_away = ap (λ ps. steps first (events_of ps))
+      (sym (accepted-grown answer ∙ ap (λ ps. accepted posts ++ ps) turned_away ∙ append-nil (accepted posts)))
 
-  with_event : (answer : Answer) (so_far : List Post) (c : Content) → length (accepted so_far) ≤ length (accepted (grown answer)) → accepted (answered answer ∷ []) ≡ answered answer ∷ [] → Means size (step (led_to first posts) event).0 c → MeansPrefix size first so_far (grown answer) c
-  with_event answer so_far c more taken means = whole size first so_far (grown answer) c more (subst (λ d. Means size d c) (led_on answer taken) means)
+  with_event : (answer : Answer) (so_far : List Post) (c : Content)
+      → length (accepted so_far) ≤ length (accepted (grown answer)) → accepted (answered answer ∷ [])
+      ≡ answered answer ∷ [] → Means size (step (led_to first posts) event).0 c
+      → MeansPrefix size first so_far (grown answer) c
+  with_event answer so_far c more taken means = whole size first so_far (grown answer) c more
+      (subst (λ d. Means size d c) (led_on answer taken) means)
 
   abbrev Goal : Answer → Type 0
   Goal answer = IsRunning size first new from desktop' broken' (grown answer)
 
   -- a post that was begun: each image means the desktop from before it or the one after the event
-  module _ (answer : Answer) (usable : broken ≡ false) (taken : accepted (answered answer ∷ []) ≡ answered answer ∷ []) (run : LeavesOnly old new (MeansEither size desktop (step desktop event).0)) where
+  module _ (answer : Answer) (usable : broken ≡ false) (taken : accepted (answered answer ∷ [])
+      ≡ answered answer ∷ []) (run : LeavesOnly old new (MeansEither size desktop (step desktop event).0)) where
     before : (c : Content) → Means size desktop c → Means size (led_to first posts) c
     before c = subst (λ d. Means size d c) (was.is usable)
 
     after : (c : Content) → Means size (step desktop event).0 c → Means size (step (led_to first posts) event).0 c
     after c = subst (λ d. Means size (step d event).0 c) (was.is usable)
 
-    begun : Leaves (now new) (MeansPrefix size first (grown answer) (grown answer)) → Survives size first new from new.clock (grown answer)
-    begun last = one_more (answered answer) (carried was.survived run.kept) run.later (λ t above below c image. elim (run.each t above below c image) [
-      | inl means ↦ without_before answer c (before c means)
-      | inr means ↦ with_event answer posts c (longer answer) taken (after c means)
-    ]) last
+    begun : Leaves (now new) (MeansPrefix size first (grown answer) (grown answer))
+        → Survives size first new from new.clock (grown answer)
+    begun last = one_more (answered answer) (carried was.survived run.kept) run.later
+        (λ t above below c image. elim (run.each t above below c image) [
+          | inl means ↦ without_before answer c (before c means)
+          | inr means ↦ with_event answer posts c (longer answer) taken (after c means)
+        ]) last
 
   done : (reply : Reply) → Posted size event (Ok reply) old new desktop desktop' broken broken' → Goal (Ok reply)
   done reply post = elim (true_or_false broken) [
     | inl must ↦ absurd (let never : IsErrOf (Ok reply) MustReopen = post.must_reopen must in cc)
     | inr usable ↦
         let stepped : desktop' ≡ (step desktop event).0 = ap (λ x. x.0) post.stepped in
-        let is : desktop' ≡ led_to first (grown (Ok reply)) = stepped ∙ ap (λ d. (step d event).0) (was.is usable) ∙ led_on (Ok reply) refl in
+        let is : desktop' ≡ led_to first (grown (Ok reply)) = stepped ∙ ap (λ d. (step d event).0) (was.is usable)
+        ∙ led_on (Ok reply) refl in
         let last : Leaves (now new) (MeansPrefix size first (grown (Ok reply)) (grown (Ok reply))) =
-        λ c image. whole size first (grown (Ok reply)) (grown (Ok reply)) c (omega arith) (subst (λ d. Means size d c) is (post.acknowledged c image)) in
+        λ c image. whole size first (grown (Ok reply)) (grown (Ok reply)) c (omega arith)
+        (subst (λ d. Means size d c) is (post.acknowledged c image)) in
         record {
           survived = begun (Ok reply) usable refl (post.any_moment usable) last;
           prefix = last;
@@ -143,10 +182,13 @@ module _ (size : ℕ) (first : Desktop) (old new : Trail) (from : ℕ) (desktop 
   ]
 
   -- nothing of the store or its disk changed
-  unchanged : (answer : Answer) → accepted (answered answer ∷ []) ≡ [] → (new ≡ old) × (desktop' ≡ desktop) × (broken' ≡ broken) → Goal answer
+  unchanged : (answer : Answer) → accepted (answered answer ∷ []) ≡ [] → (new ≡ old) × (desktop' ≡ desktop)
+      × (broken' ≡ broken) → Goal answer
   unchanged answer turned_away same =
-      let fewer : accepted (grown answer) ≡ accepted posts = accepted-grown answer ∙ ap (λ ps. accepted posts ++ ps) turned_away ∙ append-nil (accepted posts) in
-      let again : (so_far : List Post) (c : Content) → accepted so_far ≡ accepted posts → MeansPrefix size first posts posts c → MeansPrefix size first so_far (grown answer) c =
+      let fewer : accepted (grown answer) ≡ accepted posts = accepted-grown answer
+      ∙ ap (λ ps. accepted posts ++ ps) turned_away ∙ append-nil (accepted posts) in
+      let again : (so_far : List Post) (c : Content) → accepted so_far ≡ accepted posts
+      → MeansPrefix size first posts posts c → MeansPrefix size first so_far (grown answer) c =
       λ so_far c as_far p. record {
         count = p.count;
         within = omega (arith, p.within, ap length fewer);
@@ -154,15 +196,19 @@ module _ (size : ℕ) (first : Desktop) (old new : Trail) (from : ℕ) (desktop 
         means = subst (λ ps. Means size (steps first (events_of (take p.count ps))) c) (sym fewer) p.means;
       } in
       let clocks : new.clock ≡ old.clock = ap (λ (d : Trail). d.clock) same.0 in
-      let last : Leaves (now new) (MeansPrefix size first (grown answer) (grown answer)) = λ c image. again (grown answer) c fewer (was.prefix c (subst (λ (d : Trail). IsImage (now d) c) same.0 image)) in
+      let last : Leaves (now new) (MeansPrefix size first (grown answer) (grown answer)) = λ c image. again
+      (grown answer) c fewer (was.prefix c (subst (λ (d : Trail). IsImage (now d) c) same.0 image)) in
       record {
-        survived = one_more (answered answer) (carried was.survived (λ t le. ap (λ (d : Trail). d.at t) same.0)) (omega (arith, clocks))
+        survived = one_more (answered answer) (carried was.survived (λ t le. ap (λ (d : Trail). d.at t) same.0))
+            (omega (arith, clocks))
             (λ t above below c image.
             let here : t ≡ new.clock = omega (arith, above, below, clocks) in
-            again posts c refl (was.prefix c (subst (λ (d : Trail). IsImage (now d) c) same.0 (subst (λ i. IsImage (new.at i) c) here image)))) last;
+            again posts c refl (was.prefix c (subst (λ (d : Trail). IsImage (now d) c) same.0
+            (subst (λ i. IsImage (new.at i) c) here image)))) last;
         prefix = last;
         is = λ still. same.1 ∙ was.is (sym same.2 ∙ still) ∙ led_nowhere answer turned_away;
-        shown = λ still c image. subst (λ d. Means size d c) (sym same.1) (was.shown (sym same.2 ∙ still) c (subst (λ (d : Trail). IsImage (now d) c) same.0 image));
+        shown = λ still c image. subst (λ d. Means size d c) (sym same.1)
+            (was.shown (sym same.2 ∙ still) c (subst (λ (d : Trail). IsImage (now d) c) same.0 image));
       }
 
   faulted : Posted size event (Err Fault) old new desktop desktop' broken broken' → Goal (Err Fault)
@@ -173,7 +219,8 @@ module _ (size : ℕ) (first : Desktop) (old new : Trail) (from : ℕ) (desktop 
         let last : Leaves (now new) (MeansPrefix size first (grown (Err Fault)) (grown (Err Fault))) =
         λ c image. elim (run.each new.clock run.later (omega arith) c image) [
           | inl means ↦ without_after (Err Fault) c refl (before (Err Fault) usable refl run c means)
-          | inr means ↦ with_event (Err Fault) (grown (Err Fault)) c (omega arith) refl (after (Err Fault) usable refl run c means)
+          | inr means ↦ with_event (Err Fault) (grown (Err Fault)) c (omega arith) refl
+              (after (Err Fault) usable refl run c means)
         ] in
         record {
           survived = begun (Err Fault) usable refl run last;
@@ -188,12 +235,15 @@ module _ (size : ℕ) (first : Desktop) (old new : Trail) (from : ℕ) (desktop 
     | inl must ↦ absurd (let never : IsErrOf {T = Reply} (Err NoMemory) MustReopen = post.must_reopen must in cc)
     | inr usable ↦
         let run = post.memory refl usable in
-        let here : (c : Content) → Means size desktop c → Means size (led_to first (grown (Err NoMemory))) c = λ c. subst (λ d. Means size d c) (was.is usable ∙ led_nowhere (Err NoMemory) refl) in
+        let here : (c : Content) → Means size desktop c → Means size (led_to first (grown (Err NoMemory))) c =
+        λ c. subst (λ d. Means size d c) (was.is usable ∙ led_nowhere (Err NoMemory) refl) in
         let last : Leaves (now new) (MeansPrefix size first (grown (Err NoMemory)) (grown (Err NoMemory))) =
-        λ c image. whole size first (grown (Err NoMemory)) (grown (Err NoMemory)) c (omega arith) (here c (run.each new.clock run.later (omega arith) c image)) in
+        λ c image. whole size first (grown (Err NoMemory)) (grown (Err NoMemory)) c (omega arith)
+        (here c (run.each new.clock run.later (omega arith) c image)) in
         record {
           survived = one_more (answered (Err NoMemory)) (carried was.survived run.kept) run.later
-              (λ t above below c image. whole size first posts (grown (Err NoMemory)) c (longer (Err NoMemory)) (here c (run.each t above below c image))) last;
+              (λ t above below c image. whole size first posts (grown (Err NoMemory)) c (longer (Err NoMemory))
+              (here c (run.each t above below c image))) last;
           prefix = last;
           is = λ still. absurd (clash (post.broken_by_memory refl) still);
           shown = λ still. absurd (clash (post.broken_by_memory refl) still);
@@ -203,10 +253,14 @@ module _ (size : ℕ) (first : Desktop) (old new : Trail) (from : ℕ) (desktop 
   pub runs_on : (answer : Answer) → Posted size event answer old new desktop desktop' broken broken' → Goal answer
   runs_on (Ok reply) post = done reply post
   runs_on (Err e) post = elim (post.named e refl) [
-    | inl is ↦ subst (λ x. Goal (Err x)) (sym is) (starved (subst (λ x. Posted size event (Err x) old new desktop desktop' broken broken') is post))
-    | inr (inl is) ↦ subst (λ x. Goal (Err x)) (sym is) (faulted (subst (λ x. Posted size event (Err x) old new desktop desktop' broken broken') is post))
-    | inr (inr (inl is)) ↦ unchanged (Err e) (ap (λ x. accepted (answered (Err x) ∷ [])) is) (post.reopen (ap (λ x. Err x) is))
-    | inr (inr (inr is)) ↦ unchanged (Err e) (ap (λ x. accepted (answered (Err x) ∷ [])) is) (post.full (ap (λ x. Err x) is))
+    | inl is ↦ subst (λ x. Goal (Err x)) (sym is) (starved
+        (subst (λ x. Posted size event (Err x) old new desktop desktop' broken broken') is post))
+    | inr (inl is) ↦ subst (λ x. Goal (Err x)) (sym is) (faulted
+        (subst (λ x. Posted size event (Err x) old new desktop desktop' broken broken') is post))
+    | inr (inr (inl is)) ↦ unchanged (Err e) (ap (λ x. accepted (answered (Err x) ∷ [])) is)
+        (post.reopen (ap (λ x. Err x) is))
+    | inr (inr (inr is)) ↦ unchanged (Err e) (ap (λ x. accepted (answered (Err x) ∷ [])) is)
+        (post.full (ap (λ x. Err x) is))
   ]
 
 pub none_answered : (events : List Event) → posts_of events [] ≡ []
@@ -214,12 +268,17 @@ none_answered [] = refl
 none_answered (event ∷ events) = refl
 
 -- one event and one answer more
-pub posts_grow : (events : List Event) (answers : List Answer) (answer : Answer) (d : Event) → length answers < length events
-    → posts_of events (answers ++ answer ∷ []) ≡ posts_of events answers ++ record { event = get_or events (length answers) d; answer = answer } ∷ []
+pub posts_grow : (events : List Event) (answers : List Answer) (answer : Answer) (d : Event)
+    → length answers < length events
+    → posts_of events (answers ++ answer ∷ []) ≡ posts_of events answers
+    ++ record { event = get_or events (length answers) d; answer = answer } ∷ []
 posts_grow [] answers answer d room = absurd (omega arith)
-posts_grow (event ∷ events) [] answer d room = ap (λ ps. record { event = event; answer = answer } ∷ ps) (none_answered events)
-posts_grow (event ∷ events) (a ∷ answers) answer d room = ap (λ ps. record { event = event; answer = a } ∷ ps) (posts_grow events answers answer d (omega (arith, room)))
+posts_grow (event ∷ events) [] answer d room = ap (λ ps. record { event = event; answer = answer } ∷ ps)
+    (none_answered events)
+posts_grow (event ∷ events) (a ∷ answers) answer d room = ap (λ ps. record { event = event; answer = a } ∷ ps)
+    (posts_grow events answers answer d (omega (arith, room)))
 
 -- what is shown is meant
-pub shows_means : (size number count : ℕ) (desktop : Desktop) (c : Content) → Shows size number count desktop c → Means size desktop c
+pub shows_means : (size number count : ℕ) (desktop : Desktop) (c : Content) → Shows size number count desktop c
+    → Means size desktop c
 shows_means size number count desktop c shows = (shows.standing, shows.stands, shows.is)

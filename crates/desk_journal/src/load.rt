@@ -27,7 +27,8 @@ use std::alloc::Global;
 fn check_slot<D: Disk>(disk: &mut D) -> Result<(), Error>
     requires { STORE_SECTORS ≤ D.size disk.old }
     ensures kept { IsConfined D.size D.honest D.trail Nowhere disk.old disk.new }
-    ensures faults { FailsAs Error.Fault (OneOf (Error.Fault ∷ Error.NotAStore ∷ Error.Damaged (slot_gate 0) ∷ [])) result
+    ensures faults { FailsAs Error.Fault (OneOf (Error.Fault ∷ Error.NotAStore ∷ Error.Damaged (slot_gate 0) ∷ []))
+        result
         (D.failures disk.old) (D.failures disk.new) }
     ensures label { OnOk result (D.honest disk.old → is_label ((now (D.trail disk.old)).reads LABEL) ≡ true) }
     ensures live { OnOk result (D.honest disk.old → is_open ((now (D.trail disk.old)).reads (slot_gate 0)) ≡ true) }

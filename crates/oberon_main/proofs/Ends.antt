@@ -1,5 +1,6 @@
 -- How a script ends where the store refuses.
-use Rattle.std.proofs.Common.{◌≡◌, ◌⊎◌, ℕ, ◌<◌, Result, Ok, Err, IfOk, IfErr, ◌≢◌, [], ◌∷◌, inl, inr, refl, sym, ap, ◌∙◌, subst}
+use Rattle.std.proofs.Common.{◌≡◌, ◌⊎◌, ℕ, ◌<◌, Result, Ok, Err, IfOk, IfErr, ◌≢◌, [], ◌∷◌, inl, inr, refl, sym, ap}
+use Rattle.std.proofs.Common.{◌∙◌, subst}
 use Rattle.sector_disk.specs.Faults.{FailsAs, OneOf}
 use Rattle.desk_journal.specs.declared.error.Error.{Error}
 use Rattle.desk_journal.specs.declared.error.Error.TheVariants.{
@@ -70,9 +71,11 @@ refusal_of_post error failed failed' faults usable room = record {
 }
 
 -- A post that was refused: at a full journal there is an answer, else the script ends.
-pub counts_post : {T : Type 0} (error : Error) (failed failed' : ℕ) → FailsAs {T = T} Fault OfPost (Err error) failed failed'
+pub counts_post : {T : Type 0} (error : Error) (failed failed' : ℕ)
+    → FailsAs {T = T} Fault OfPost (Err error) failed failed'
     → (error ≡ MustReopen → ⊥) → (bytes : Answer → Type 0) → (result : Result Answer PlayEnd)
-    → IfOk result (λ a. (error ≡ JournalFull) × bytes a) → IfErr result (λ end. (error ≢ JournalFull) × (end ≡ end_of error))
+    → IfOk result (λ a. (error ≡ JournalFull) × bytes a)
+    → IfErr result (λ end. (error ≢ JournalFull) × (end ≡ end_of error))
     → FailsAs ends.Fault IsWorkEnd result failed failed'
 counts_post error failed failed' faults usable bytes (Ok a) full other = record {
   rose = λ wrong. cc;
@@ -80,4 +83,5 @@ counts_post error failed failed' faults usable bytes (Ok a) full other = record 
   errors = tt;
 }
 counts_post error failed failed' faults usable bytes (Err end) full other =
-    counts_end error failed failed' (refusal_of_post error failed failed' faults usable other.0) end other.1 (Err end) refl
+    counts_end error failed failed' (refusal_of_post error failed failed' faults usable other.0) end other.1
+    (Err end) refl

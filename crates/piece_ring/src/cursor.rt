@@ -2,7 +2,8 @@
 //!
 //! A clause sees a cursor as the list of pieces that are left to it, of which the first may be the
 //! rest of one.
-ghost use Rattle.std.specs.Prelude.{◌≡◌, ◌+◌, ◌-◌, ◌<◌, ◌≤◌, ◌∷◌, [], ◌++◌, ◌≢◌, length, drop, Some, slice_get, MatchOption, IfSome, IsSomeAnd};
+ghost use Rattle.std.specs.Prelude.{◌≡◌, ◌+◌, ◌-◌, ◌<◌, ◌≤◌, ◌∷◌, [], ◌++◌, ◌≢◌, length, drop, Some, slice_get};
+ghost use Rattle.std.specs.Prelude.{MatchOption, IfSome, IsSomeAnd};
 ghost use Rattle.piece_ring.specs.Flat.{flat, characters_of, IsWhole};
 
 use crate::chain::Spot;

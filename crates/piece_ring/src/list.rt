@@ -1,7 +1,8 @@
 //! A list of pieces in a chain of nodes: first the trailer, a node without characters, then a node
 //! for each piece. This layer has no raw pointer: it names nodes by their spots and indexes, and
 //! goes through the calls of `Chain`.
-ghost use Rattle.std.specs.Prelude.{ℕ, ◌≡◌, ◌+◌, ◌-◌, ◌<◌, ◌≤◌, ◌∷◌, [], ◌++◌, ◌^◌, length, Some, slice_get, IfOk, OnErr};
+ghost use Rattle.std.specs.Prelude.{ℕ, ◌≡◌, ◌+◌, ◌-◌, ◌<◌, ◌≤◌, ◌∷◌, [], ◌++◌, ◌^◌, length, Some, slice_get, IfOk};
+ghost use Rattle.std.specs.Prelude.{OnErr};
 ghost use Rattle.piece_ring.specs.declared.place.Seam.{Seam as ASeam};
 ghost use Rattle.piece_ring.specs.Flat.{flat, relooked_piece, IsWhole};
 ghost use Rattle.piece_ring.specs.Kept.{IsKeptAt, IsSettledAt, kept_pieces};
@@ -393,7 +394,9 @@ impl PieceList {
         let Seam { at, index, pos } = seam;
         let len = first.len + second.len;
         self.chain.set_piece(at, index, Piece { len, ..first });
-        self.chain.split(at, index, next, index + 1).free(alloc, next);
+        self.chain
+            .split(at, index, next, index + 1)
+            .free(alloc, next);
         self.count -= 1;
         self.kept = Seam {
             at,

@@ -14,7 +14,8 @@ slice_get-drop (suc k) (x ∷ xs) = slice_get-drop k xs
 module _ {X : Type 0} (pos k : ℕ) (text : Text X) (here : k ≡ min pos (length text - 1)) where
   -- what is read of the rest from k on
   abbrev read : (rest : Text X) → drop k text ≡ rest → look_of (slice_get rest 0) ≡ look_at pos text
-  read rest is = ap (λ l. look_of (slice_get l 0)) (sym is) ∙ ap look_of (slice_get-drop k text) ∙ ap (λ i. look_of (slice_get text i)) here
+  read rest is = ap (λ l. look_of (slice_get l 0)) (sym is) ∙ ap look_of (slice_get-drop k text)
+      ∙ ap (λ i. look_of (slice_get text i)) here
 
   pub look-here : (c : X × Look) (rest : Text X) → drop k text ≡ c ∷ rest → c.1 ≡ look_at pos text
   look-here c rest is = read (c ∷ rest) is

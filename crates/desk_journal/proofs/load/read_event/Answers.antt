@@ -10,10 +10,14 @@ returns-in-None-clause-damaged g c = λ n is honest.
     let here : body 0 c.args.k ≡ n = cc (c.body-at.ensures, is) in
     let opened : c.is_open_gate.result ≡ true = search rules in
     let second = c.read.ensures.kept.still honest in
-    let same = still_reads (g.D.Disk.trail c.args.disk.now) (g.D.Disk.trail c.read.new.self) (c.read.ensures.kept.moments honest) (body 0 c.args.k) (λ none. none) in
-    let read : c.read-2.new.buffer ≡ (now (g.D.Disk.trail c.args.disk.now)).reads (body 0 c.args.k) = c.in_ok-read-2.ensures.bytes second ∙ ap (now (g.D.Disk.trail c.read.new.self)).reads c.body-at.ensures ∙ same in (
+    let same = still_reads (g.D.Disk.trail c.args.disk.now) (g.D.Disk.trail c.read.new.self)
+    (c.read.ensures.kept.moments honest) (body 0 c.args.k) (λ none. none) in
+    let read : c.read-2.new.buffer ≡ (now (g.D.Disk.trail c.args.disk.now)).reads
+    (body 0 c.args.k) = c.in_ok-read-2.ensures.bytes second
+    ∙ ap (now (g.D.Disk.trail c.read.new.self)).reads c.body-at.ensures ∙ same in (
       sym here,
-      ap (λ j. is_open ((now (g.D.Disk.trail c.args.disk.now)).reads j)) (sym c.gate.ensures) ∙ ap is_open (sym (c.in_ok-read.ensures.bytes honest)) ∙ sym c.is_open_gate.ensures ∙ opened,
+      ap (λ j. is_open ((now (g.D.Disk.trail c.args.disk.now)).reads j)) (sym c.gate.ensures)
+          ∙ ap is_open (sym (c.in_ok-read.ensures.bytes honest)) ∙ sym c.is_open_gate.ensures ∙ opened,
       λ event begins.
           let found = c.in-None.ensures.only event (subst (λ b. Begins b event) (sym read) begins) in
           absurd cc,

@@ -23,8 +23,10 @@ returns-in_err-event-clause-damaged g c =
     let found = c.in_err-event.ensures.damaged n (cc (p.1, p.2, is)) (i.kept.still honest) in (
       k,
       found.0,
-      not_read (now (g.D.Disk.trail c.args.disk.now)).reads k (shown c.args.desktop.now) (shown c.loop-k.desktop) (i.read honest) c.loop-k-test.true
-          (subst (λ r. is_open (r (gate 0 k)) ≡ true) same found.1) (subst (λ r. (event : Event) → Begins (r (body 0 k)) event → ⊥) same found.2),
+      not_read (now (g.D.Disk.trail c.args.disk.now)).reads k (shown c.args.desktop.now) (shown c.loop-k.desktop)
+          (i.read honest) c.loop-k-test.true
+          (subst (λ r. is_open (r (gate 0 k)) ≡ true) same found.1)
+          (subst (λ r. (event : Event) → Begins (r (body 0 k)) event → ⊥) same found.2),
     )
 
 pub returns-in-None-clause-whole : goal.returns-in-None-clause-whole
@@ -32,21 +34,28 @@ returns-in-None-clause-whole g c = λ honest.
     let i = c.loop-k.invariant in
     let same = still_all (g.D.Disk.trail c.args.disk.now) (g.D.Disk.trail c.loop-k.disk) (i.kept.moments honest) in
     let closed = (rw c.in-None.is at c.in_ok-event.ensures.none) (i.kept.still honest) in
-    all_read (now (g.D.Disk.trail c.args.disk.now)).reads c.loop-k.k (shown c.args.desktop.now) (shown c.loop-k.desktop) (i.read honest) (λ room. subst (λ r. is_open (r (gate 0 c.loop-k.k)) ≡ false) same closed)
+    all_read (now (g.D.Disk.trail c.args.disk.now)).reads c.loop-k.k (shown c.args.desktop.now)
+    (shown c.loop-k.desktop) (i.read honest) (λ room. subst
+    (λ r. is_open (r (gate 0 c.loop-k.k)) ≡ false) same closed)
 
 pub loop-k-preserved : goal.loop-k-preserved
 loop-k-preserved g c =
     let i = c.loop-k.invariant in
     let k = c.loop-k.k in
     record {
-      kept = confined.joined g.D.Disk.size g.D.Disk.honest g.D.Disk.trail (confined.joined g.D.Disk.size g.D.Disk.honest g.D.Disk.trail i.kept c.read_event.ensures.kept) c.step.ensures.disk;
+      kept = confined.joined g.D.Disk.size g.D.Disk.honest g.D.Disk.trail
+          (confined.joined g.D.Disk.size g.D.Disk.honest g.D.Disk.trail i.kept c.read_event.ensures.kept)
+          c.step.ensures.disk;
       calm = search rules;
       read = λ honest.
-          let same = still_all (g.D.Disk.trail c.args.disk.now) (g.D.Disk.trail c.loop-k.disk) (i.kept.moments honest) in
+          let same = still_all (g.D.Disk.trail c.args.disk.now) (g.D.Disk.trail c.loop-k.disk)
+          (i.kept.moments honest) in
           let mid = i.kept.still honest in
           let found = (rw c.in-Some.is at c.in_ok-event.ensures.some) mid in
-          one_read (now (g.D.Disk.trail c.args.disk.now)).reads k (shown c.args.desktop.now) (shown c.loop-k.desktop) (shown c.step.new.self) c.in-Some.event (i.read honest) c.loop-k-test.true
-          (subst (λ r. is_open (r (gate 0 k)) ≡ true) same found.0) (subst (λ r. Begins (r (body 0 k)) c.in-Some.event) same found.1)
+          one_read (now (g.D.Disk.trail c.args.disk.now)).reads k (shown c.args.desktop.now) (shown c.loop-k.desktop)
+          (shown c.step.new.self) c.in-Some.event (i.read honest) c.loop-k-test.true
+          (subst (λ r. is_open (r (gate 0 k)) ≡ true) same found.0)
+          (subst (λ r. Begins (r (body 0 k)) c.in-Some.event) same found.1)
           (ap (λ x. x.0) (c.in_ok-step-in-Some.ensures.done (c.read_event.ensures.kept.still mid)));
       over = c.in_ok-step-in-Some.ensures.over;
     }
@@ -57,4 +66,5 @@ returns-clause-whole g c = λ honest.
     let R = (now (g.D.Disk.trail c.args.disk.now)).reads in
     let last : c.loop-k.k ≡ JOURNAL_EVENTS = omega (arith, c.loop-k-test.false, c.loop-k.auto.k-end) in
     subst (λ n. IsReadWhole R 0 n (shown c.args.desktop.now) (shown c.loop-k.desktop)) last
-    (all_read R c.loop-k.k (shown c.args.desktop.now) (shown c.loop-k.desktop) (i.read honest) (λ room. absurd (omega (arith, room, c.loop-k-test.false))))
+    (all_read R c.loop-k.k (shown c.args.desktop.now) (shown c.loop-k.desktop) (i.read honest)
+    (λ room. absurd (omega (arith, room, c.loop-k-test.false))))

@@ -10,6 +10,7 @@ abbrev pub invariant-loop-k : goal.invariant-loop-k
 invariant-loop-k g l = record {
   kept : IsConfined g.D.Disk.size g.D.Disk.honest g.D.Disk.trail Nowhere l.fn.disk l.disk;
   calm : g.D.Disk.failures l.disk ≡ g.D.Disk.failures l.fn.disk;
-  read : g.D.Disk.honest l.fn.disk → IsReadTo (now (g.D.Disk.trail l.fn.disk)).reads 0 l.k (shown l.fn.desktop) (shown l.desktop);
+  read : g.D.Disk.honest l.fn.disk → IsReadTo (now (g.D.Disk.trail l.fn.disk)).reads 0 l.k (shown l.fn.desktop)
+      (shown l.desktop);
   over : IsLive l.desktop;
 }

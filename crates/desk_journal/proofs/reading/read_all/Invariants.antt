@@ -9,9 +9,11 @@ abbrev pub invariant-loop-characters : goal.invariant-loop-characters
 invariant-loop-characters g l = record {
   text : l.reader.text ≡ flat l.fn.text;
   within : l.reader.position ≤ length (flat l.fn.text);
-  reads : OnlyReads g.S.CharSource.characters g.S.CharSource.failures g.S.CharSource.honest g.S.CharSource.same_ground l.fn.source l.source;
+  reads : OnlyReads g.S.CharSource.characters g.S.CharSource.failures g.S.CharSource.honest g.S.CharSource.same_ground
+      l.fn.source l.source;
   calm : g.S.CharSource.failures l.source ≡ g.S.CharSource.failures l.fn.source;
-  so_far : g.S.CharSource.honest l.fn.source → l.characters.items ≡ take l.reader.position (contents (g.S.CharSource.characters l.fn.source) (flat l.fn.text));
+  so_far : g.S.CharSource.honest l.fn.source → l.characters.items
+      ≡ take l.reader.position (contents (g.S.CharSource.characters l.fn.source) (flat l.fn.text));
 }
 
 abbrev pub decreases-loop-characters : goal.decreases-loop-characters

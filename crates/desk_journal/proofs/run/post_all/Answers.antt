@@ -10,7 +10,8 @@ loop-event-init g c = record {
   room = search rules;
   run =
       let store = c.args.store.now in
-      let unposted : posts_of c.args.events.now c.in_ok-answers.answers.items ≡ [] = ap (posts_of c.args.events.now) c.in_ok-answers.ensures.items ∙ none_answered c.args.events.now in
+      let unposted : posts_of c.args.events.now c.in_ok-answers.answers.items
+      ≡ [] = ap (posts_of c.args.events.now) c.in_ok-answers.ensures.items ∙ none_answered c.args.events.now in
       subst (λ (posts : List Post). IsRun g.D.Disk posts store store) (sym unposted) refl;
 }
 
@@ -27,7 +28,8 @@ loop-event-preserved g c =
       room = search rules;
       run =
           let post : Post = record { event = event; answer = answer } in
-          let goes = one_post_more g.D.Disk (posts_of events answers) post c.args.store.now c.loop-event.store c.post-answer.new.self i.run (record {
+          let goes = one_post_more g.D.Disk (posts_of events answers) post c.args.store.now c.loop-event.store
+          c.post-answer.new.self i.run (record {
             any_moment = p.any_moment;
             ok = p.ok;
             memory = p.memory;
@@ -39,7 +41,8 @@ loop-event-preserved g c =
           }) in
           let long : length answers ≡ c.loop-event.event-index = search rules in
           let room : length answers < length events = omega (arith, long, c.loop-event-test.true) in
-          let here : get_or events (length answers) event ≡ event = ap (λ k. get_or events k event) long ∙ sym c.event-item.is in
+          let here : get_or events (length answers) event ≡ event = ap (λ k. get_or events k event) long
+          ∙ sym c.event-item.is in
           let grown : posts_of events c.push_reserved.new.self.items ≡ posts_of events answers ++ post ∷ [] =
           ap (posts_of events) c.push_reserved.ensures.items ∙ posts_grow events answers answer event room
           ∙ ap (λ e. posts_of events answers ++ record { event = e; answer = answer } ∷ []) here in
@@ -47,4 +50,5 @@ loop-event-preserved g c =
     }
 
 pub returns-clause-any_moment : goal.returns-clause-any_moment
-returns-clause-any_moment g c = c.runs_survive.ensures _ _ _ c.loop-event.invariant.run c.requires (c.info.ensures.durable c.requires)
+returns-clause-any_moment g c = c.runs_survive.ensures _ _ _ c.loop-event.invariant.run c.requires
+    (c.info.ensures.durable c.requires)

@@ -26,7 +26,8 @@ loop-event-init g c =
       so_far = λ h. refl;
       images = λ h. at_start (g.D.Disk.trail store.disk) _ (λ content image.
           after_some (g.D.Disk.size store.disk) store.desktop c.args.events.now content 0 (omega arith)
-          (shows_means (g.D.Disk.size store.disk) store.epoch store.events store.desktop content (durable h content image)));
+          (shows_means (g.D.Disk.size store.disk) store.epoch store.events store.desktop content
+          (durable h content image)));
     }
 
 pub loop-event-preserved : goal.loop-event-preserved
@@ -53,8 +54,11 @@ loop-event-preserved g c =
       so_far = λ h.
           let stepped : new.desktop ≡ (step old.desktop event).0 = ap (λ x. x.0) (p.ok.stepped (i.device.still h)) in
           stepped ∙ next_desktop size first.desktop events k old.desktop event room here (i.so_far h);
-      images = λ h. posted_more size first.desktop events (g.D.Disk.trail first.disk) (g.D.Disk.trail old.disk) (g.D.Disk.trail new.disk) k old.desktop event room here (i.so_far h) (i.images h)
-          (subst (λ n. LeavesOnly (g.D.Disk.trail old.disk) (g.D.Disk.trail new.disk) (MeansEither n old.desktop (step old.desktop event).0)) i.device.as_large (p.any_moment i.usable (i.device.still h)));
+      images = λ h. posted_more size first.desktop events (g.D.Disk.trail first.disk) (g.D.Disk.trail old.disk)
+          (g.D.Disk.trail new.disk) k old.desktop event room here (i.so_far h) (i.images h)
+          (subst (λ n. LeavesOnly (g.D.Disk.trail old.disk) (g.D.Disk.trail new.disk)
+          (MeansEither n old.desktop (step old.desktop event).0)) i.device.as_large
+          (p.any_moment i.usable (i.device.still h)));
     }
 
 pub returns-in-Err-clause-any_moment : goal.returns-in-Err-clause-any_moment
@@ -66,9 +70,14 @@ returns-in-Err-clause-any_moment g c = λ h.
     let size = g.D.Disk.size first.disk in
     let events = c.args.events.now in
     let event = c.event-item.result in
-    subst (λ disk. LeavesOnly (g.D.Disk.trail first.disk) (g.D.Disk.trail disk) (MeansSome size first.desktop events)) (sym c.close.ensures)
-    (posted_more size first.desktop events (g.D.Disk.trail first.disk) (g.D.Disk.trail old.disk) (g.D.Disk.trail new.disk) c.loop-event.event-index old.desktop event c.loop-event-test.true c.event-item.is (i.so_far h) (i.images h)
-    (subst (λ n. LeavesOnly (g.D.Disk.trail old.disk) (g.D.Disk.trail new.disk) (MeansEither n old.desktop (step old.desktop event).0)) i.device.as_large (c.post.ensures.any_moment i.usable (i.device.still h))))
+    subst (λ disk. LeavesOnly (g.D.Disk.trail first.disk) (g.D.Disk.trail disk) (MeansSome size first.desktop events))
+    (sym c.close.ensures)
+    (posted_more size first.desktop events (g.D.Disk.trail first.disk) (g.D.Disk.trail old.disk)
+    (g.D.Disk.trail new.disk) c.loop-event.event-index old.desktop event c.loop-event-test.true
+    c.event-item.is (i.so_far h) (i.images h)
+    (subst (λ n. LeavesOnly (g.D.Disk.trail old.disk) (g.D.Disk.trail new.disk)
+    (MeansEither n old.desktop (step old.desktop event).0)) i.device.as_large
+    (c.post.ensures.any_moment i.usable (i.device.still h))))
 
 pub returns-clause-ok : goal.returns-clause-ok
 returns-clause-ok g c = IfOk-weaker c.open.result _ _ (λ reopened found.
@@ -77,11 +86,14 @@ returns-clause-ok g c = IfOk-weaker c.open.result _ _ (λ reopened found.
     let events = c.args.events.now in
     let k = c.loop-event.event-index in
     let all : k ≡ length events = omega (arith, i.within, c.loop-event-test.false) in
-    let opened : IsOpened g.D.Disk store.disk reopened = subst (λ disk. IsOpened g.D.Disk disk reopened) c.close-2.ensures found in
+    let opened : IsOpened g.D.Disk store.disk reopened = subst
+    (λ disk. IsOpened g.D.Disk disk reopened) c.close-2.ensures found in
     record {
-      desktop = λ h. (c.reopening_law.ensures store reopened (i.device.still h) i.durable opened).0 ∙ i.so_far h ∙ ap (steps c.args.store.desktop) (take_all k events c.loop-event-test.false);
+      desktop = λ h. (c.reopening_law.ensures store reopened (i.device.still h) i.durable opened).0 ∙ i.so_far h
+          ∙ ap (steps c.args.store.desktop) (take_all k events c.loop-event-test.false);
       epoch = λ h. (c.reopening_law.ensures store reopened (i.device.still h) i.durable opened).1 ∙ i.epoch;
-      events_more = λ h. (c.reopening_law.ensures store reopened (i.device.still h) i.durable opened).2 ∙ i.count ∙ ap (λ n. c.args.store.events + n) all;
+      events_more = λ h. (c.reopening_law.ensures store reopened (i.device.still h) i.durable opened).2 ∙ i.count
+          ∙ ap (λ n. c.args.store.events + n) all;
       durable = found.durable;
       usable = found.usable;
     }) c.open.ensures.ok
@@ -92,5 +104,7 @@ returns-clause-any_moment g c = λ h.
     let first = c.args.store in
     let store = c.loop-event.store in
     let last = disk_after (λ s. s.disk) c.open.result in
-    let read : IsOnlyRead g.D.Disk store.disk last = subst (λ disk. IsOnlyRead g.D.Disk disk last) c.close-2.ensures c.open.ensures.any_moment in
-    then_read (g.D.Disk.size first.disk) first.desktop c.args.events.now (g.D.Disk.trail first.disk) (g.D.Disk.trail store.disk) (g.D.Disk.trail last) (i.images h) (read.unwritten (i.device.still h))
+    let read : IsOnlyRead g.D.Disk store.disk last = subst
+    (λ disk. IsOnlyRead g.D.Disk disk last) c.close-2.ensures c.open.ensures.any_moment in
+    then_read (g.D.Disk.size first.disk) first.desktop c.args.events.now (g.D.Disk.trail first.disk)
+    (g.D.Disk.trail store.disk) (g.D.Disk.trail last) (i.images h) (read.unwritten (i.device.still h))

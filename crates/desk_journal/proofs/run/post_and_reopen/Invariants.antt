@@ -17,5 +17,6 @@ invariant-loop-event g l = record {
   epoch : l.store.epoch ≡ l.fn.store.epoch;
   count : l.store.events ≡ l.fn.store.events + l.event-index;
   so_far : g.D.Disk.honest l.fn.store.disk → l.store.desktop ≡ steps l.fn.store.desktop (take l.event-index l.events);
-  images : g.D.Disk.honest l.fn.store.disk → LeavesOnly (g.D.Disk.trail l.fn.store.disk) (g.D.Disk.trail l.store.disk) (MeansSome (g.D.Disk.size l.fn.store.disk) l.fn.store.desktop l.events);
+  images : g.D.Disk.honest l.fn.store.disk → LeavesOnly (g.D.Disk.trail l.fn.store.disk) (g.D.Disk.trail l.store.disk)
+      (MeansSome (g.D.Disk.size l.fn.store.disk) l.fn.store.desktop l.events);
 }

@@ -29,12 +29,16 @@ pub returns-in-Err : goal.returns-in-Err
 returns-in-Err g c = record {
   worked_out = record {
     bytes = IfOk-weaker c.refused.result _ _ (λ a is honest. is.1
-        ∙ sym (full_answer (session_of c.args.store.now) c.args.event.now (c.in-Err.ensures.full.only (ap (λ e. Err e) is.0)).1))
+        ∙ sym (full_answer (session_of c.args.store.now) c.args.event.now
+        (c.in-Err.ensures.full.only (ap (λ e. Err e) is.0)).1))
         c.refused.ensures.full;
-    session = IfOk-weaker c.refused.result _ _ (λ a is honest. ap session_of (c.in-Err.ensures.full.unchanged (ap (λ e. Err e) is.0))
-        ∙ sym (full_after (session_of c.args.store.now) c.args.event.now (c.in-Err.ensures.full.only (ap (λ e. Err e) is.0)).1))
+    session = IfOk-weaker c.refused.result _ _ (λ a is honest. ap session_of
+        (c.in-Err.ensures.full.unchanged (ap (λ e. Err e) is.0))
+        ∙ sym (full_after (session_of c.args.store.now) c.args.event.now
+        (c.in-Err.ensures.full.only (ap (λ e. Err e) is.0)).1))
         c.refused.ensures.full;
-    usable = IfOk-weaker c.refused.result _ _ (λ a is. ap (λ (s : StoreView _). s.must_reopen) (c.in-Err.ensures.full.unchanged (ap (λ e. Err e) is.0)) ∙ c.requires)
+    usable = IfOk-weaker c.refused.result _ _ (λ a is. ap (λ (s : StoreView _). s.must_reopen)
+        (c.in-Err.ensures.full.unchanged (ap (λ e. Err e) is.0)) ∙ c.requires)
         c.refused.ensures.full;
     premise = (c.in-Err.ensures.device.already, c.in-Err.ensures.device.still);
   };

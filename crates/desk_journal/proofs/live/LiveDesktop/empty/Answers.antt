@@ -6,4 +6,5 @@ pub returns-clause-empty : goal.returns-clause-empty
 returns-clause-empty c = c.in_ok-empty.ensures.seen c.new.result
 
 pub returns-clause-over : goal.returns-clause-over
-returns-clause-over c = subst (λ (characters : List ℕ). IsOver characters c.in_ok-empty.field-0) (sym c.new.ensures) c.in_ok-empty.ensures.over
+returns-clause-over c = subst (λ (characters : List ℕ). IsOver characters c.in_ok-empty.field-0)
+    (sym c.new.ensures) c.in_ok-empty.ensures.over
