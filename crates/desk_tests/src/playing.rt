@@ -119,7 +119,9 @@ impl Write for Holding<'_> {
     }
 
     fn flush(&mut self) -> io::Result<()> {
-        self.shelf.lines.set(self.shelf.lines.get().wrapping_add(self.shelf.held.get()));
+        self.shelf
+            .lines
+            .set(self.shelf.lines.get().wrapping_add(self.shelf.held.get()));
         self.shelf.held.set(0);
         Ok(())
     }
@@ -233,7 +235,10 @@ fn long_lines(rt: HostRuntime) -> Result<(), Fail> {
         };
         let (end, written) = answers(rt.alloc(), &mut reader)?;
         assert_eq!(rt; end, PlayEnd::Done);
-        assert_eq!(rt; written.as_slice(), b"?\n?\n?\nwritten 0\nend\n?\n".as_slice());
+        assert_eq!(rt;
+            written.as_slice(),
+            b"?\n?\n?\nwritten 0\nend\n?\n".as_slice()
+        );
     }
     Ok(())
 }
@@ -264,7 +269,10 @@ fn bounded_reads(rt: HostRuntime) -> Result<(), Fail> {
     assert_eq!(rt; end, PlayEnd::Input);
     let end = play_bounded(rt.alloc(), &mut reader, &mut written, &mut store, 3);
     assert_eq!(rt; end, PlayEnd::Done);
-    assert_eq!(rt; written.as_slice(), b"?\n?\n?\n?\n?\n?\n?\n?\ninput\n?\n?\n".as_slice());
+    assert_eq!(rt;
+        written.as_slice(),
+        b"?\n?\n?\n?\n?\n?\n?\n?\ninput\n?\n?\n".as_slice()
+    );
     Ok(())
 }
 
@@ -304,8 +312,18 @@ fn write_faults(rt: HostRuntime) -> Result<(), Fail> {
         for fails in [true, false] {
             let whole = room >= HELLO_ANSWERS.len();
             let (end, taken) = halted(rt.alloc(), room, 2, fails)?;
-            assert_eq!(rt; end, if whole { PlayEnd::Done } else { PlayEnd::Output });
-            assert_eq!(rt; taken.as_slice(), &HELLO_ANSWERS[..room.min(HELLO_ANSWERS.len())]);
+            assert_eq!(rt;
+                end,
+                if whole {
+                    PlayEnd::Done
+                } else {
+                    PlayEnd::Output
+                }
+            );
+            assert_eq!(rt;
+                taken.as_slice(),
+                &HELLO_ANSWERS[..room.min(HELLO_ANSWERS.len())]
+            );
         }
     }
     Ok(())

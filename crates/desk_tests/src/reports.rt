@@ -66,7 +66,10 @@ fn full_journal(rt: HostRuntime) -> Result<(), Fail> {
     let end = play(alloc, &mut more, &mut written, &mut store);
     assert_eq!(rt; end, PlayEnd::Done);
     assert_eq!(rt; check(&mut written, &store), PlayEnd::Done);
-    assert_eq!(rt; written.as_slice(), b"full\nend\nok layout 1 epoch 1 events 256\n".as_slice());
+    assert_eq!(rt;
+        written.as_slice(),
+        b"full\nend\nok layout 1 epoch 1 events 256\n".as_slice()
+    );
     assert_eq!(rt; check(&mut Closed, &store), PlayEnd::Output);
     Ok(())
 }

@@ -1,4 +1,5 @@
-//! Rows of rings of pieces, and refused allocations: a call whose memory is refused leaves the texts, and is then made again, so that every test
+//! Rows of rings of pieces, and refused allocations: a call whose memory is refused leaves the texts, and is then made
+//! again, so that every test
 //! also passes under `rt try --test --fail-alloc N`, for each N.
 
 use piece_ring::{DEFAULT_LOOK, Look, NoMemory, Piece, Ring};
@@ -142,7 +143,8 @@ fn walked(rt: &impl Abort, ring: &Ring, pos: u32) -> u32 {
     ring.cursor(pos).walked()
 }
 
-/// Asserts that the ring has the characters at these offsets, in these looks, and that its cursor follows at most one link for each.
+/// Asserts that the ring has the characters at these offsets, in these looks, and that its cursor follows at most one
+/// link for each.
 fn expect_text(rt: &impl Abort, ring: &Ring, wanted: &[(u32, Look)]) {
     assert_eq!(rt; ring.len() as usize, wanted.len());
     let mut cursor = ring.cursor(0);

@@ -187,7 +187,8 @@ played_more Honest before now now' left left' left'' held held' held'' most old 
       few = few_both (length so_far.read) (length taken.read) _ (most_bytes old.reads) (most_bytes new.reads)
           (most_bytes most) (length-append so_far.read taken.read) so_far.few taken.few;
       each = all_both so_far.lines (taken.line ∷ []) so_far.each (taken.plain, tt);
-      parts = parts_more so_far.read taken.read old.pending new.pending taken.line so_far.lines so_far.parts taken.parts;
+      parts = parts_more so_far.read taken.read old.pending new.pending taken.line so_far.lines so_far.parts
+          taken.parts;
       written = λ honest.
           let one : IsAnswered (request_of taken.line) now now' held' held'' = answered honest taken.line taken.holds in
           let same : answer now (request_of taken.line) ≡ out (after_all before so_far.lines) (taken.line ∷ [])

@@ -1,8 +1,10 @@
-//! Edits in a ring of many pieces, for a script to time. The arguments are what is done, a number of pieces and a number of rounds:
+//! Edits in a ring of many pieces, for a script to time. The arguments are what is done, a number of pieces and a
+//! number of rounds:
 //!
 //! - `far`: each round takes a random stretch out and puts it in at a random position.
 //! - `near`: each round does so within 50 characters of the last one's place.
-//! - `type`: the rounds add one character each, which continues the one before it; the pieces are those that stand before.
+//! - `type`: the rounds add one character each, which continues the one before it; the pieces are those that stand
+//! before.
 //! - `rows`: the worked rows of a ring; the numbers mean nothing.
 //!
 //! The number of characters and of pieces that are there in the end is printed.

@@ -11,7 +11,8 @@ returns-in_err-send-clause-played g c =
     rw (p.1, p.2) (record {
       answered = tt;
       unanswered = λ honest bytes holds. subst (AppendsFront _ _)
-          (c.as_bytes.ensures ∙ c.in_ok-answer.ensures.worked_out.bytes honest ∙ ap (λ r. answer (session_of c.args.store.now) r)
+          (c.as_bytes.ensures ∙ c.in_ok-answer.ensures.worked_out.bytes honest
+          ∙ ap (λ r. answer (session_of c.args.store.now) r)
           (c.request.ensures bytes holds)) c.in_err-send.ensures.front;
       usable = tt;
       premise = c.in_ok-answer.ensures.worked_out.premise;
