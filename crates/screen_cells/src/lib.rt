@@ -11,9 +11,10 @@ mod line;
 mod print;
 mod screen;
 mod sending;
-#[cfg(test)]
-mod tests;
+mod shown;
+mod strip;
 
 pub use cell::{Cell, Mark};
 pub use laws::{all_filler_without_viewers, cells_of_a_screen};
 pub use screen::Screen;
+pub use shown::Shown;
