@@ -1,17 +1,21 @@
-//! Worked rows, and writers that take a text in pieces or fail.
-ghost use Rattle.std.specs.Prelude.{◌≡◌, IfSome};
+//! The screen: worked rows, and writers that take a text in pieces or fail.
+ghost use Rattle.std.specs.Prelude.{◌≡◌, ◌≤◌, length, IfOk, IfSome};
+ghost use Rattle.piece_ring.specs.Flat.{flat};
+ghost use Rattle.piece_ring.specs.Offsets.{AreWithin};
 ghost use Rattle.screen_cells.specs.Printed.{printed};
 
-use crate::line::{character_line, has_mark_line, mark_line};
-use crate::{Cell, Mark, Screen};
-use piece_ring::Look;
+use char_file::{CharFile, CharSource, NoMemory};
+use piece_ring::DEFAULT_LOOK;
+use screen_cells::{Cell, Mark, Screen, Shown};
 use sector_disk::Fault;
 use std::alloc::Global;
 use std::io;
 use std::io::{ErrorKind, Write};
 use std::process::Abort;
 use std::test::Fail;
-use viewer_tracks::{COLUMNS, ROWS, Tracks, ViewerId};
+use text_core::Text;
+use text_frames::{Frame, Selection};
+use viewer_tracks::{Tracks, ViewerId};
 
 const CORNER: Option<(u8, u8)> = Some((79, 31));
 
@@ -61,10 +65,11 @@ impl Write for Stuck {
 }
 
 /// The screen of an empty display.
-fn painted(marker: Option<(u8, u8)>) -> Screen {
+fn painted(alloc: Global, marker: Option<(u8, u8)>) -> Result<Screen, Fault> {
     let mut screen = Screen::new();
-    screen.paint(&Tracks::new(), marker);
-    screen
+    let mut source = CharFile::new(alloc);
+    screen.paint(&Tracks::new(), &[], marker, &mut source)?;
+    Ok(screen)
 }
 
 /// What is printed of a screen, or None where that failed.
@@ -96,48 +101,122 @@ fn wanted(alloc: Global, marker: Option<(u8, u8)>) -> Result<Vec<u8>, Fail> {
     Ok(text)
 }
 
-fn look() -> Look {
-    Look {
-        font: 0,
-        colour: 15,
-        voff: 0,
-    }
+/// The text of some of the source's characters, in the default look.
+#[tactic(auto, using(crate::proofs::Texts::run_within))]
+fn text_at<S: CharSource>(
+    rt: &impl Abort,
+    alloc: Global,
+    source: &S,
+    first: u32,
+    count: u32,
+) -> Result<Text, NoMemory>
+    ensures { IfOk result (λ text. AreWithin (length (S.characters source.now)) (flat text)) }
+{
+    let len = source.len();
+    assert!(rt; first < 100_000 && count < 100_000);
+    assert!(rt; first + count <= len);
+    let text = Text::of_run(alloc, first, count, DEFAULT_LOOK)?;
+    Ok(text)
 }
 
-/// A row of a viewer that shows a text from its left on.
-fn row_of(text: &[u8]) -> [Cell; 80] {
-    let blank = Cell {
-        ch: b' ',
-        look: look(),
-        mark: Mark::Text,
-    };
-    let mut row = [blank; 80];
-    for (cell, ch) in row.iter_mut().zip(text) {
-        cell.ch = *ch;
+/// A source of a menu, and then of a main text.
+fn source_of(
+    rt: &impl Abort,
+    alloc: Global,
+    menu: &[u8],
+    main: &[u8],
+) -> Result<CharFile, NoMemory> {
+    assert!(rt; menu.len() < 1_000 && main.len() < 1_000);
+    let mut source = CharFile::new(alloc);
+    for bytes in [menu, main] {
+        assert!(rt; source.len() < 1_000 && bytes.len() < 1_000);
+        source.append(bytes)?;
     }
-    row
+    Ok(source)
 }
 
-/// The mark at a cell of the display.
-fn mark_at(rt: &impl Abort, screen: &Screen, x: u8, y: u8) -> Mark {
-    assert!(rt; x < COLUMNS);
-    assert!(rt; y < ROWS);
-    screen.cell(x, y).mark
+/// The tracks of a display where viewer 1 has all rows of the track with this column.
+fn tracks_of_one(rt: &impl Abort, x: u8) -> Tracks {
+    let mut tracks = Tracks::new();
+    assert!(rt; x < 80 && !tracks.contains(ViewerId(1)));
+    assert!(rt; tracks.open(ViewerId(1), x, 32).is_none());
+    tracks
+}
+
+/// The screen of a display with one viewer, in the track with the column `x`.
+fn screen_of_one(
+    rt: &impl Abort,
+    alloc: Global,
+    x: u8,
+    texts: [&[u8]; 2],
+    frame: &Frame,
+    marker: Option<(u8, u8)>,
+) -> Result<Screen, Fail> {
+    let [menu, main] = texts;
+    assert!(rt; menu.len() < 1_000 && main.len() < 1_000);
+    let (first, second) = (menu.len() as u32, main.len() as u32);
+    let mut source = source_of(rt, alloc, menu, main)?;
+    let menu = text_at(rt, alloc, &source, 0, first)?;
+    let main = text_at(rt, alloc, &source, first, second)?;
+    let screen = paint_one(
+        rt,
+        &tracks_of_one(rt, x),
+        &menu,
+        &main,
+        frame,
+        marker,
+        &mut source,
+    );
+    Ok(screen?)
+}
+
+/// Paints viewer 1 with these texts.
+fn paint_one<S: CharSource>(
+    rt: &impl Abort,
+    tracks: &Tracks,
+    menu: &Text,
+    main: &Text,
+    frame: &Frame,
+    marker: Option<(u8, u8)>,
+    source: &mut S,
+) -> Result<Screen, Fault>
+    requires menu { AreWithin (length (S.characters source.old)) (flat menu.now) }
+    requires main { AreWithin (length (S.characters source.old)) (flat main.now) }
+{
+    assert!(rt; frame.org <= main.len());
+    let mut screen = Screen::new();
+    let shown = [Shown {
+        id: ViewerId(1),
+        menu,
+        main,
+        frame,
+    }];
+    screen.paint(tracks, &shown, marker, source)?;
+    Ok(screen)
+}
+
+/// Whether the line stands in the text.
+fn has_line(text: &[u8], line: &[u8]) -> bool {
+    for begin in 0..text.len() {
+        if text[begin..].starts_with(line) {
+            return true;
+        }
+    }
+    false
 }
 
 #[test]
 fn empty(rt: HostRuntime) -> Result<(), Fail> {
     let alloc = rt.alloc();
-    let outside = Some((80, 31));
-    assert_eq!(rt;
-        text_of(alloc, &painted(outside))
-            .ok_or("refused")?
-            .as_slice(),
-        wanted(alloc, None)?.as_slice()
-    );
-    for marker in [None, CORNER, Some((0, 0)), Some((3, 10))] {
-        let text = text_of(alloc, &painted(marker)).ok_or("refused")?;
-        assert_eq!(rt; text.as_slice(), wanted(alloc, marker)?.as_slice());
+    for (marker, shown) in [
+        (None, None),
+        (CORNER, CORNER),
+        (Some((0, 0)), Some((0, 0))),
+        (Some((3, 10)), Some((3, 10))),
+        (Some((80, 31)), None),
+    ] {
+        let text = text_of(alloc, &painted(alloc, marker)?).ok_or("refused")?;
+        assert_eq!(rt; text.as_slice(), wanted(alloc, shown)?.as_slice());
     }
     Ok(())
 }
@@ -152,88 +231,153 @@ fn new_screen(rt: HostRuntime) -> Result<(), Fail> {
     Ok(())
 }
 
-#[test]
-fn cells(rt: HostRuntime) {
-    let screen = painted(CORNER);
-    let filler = Cell {
-        ch: b' ',
-        look: look(),
-        mark: Mark::Filler,
-    };
-    assert_eq!(rt; screen.cell(31, 79 - 48), filler);
-    assert_eq!(rt;
-        screen.cell(79, 31),
-        Cell {
-            mark: Mark::Marker,
-            ..filler
-        }
-    );
+/// Whether what is printed of a viewer of all rows has these lines.
+fn shows(
+    rt: &impl Abort,
+    alloc: Global,
+    x: u8,
+    texts: [&[u8]; 2],
+    frame: &Frame,
+    marker: Option<(u8, u8)>,
+    lines: &[&[u8]],
+) -> Result<bool, Fail> {
+    let screen = screen_of_one(rt, alloc, x, texts, frame, marker)?;
+    let text = text_of(alloc, &screen).ok_or("refused")?;
+    Ok(lines.iter().all(|line| has_line(text.as_slice(), line)))
+}
+
+const MENU: &[u8] = b"A.Text | System.Close System.Copy Edit.Search Edit.Store";
+
+const LONG: &[u8] = b"0123456789012345678901234567890123456789012345678X";
+
+/// A frame of the text from `org` on.
+fn frame_at(org: u32, caret: Option<u32>, selection: Option<(u32, u32)>) -> Frame {
+    Frame {
+        text: 1,
+        org,
+        caret,
+        selection: selection.map(|(beg, end)| Selection { beg, end, rank: 1 }),
+    }
 }
 
 #[test]
-fn cells_of_viewers_stay(rt: HostRuntime) {
-    let mut tracks = Tracks::new();
-    let mut screen = Screen::new();
-    screen.paint(&tracks, Some((0, 9)));
-    assert!(rt; !tracks.contains(ViewerId(1)));
-    assert_eq!(rt; tracks.open(ViewerId(1), 0, 10), None);
-    screen.paint(&tracks, Some((50, 9)));
-    assert_eq!(rt; mark_at(&rt, &screen, 0, 9), Mark::Marker);
-    assert_eq!(rt; mark_at(&rt, &screen, 50, 9), Mark::Marker);
-    screen.paint(&tracks, Some((0, 10)));
-    assert_eq!(rt; mark_at(&rt, &screen, 0, 9), Mark::Marker);
-    assert_eq!(rt; mark_at(&rt, &screen, 50, 9), Mark::Filler);
-    assert_eq!(rt; mark_at(&rt, &screen, 0, 10), Mark::Marker);
-    assert!(rt; tracks.contains(ViewerId(1)));
-    tracks.close(ViewerId(1));
-    screen.paint(&tracks, None);
-    assert_eq!(rt; mark_at(&rt, &screen, 0, 9), Mark::Filler);
-    assert_eq!(rt; mark_at(&rt, &screen, 0, 10), Mark::Filler);
-}
-
-#[test]
-fn character_lines(rt: HostRuntime) {
-    let cases: [(u8, &[u8], &[u8]); 5] = [
-        (31, b"", b"31:\n"),
-        (9, b"a", b"09:a\n"),
-        (30, b"  |HelabHello  ", b"30:  |HelabHello\n"),
+fn texts_of_viewers(rt: HostRuntime) -> Result<(), Fail> {
+    let rows: [(u8, [&[u8]; 2], u32, [&[u8]; 3]); 5] = [
         (
             0,
-            b"01234567890123456789012345678901234567890123456789012345678901234567890123456789",
-            b"00:01234567890123456789012345678901234567890123456789012345678901234567890123456789\n",
+            [MENU, b"Hello"],
+            0,
+            [
+                b"31:A.Text | System.Close System.Copy Edit.Search Edit\n30:|Hello\n29:|\n",
+                b"00:|\nmarks\nend\n",
+                b"",
+            ],
         ),
         (
-            10,
-            b"                                                                               .",
-            b"10:                                                                               .\n",
+            60,
+            [b"T", b"HelabHello"],
+            0,
+            [
+                b"31:                                                  T-----------------------------\n",
+                b"30:                                                  |HelabHello\n",
+                b"marks\nend\n",
+            ],
+        ),
+        (
+            0,
+            [b"Ed\x01\tx\ry", b"a\tb\rc\x80\x7f\r\rd"],
+            0,
+            [
+                b"31:Ed? x---------------------------------------------\n30:|a   b\n29:|c??\n28:|\n27:|d\n26:|\n",
+                b"",
+                b"",
+            ],
+        ),
+        (
+            49,
+            [b"", LONG],
+            0,
+            [
+                b"31:--------------------------------------------------\n",
+                b"30:|0123456789012345678901234567890123456789012345678\n29:|\n",
+                b"",
+            ],
+        ),
+        (
+            0,
+            [MENU, b"Hello\rWorld"],
+            6,
+            [b"30:|World\n29:|\n", b"", b""],
         ),
     ];
-    for (y, text, line) in cases {
-        assert!(rt; y < 100);
-        assert_eq!(rt; character_line(y, &row_of(text)).as_slice(), line);
+    for (x, texts, org, lines) in rows {
+        let frame = frame_at(org, None, None);
+        assert!(rt;
+            shows(&rt, rt.alloc(), x, texts, &frame, None, &lines)?,
+            "{x} {org}"
+        );
     }
+    Ok(())
 }
 
+/// The first mark that holds counts: the marker, then a caret, then a selected character. A tabulator has all its cells
+/// selected and a carriage return none, and a caret past the frame's width or past the text isn't shown.
 #[test]
-fn mark_lines(rt: HostRuntime) {
-    let mut row = row_of(b"Hello");
-    assert!(rt; !has_mark_line(&row));
-    assert_eq!(rt; mark_line(3, &row).as_slice(), b"03:\n".as_slice());
-    for (x, mark) in [
-        (0, Mark::Bar),
-        (2, Mark::Caret),
-        (3, Mark::Selected),
-        (4, Mark::Selected),
-        (6, Mark::Menu),
-        (8, Mark::Marker),
-        (9, Mark::Filler),
-    ] {
-        if let Some(cell) = row.get_mut(x) {
-            cell.mark = mark;
-        }
+fn marks_of_viewers(rt: HostRuntime) -> Result<(), Fail> {
+    let rows: [(
+        &[u8],
+        Option<u32>,
+        Option<(u32, u32)>,
+        Option<(u8, u8)>,
+        &[u8],
+    ); 8] = [
+        (b"Hello", Some(5), None, None, b"marks\n30:......c\nend\n"),
+        (
+            b"Hello",
+            Some(5),
+            None,
+            Some((6, 30)),
+            b"marks\n30:......m\nend\n",
+        ),
+        (
+            b"Hello",
+            Some(2),
+            Some((1, 4)),
+            None,
+            b"marks\n30:..scs\nend\n",
+        ),
+        (
+            b"a\tb\rcd",
+            None,
+            Some((0, 5)),
+            Some((0, 31)),
+            b"marks\n31:m\n30:.sssss\n29:.s\nend\n",
+        ),
+        (
+            b"ab\rcd",
+            Some(3),
+            None,
+            Some((79, 0)),
+            b"marks\n29:.c\n00:",
+        ),
+        (
+            LONG,
+            Some(48),
+            Some((47, 50)),
+            None,
+            b"marks\n30:................................................sc\nend\n",
+        ),
+        (LONG, Some(49), None, None, b"marks\nend\n"),
+        (b"Hello", Some(6), None, None, b"marks\nend\n"),
+    ];
+    for (main, caret, selection, marker, line) in rows {
+        let frame = frame_at(0, caret, selection);
+        assert!(rt;
+            shows(&rt, rt.alloc(), 0, [MENU, main], &frame, marker, &[line])?,
+            "{caret:?}"
+        );
     }
-    assert!(rt; has_mark_line(&row));
-    assert_eq!(rt; mark_line(3, &row).as_slice(), b"03:..css...m\n".as_slice());
+    Ok(())
 }
 
 #[test]
@@ -241,7 +385,7 @@ fn pieces_of_any_size(rt: HostRuntime) -> Result<(), Fail> {
     let alloc = rt.alloc();
     let whole = wanted(alloc, CORNER)?;
     assert_eq!(rt; whole.len(), CORNER_LENGTH);
-    let screen = painted(CORNER);
+    let screen = painted(alloc, CORNER)?;
     for size in 1..=CORNER_LENGTH {
         let mut writer = Narrow {
             taken: Vec::new(alloc),
@@ -259,7 +403,7 @@ fn pieces_of_any_size(rt: HostRuntime) -> Result<(), Fail> {
 fn write_faults(rt: HostRuntime) -> Result<(), Fail> {
     let alloc = rt.alloc();
     let whole = wanted(alloc, CORNER)?;
-    let screen = painted(CORNER);
+    let screen = painted(alloc, CORNER)?;
     for room in 0..CORNER_LENGTH {
         for (size, fails) in [(1, true), (1, false), (84, true), (84, false)] {
             let mut writer = Narrow {
@@ -279,10 +423,11 @@ fn write_faults(rt: HostRuntime) -> Result<(), Fail> {
 #[test]
 fn flush_fault(rt: HostRuntime) -> Result<(), Fail> {
     let alloc = rt.alloc();
+    let screen = painted(alloc, CORNER)?;
     let mut writer = Stuck {
         taken: Vec::new(alloc),
     };
-    assert_eq!(rt; painted(CORNER).print(&mut writer), Err(Fault));
+    assert_eq!(rt; screen.print(&mut writer), Err(Fault));
     assert_eq!(rt; writer.taken.as_slice(), wanted(alloc, CORNER)?.as_slice());
     Ok(())
 }

@@ -1,6 +1,30 @@
 -- What is painted: a row from the left, and the rows from the bottom.
-use Rattle.std.proofs.Common.{◌≡◌, ◌≢◌, ℕ, Bool, true, ◌+◌, ◌<◌, ◌≤◌, ◌-◌, false, Option, List, [], length, get_or, set,
-    map, refl, ap, ◌∙◌, arith, below_more, subst, sym}
+use Rattle.std.proofs.Common.{
+  ◌≡◌,
+  ◌≢◌,
+  ℕ,
+  Bool,
+  true,
+  ◌+◌,
+  ◌<◌,
+  ◌≤◌,
+  ◌-◌,
+  false,
+  Option,
+  List,
+  [],
+  length,
+  get_or,
+  set,
+  map,
+  refl,
+  ap,
+  ◌∙◌,
+  arith,
+  below_more,
+  subst,
+  sym,
+}
 use Rattle.std.specs.Prelude.{if◌then◌else◌, nat_lt, None}
 use Rattle.std.proofs.lemmas.List.{length-set, get_or-set_same, get_or-set_other}
 use Rattle.char_file.specs.Source.{OnlyReads}
@@ -32,22 +56,26 @@ module _ {X : Type 0} (default : X) (f : ℕ → X → X) (before : List X) wher
     left = λ k h. refl;
   }
 
-  pub done_more : (after : List X) (n : ℕ) (x : X) → n < length before → IsDoneTo default f before after n → x ≡ f n (get_or before n default)
+  pub done_more : (after : List X) (n : ℕ) (x : X) → n < length before → IsDoneTo default f before after n
+      → x ≡ f n (get_or before n default)
       → IsDoneTo default f before (set after n x) (n + 1)
   done_more after n x inside so_far made = record {
     as_long = length-set after n x ∙ so_far.as_long;
     done = below_more (λ k. get_or (set after n x) k default ≡ f k (get_or before k default)) n
         (λ k h. let other : k ≢ n = omega arith in get_or-set_other after n k x default other ∙ so_far.done k h)
         (let long : n < length after = omega (arith, so_far.as_long) in get_or-set_same after n x default long ∙ made);
-    left = λ k h. let other : k ≢ n = omega arith in get_or-set_other after n k x default other ∙ so_far.left k (omega arith);
+    left = λ k h. let other : k ≢ n = omega arith in get_or-set_other after n k x default other
+        ∙ so_far.left k (omega arith);
   }
 
   -- where f keeps the element at n
-  pub done_kept : (after : List X) (n : ℕ) → IsDoneTo default f before after n → get_or before n default ≡ f n (get_or before n default)
+  pub done_kept : (after : List X) (n : ℕ) → IsDoneTo default f before after n
+      → get_or before n default ≡ f n (get_or before n default)
       → IsDoneTo default f before after (n + 1)
   done_kept after n so_far kept = record {
     as_long = so_far.as_long;
-    done = below_more (λ k. get_or after k default ≡ f k (get_or before k default)) n so_far.done (so_far.left n (omega arith) ∙ kept);
+    done = below_more (λ k. get_or after k default ≡ f k (get_or before k default)) n so_far.done
+        (so_far.left n (omega arith) ∙ kept);
     left = λ k h. so_far.left k (omega arith);
   }
 
@@ -62,7 +90,7 @@ strips_painted columns viewers marker y user system in_user in_system =
   where
     by_track : (x : ℕ) (left : Bool)
         → (if left then strip_cell user x else strip_cell system (x - SYSTEM_LEFT))
-            ≡ track_cell columns viewers (if left then User else System) (x - left_of (if left then User else System)) y
+        ≡ track_cell columns viewers (if left then User else System) (x - left_of (if left then User else System)) y
     by_track x true = in_user x ∙ ap (λ c. track_cell columns viewers User c y) (let e : x ≡ x - 0 = omega arith in e)
     by_track x false = in_system (x - SYSTEM_LEFT)
 
@@ -98,17 +126,17 @@ module _ {S : Type 0} (characters : S → List ℕ) (failures : S → ℕ) (hone
     calm = calm ∙ so_far.calm;
     done = λ h. below_more (λ k. get_or (set rows n row) k [] ≡ row_wanted start k) n
         (λ k below. let other : k ≢ n = omega (arith, below) in
-            get_or-set_other rows n k row [] other ∙ so_far.done h k below)
+        get_or-set_other rows n k row [] other ∙ so_far.done h k below)
         (let long : n < length rows = omega (arith, inside, so_far.long) in
-            get_or-set_same rows n row [] long ∙ made (so_far.reads.still h)
-            ∙ (λ i. painted_row columns (map (as_read (so_far.reads.same h i)) viewers) marker n));
+        get_or-set_same rows n row [] long ∙ made (so_far.reads.still h)
+        ∙ (λ i. painted_row columns (map (as_read (so_far.reads.same h i)) viewers) marker n));
   }
 
   pub all_painted : (start now : S) (rows : List (List Cell)) (n : ℕ) → ROWS ≤ n → ArePainted start now rows n
       → honest start → rows ≡ screen_of (picture columns (map (as_read (characters start)) viewers) marker)
   all_painted start now rows n all painted h =
       values_is ROWS (row_wanted start) rows [] painted.long
-          (λ k below. painted.done h k (omega (arith, all, below)))
+      (λ k below. painted.done h k (omega (arith, all, below)))
 
 -- no viewer is seen where there is none
 seen_nowhere : (b : Bool) (y : ℕ) → viewer_at (shown no_viewers (if b then User else System)) y ≡ None
@@ -121,7 +149,7 @@ pub picture_without_viewers : (viewers : List Viewer) (marker : Option (ℕ × �
 unfolding picture
 picture_without_viewers viewers marker x y =
     ap (λ seen. marked (is_at marker x y) (seen_cell no_viewers viewers (track_at x) (x - left_of (track_at x)) y seen))
-        (seen_nowhere (nat_lt x SYSTEM_LEFT) y)
+    (seen_nowhere (nat_lt x SYSTEM_LEFT) y)
     ∙ marked_filler (is_at marker x y)
   where
     marked_filler : (b : Bool) → marked b filler ≡ filler_cell b

@@ -1,6 +1,29 @@
 -- What a track shows in a row is what its strip does.
-use Rattle.std.proofs.Common.{◌≡◌, ℕ, ◌+◌, ◌-◌, ◌<◌, ◌≤◌, Bool, true, false, ◌==◌, List, length, map, Option, Some,
-    None, option_map, get_or, slice_get, ap, sym, ◌∙◌, arith}
+use Rattle.std.proofs.Common.{
+  ◌≡◌,
+  ℕ,
+  ◌+◌,
+  ◌-◌,
+  ◌<◌,
+  ◌≤◌,
+  Bool,
+  true,
+  false,
+  ◌==◌,
+  List,
+  length,
+  map,
+  Option,
+  Some,
+  None,
+  option_map,
+  get_or,
+  slice_get,
+  ap,
+  sym,
+  ◌∙◌,
+  arith,
+}
 use Rattle.std.specs.Prelude.{if◌then◌else◌}
 use Rattle.std.proofs.lemmas.Option.{slice_get-map, slice_get-get_or, slice_get_past}
 use Rattle.std.proofs.lemmas.List.Folds.{find_at}
@@ -12,8 +35,17 @@ use Rattle.text_frames.specs.declared.frame.Selection.{Selection}
 use Rattle.text_frames.specs.Row.{row_cells}
 use Rattle.viewer_tracks.specs.declared.display.Track.{Track}
 use Rattle.viewer_tracks.specs.Columns.{Columns, placed_bottom, placed_top}
-use Rattle.screen_cells.specs.Picture.{Viewer, bar_cell, menu_cell, text_cell, frame_cell, viewer_cell, caret_at,
-    shown_cell, width_of}
+use Rattle.screen_cells.specs.Picture.{
+  Viewer,
+  bar_cell,
+  menu_cell,
+  text_cell,
+  frame_cell,
+  viewer_cell,
+  caret_at,
+  shown_cell,
+  width_of,
+}
 
 -- a row below the menu
 pub frame_shown : (v : Viewer) (width bottom top y column row : ℕ) (line : List (ℕ × Look × ℕ))
@@ -21,15 +53,15 @@ pub frame_shown : (v : Viewer) (width bottom top y column row : ℕ) (line : Lis
     → row ≡ top - 2 - y → line ≡ row_cells (width - 1) v.main v.frame.org row
     → caret ≡ caret_at (width - 1) (top - bottom - 1) v.main v.frame.org v.frame.caret → selection ≡ v.frame.selection
     → (if column == 0 then bar_cell else text_cell line caret selection (column - 1) row)
-        ≡ viewer_cell v width bottom top column y
+    ≡ viewer_cell v width bottom top column y
 frame_shown v width bottom top y column row line caret selection under row_is line_is caret_is selection_is =
     let below : (top == y + 1) ≡ false = grind (arith, nat_tests) in
     let line_there : line ≡ row_cells (width - 1) v.main v.frame.org (top - 2 - y) =
-        line_is ∙ ap (row_cells (width - 1) v.main v.frame.org) row_is in
+    line_is ∙ ap (row_cells (width - 1) v.main v.frame.org) row_is in
     (λ i. if column == 0 then bar_cell
-        else text_cell (line_there i) (caret_is i) (selection_is i) (column - 1) (row_is i))
+    else text_cell (line_there i) (caret_is i) (selection_is i) (column - 1) (row_is i))
     ∙ sym (ap (λ b. if b then menu_cell (row_cells width v.menu 0 0) column
-        else frame_cell v (width - 1) (top - bottom - 1) column (top - 2 - y)) below)
+    else frame_cell v (width - 1) (top - bottom - 1) column (top - 2 - y)) below)
 
 -- the menu's row
 pub menu_shown : (v : Viewer) (width bottom top y column : ℕ) (line : List (ℕ × Look × ℕ)) → y + 1 ≡ top
@@ -38,7 +70,7 @@ menu_shown v width bottom top y column line at_top line_is =
     let there : (top == y + 1) ≡ true = grind (arith, nat_tests) in
     ap (λ l. menu_cell l column) line_is
     ∙ sym (ap (λ b. if b then menu_cell (row_cells width v.menu 0 0) column
-        else frame_cell v (width - 1) (top - bottom - 1) column (top - 2 - y)) there)
+    else frame_cell v (width - 1) (top - bottom - 1) column (top - 2 - y)) there)
 
 -- the first that passes, of what f makes of a list
 module _ {X Y : Type 0} (p : Y → Bool) (f : X → Y) (xs : List X) where

@@ -1,6 +1,7 @@
 -- What the cell at column x and row y shows: a character, in a look, and a mark.
 --
--- The row under the top of a viewer shows the first line of its menu over the whole width, with hyphens past its end. In
+-- The row under the top of a viewer shows the first line of its menu over the whole width, with hyphens past its end.
+-- In
 -- the rows below, the first column is the scroll bar, and the others show the lines of the main text from the frame's
 -- `org` on. Where no viewer is seen, the cell is filler.
 use Rattle.std.specs.Prelude.{ℕ, ◌+◌, ◌-◌, Bool, false, ◌&&◌, ◌==◌, nat_le, nat_lt, if◌then◌else◌, List, length, map}
@@ -78,7 +79,7 @@ abbrev pub frame_cell : Viewer → ℕ → ℕ → ℕ → ℕ → Cell
 frame_cell v w h column row =
     if column == 0 then bar_cell else
     text_cell (row_cells w v.main v.frame.org row) (caret_at w h v.main v.frame.org v.frame.caret) v.frame.selection
-        (column - 1) row
+    (column - 1) row
 
 -- the cell in this column, from the viewer's left one, and row y of a viewer of that width and these rows
 abbrev pub viewer_cell : Viewer → ℕ → ℕ → ℕ → ℕ → ℕ → Cell

@@ -20,7 +20,8 @@ const HEIGHT: usize = ROWS as usize;
 /// A row, from the left.
 pub(crate) type Row = [Cell; WIDTH];
 
-/// The screen, in place. A clause sees it as the list of its 32 rows from the bottom up, each the list of its 80 cells from the left.
+/// The screen, in place. A clause sees it as the list of its 32 rows from the bottom up, each the list of its 80 cells
+/// from the left.
 #[derive(Debug, Drop)]
 pub struct Screen {
     rows: [Row; HEIGHT],
@@ -81,7 +82,14 @@ impl Screen {
         ensures cause { CountsFault result (S.failures source.old) (S.failures source.new) }
     {
         for y in 0..ROWS {
-            paint_row(&mut self.rows[usize::from(y)], y, tracks, shown, marker, source)?;
+            paint_row(
+                &mut self.rows[usize::from(y)],
+                y,
+                tracks,
+                shown,
+                marker,
+                source,
+            )?;
         }
         Ok(())
     }
@@ -128,7 +136,8 @@ fn put_strips(row: &mut Row, y: u8, user: &Strip, system: &Strip, marker: Option
 
 /// The cell at a column that the tracks show.
 fn strips_cell(user: &Strip, system: &Strip, x: u8) -> Cell
-    ensures { result ≡ (if nat_lt x SYSTEM_LEFT then strip_cell user.now x else strip_cell system.now (x - SYSTEM_LEFT)) }
+    ensures { result ≡ (if nat_lt x SYSTEM_LEFT then strip_cell user.now x
+        else strip_cell system.now (x - SYSTEM_LEFT)) }
 {
     if x < SYSTEM_LEFT {
         user.cell(x)

@@ -220,8 +220,8 @@ fn frame_strip<S: CharSource>(
     requires from { bottom ≤ y }
     requires under_menu { y + 1 < top }
     requires showable { IsShowable (length (S.characters source.old)) shown.now }
-    ensures strip { IfOk result (λ strip. S.honest source.old → (column : ℕ)
-        → strip_cell strip column ≡ viewer_cell (as_read (S.characters source.old) shown.now) width bottom top column y) }
+    ensures strip { IfOk result (λ strip. S.honest source.old → (column : ℕ) → strip_cell strip column
+        ≡ viewer_cell (as_read (S.characters source.old) shown.now) width bottom top column y) }
     ensures reads { OnlyReads S.characters S.failures S.honest S.same_ground source.old source.new }
     ensures cause { CountsFault result (S.failures source.old) (S.failures source.new) }
 {
@@ -280,8 +280,8 @@ fn viewer_strip<S: CharSource>(
     requires from { bottom ≤ y }
     requires before { y < top }
     requires showable { IsShowable (length (S.characters source.old)) shown.now }
-    ensures strip { IfOk result (λ strip. S.honest source.old → (column : ℕ)
-        → strip_cell strip column ≡ viewer_cell (as_read (S.characters source.old) shown.now) width bottom top column y) }
+    ensures strip { IfOk result (λ strip. S.honest source.old → (column : ℕ) → strip_cell strip column
+        ≡ viewer_cell (as_read (S.characters source.old) shown.now) width bottom top column y) }
     ensures reads { OnlyReads S.characters S.failures S.honest S.same_ground source.old source.new }
     ensures cause { CountsFault result (S.failures source.old) (S.failures source.new) }
 {

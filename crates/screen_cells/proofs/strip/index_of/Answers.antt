@@ -10,5 +10,5 @@ returns c =
     let shown = c.args.shown.now in
     let p = λ (s : Shown). s.id.0 == c.args.viewer.0 in
     let found = position_from_yields_List p _ _ c.position.result c.position.ensures.ran
-        (YieldsList-from_slice shown cc) (λ x b q k. search (rules, tests)) in
+    (YieldsList-from_slice shown cc) (λ x b q k. search (rules, tests)) in
     c.unwrap_or.ensures ∙ ap (λ o. unwrap_or o (length shown)) found ∙ unwrap_or_position p shown

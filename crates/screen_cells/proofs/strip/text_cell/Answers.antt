@@ -9,10 +9,10 @@ pub returns : goal.returns
 returns c =
     let row = c.args.row.now in
     let there : c.filled-c.result ≡ slice_get row.line.items c.args.column =
-        c.filled-c.ensures ∙ ap (λ l. slice_get l c.args.column) c.as_slice.ensures.value in
+    c.filled-c.ensures ∙ ap (λ l. slice_get l c.args.column) c.as_slice.ensures.value in
     c.cell_with.ensures
     ∙ (λ i. cell_with space (there i) (c.text_mark-mark.ensures i))
     ∙ (λ i. cell_with space (slice_get row.line.items c.args.column) (mark_of false (c.is_at-has_caret.ensures i)
-        (c.is_selected-is_inside.ensures i) InText))
+    (c.is_selected-is_inside.ensures i) InText))
     ∙ (λ i. cell_with space (slice_get row.line.items c.args.column)
-        (mark_of false (is_at row.caret c.args.column row.row) (is_selected row.selection (there i)) InText))
+    (mark_of false (is_at row.caret c.args.column row.row) (is_selected row.selection (there i)) InText))

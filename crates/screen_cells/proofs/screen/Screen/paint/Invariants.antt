@@ -5,4 +5,4 @@ abbrev pub invariant-loop-y : goal.invariant-loop-y
 invariant-loop-y g l =
     let s = g.S.CharSource in
     ArePainted s.characters s.failures s.honest s.same_ground l.tracks l.shown l.marker l.fn.source l.source
-        l.self-inside.rows l.y
+    l.self-inside.rows l.y
