@@ -131,10 +131,9 @@ impl Desktop {
         ensures faults { FailsAs Stop.Fault IsStop result (S.failures source.old) (S.failures source.new) }
     {
         let _ = alloc;
-        let _ = source;
         // Where there is no viewer all is filler.
         all_filler_without_viewers();
-        screen.paint(&Tracks::new(), None);
+        screen.paint(&Tracks::new(), &[], None, source)?;
         Ok(())
     }
 

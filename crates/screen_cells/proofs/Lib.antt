@@ -4,3 +4,4 @@ pub mod Taking
 pub mod Rows
 pub mod Printing
 pub mod Painting
+pub mod Strips

@@ -1,15 +1,46 @@
 -- What is painted: a row from the left, and the rows from the bottom.
-use Rattle.std.proofs.Common.{◌≡◌, ◌≢◌, ℕ, Bool, true, ◌+◌, ◌<◌, ◌≤◌, false, Option, List, [], length, get_or, set, refl, ap, ◌∙◌, arith, below_more}
+use Rattle.std.proofs.Common.{
+  ◌≡◌,
+  ◌≢◌,
+  ℕ,
+  Bool,
+  true,
+  ◌+◌,
+  ◌<◌,
+  ◌≤◌,
+  ◌-◌,
+  false,
+  Option,
+  List,
+  [],
+  length,
+  get_or,
+  set,
+  map,
+  refl,
+  ap,
+  ◌∙◌,
+  arith,
+  below_more,
+  subst,
+  sym,
+}
 use Rattle.std.specs.Prelude.{if◌then◌else◌, nat_lt, None}
 use Rattle.std.proofs.lemmas.List.{length-set, get_or-set_same, get_or-set_other}
+use Rattle.char_file.specs.Source.{OnlyReads}
+use Rattle.char_file.proofs.Reading.{no_read, read_on}
 use Rattle.viewer_tracks.specs.declared.display.TheConstants.{ROWS, COLUMNS, SYSTEM_LEFT}
 use Rattle.viewer_tracks.specs.declared.display.Track.TheVariants.{User, System}
+use Rattle.viewer_tracks.specs.Display.{track_at, left_of}
 use Rattle.viewer_tracks.specs.Viewers.{viewer_at}
 use Rattle.viewer_tracks.specs.Columns.{Columns, no_viewers, shown}
 use Rattle.screen_cells.specs.declared.cell.Cell.{Cell}
-use Rattle.screen_cells.specs.Picture.{picture, filler_cell, part_cell, has_marker}
-use Rattle.screen_cells.specs.Screen.{screen_of, row_at, column_at, cell_at, painted_row}
-use Rattle.screen_cells.proofs.Values.{values_is}
+use Rattle.screen_cells.specs.declared.shown.Shown.{Shown}
+use Rattle.screen_cells.specs.declared.strip.Strip.{Strip}
+use Rattle.screen_cells.specs.Picture.{Viewer, picture, filler, filler_cell, track_cell, seen_cell, marked, is_at}
+use Rattle.screen_cells.specs.Shown.{as_read, strip_cell}
+use Rattle.screen_cells.specs.Screen.{screen_of, painted_row, strips_cell, values}
+use Rattle.screen_cells.proofs.Values.{values_is, values_same}
 
 -- the elements of a list before index n are what f makes of those that were there, and the others are as before
 pub record IsDoneTo {X : Type 0} (default : X) (f : ℕ → X → X) (before after : List X) (n : ℕ) : Type 0 where
@@ -25,42 +56,87 @@ module _ {X : Type 0} (default : X) (f : ℕ → X → X) (before : List X) wher
     left = λ k h. refl;
   }
 
-  pub done_more : (after : List X) (n : ℕ) (x : X) → n < length before → IsDoneTo default f before after n → x ≡ f n (get_or before n default)
+  pub done_more : (after : List X) (n : ℕ) (x : X) → n < length before → IsDoneTo default f before after n
+      → x ≡ f n (get_or before n default)
       → IsDoneTo default f before (set after n x) (n + 1)
   done_more after n x inside so_far made = record {
     as_long = length-set after n x ∙ so_far.as_long;
     done = below_more (λ k. get_or (set after n x) k default ≡ f k (get_or before k default)) n
         (λ k h. let other : k ≢ n = omega arith in get_or-set_other after n k x default other ∙ so_far.done k h)
         (let long : n < length after = omega (arith, so_far.as_long) in get_or-set_same after n x default long ∙ made);
-    left = λ k h. let other : k ≢ n = omega arith in get_or-set_other after n k x default other ∙ so_far.left k (omega arith);
+    left = λ k h. let other : k ≢ n = omega arith in get_or-set_other after n k x default other
+        ∙ so_far.left k (omega arith);
   }
 
   -- where f keeps the element at n
-  pub done_kept : (after : List X) (n : ℕ) → IsDoneTo default f before after n → get_or before n default ≡ f n (get_or before n default)
+  pub done_kept : (after : List X) (n : ℕ) → IsDoneTo default f before after n
+      → get_or before n default ≡ f n (get_or before n default)
       → IsDoneTo default f before after (n + 1)
   done_kept after n so_far kept = record {
     as_long = so_far.as_long;
-    done = below_more (λ k. get_or after k default ≡ f k (get_or before k default)) n so_far.done (so_far.left n (omega arith) ∙ kept);
+    done = below_more (λ k. get_or after k default ≡ f k (get_or before k default)) n so_far.done
+        (so_far.left n (omega arith) ∙ kept);
     left = λ k h. so_far.left k (omega arith);
   }
 
--- a row from the left
-abbrev pub IsRowPaintedTo : Columns → Option (ℕ × ℕ) → ℕ → List Cell → List Cell → ℕ → Type 0
-IsRowPaintedTo columns marker y before after n = IsDoneTo (filler_cell false) (λ x cell. picture columns marker cell x y) before after n
+-- a row of strips that show what the tracks do is what is to be painted
+pub strips_painted : (columns : Columns) (viewers : List Viewer) (marker : Option (ℕ × ℕ)) (y : ℕ) (user system : Strip)
+    → ((column : ℕ) → strip_cell user column ≡ track_cell columns viewers User column y)
+    → ((column : ℕ) → strip_cell system column ≡ track_cell columns viewers System column y)
+    → values COLUMNS (strips_cell user system marker y) ≡ painted_row columns viewers marker y
+unfolding picture
+strips_painted columns viewers marker y user system in_user in_system =
+    values_same COLUMNS _ _ (λ x within. ap (marked (is_at marker x y)) (by_track x (nat_lt x SYSTEM_LEFT)))
+  where
+    by_track : (x : ℕ) (left : Bool)
+        → (if left then strip_cell user x else strip_cell system (x - SYSTEM_LEFT))
+        ≡ track_cell columns viewers (if left then User else System) (x - left_of (if left then User else System)) y
+    by_track x true = in_user x ∙ ap (λ c. track_cell columns viewers User c y) (let e : x ≡ x - 0 = omega arith in e)
+    by_track x false = in_system (x - SYSTEM_LEFT)
 
-pub row_painted : (columns : Columns) (marker : Option (ℕ × ℕ)) (y : ℕ) (before after : List Cell) (n : ℕ) → length before ≡ COLUMNS → COLUMNS ≤ n
-    → IsRowPaintedTo columns marker y before after n → after ≡ painted_row columns marker y before
-row_painted columns marker y before after n long all painted =
-    values_is COLUMNS (λ x. picture columns marker (column_at before x) x y) after (filler_cell false) (painted.as_long ∙ long) (λ k h. painted.done k (omega arith))
+-- The rows below n are painted, from the state `start` of the source on, and nothing failed since.
+module _ {S : Type 0} (characters : S → List ℕ) (failures : S → ℕ) (honest : S → Type 0)
+    (same_ground : S → S → Type 0) (columns : Columns) (viewers : List Shown) (marker : Option (ℕ × ℕ)) where
+  abbrev pub row_wanted : S → ℕ → List Cell
+  row_wanted s y = painted_row columns (map (as_read (characters s)) viewers) marker y
 
--- the rows from the bottom
-abbrev pub AreRowsPaintedTo : Columns → Option (ℕ × ℕ) → List (List Cell) → List (List Cell) → ℕ → Type 0
-AreRowsPaintedTo columns marker before after n = IsDoneTo [] (λ y row. painted_row columns marker y row) before after n
+  pub record ArePainted (start now : S) (rows : List (List Cell)) (n : ℕ) : Type 0 where
+    pub long : length rows ≡ ROWS
+    pub reads : OnlyReads characters failures honest same_ground start now
+    pub calm : failures now ≡ failures start
+    pub done : honest start → (k : ℕ) → k < n → get_or rows k [] ≡ row_wanted start k
 
-pub screen_painted : (columns : Columns) (marker : Option (ℕ × ℕ)) (before after : List (List Cell)) (n : ℕ) → length before ≡ ROWS → ROWS ≤ n
-    → AreRowsPaintedTo columns marker before after n → after ≡ screen_of (λ x y. picture columns marker (cell_at before x y) x y)
-screen_painted columns marker before after n long all painted =
-    values_is ROWS (λ y. painted_row columns marker y (row_at before y)) after [] (painted.as_long ∙ long) (λ k h. painted.done k (omega arith))
+  pub none_painted : ((s : S) → same_ground s s) → (start : S) (rows : List (List Cell)) → length rows ≡ ROWS
+      → ArePainted start start rows 0
+  none_painted ground_self start rows long = record {
+    long = long;
+    reads = no_read characters failures honest same_ground ground_self start;
+    calm = refl;
+    done = λ h k below. absurd (omega (arith, below));
+  }
+
+  pub row_painted : ((a b c : S) → same_ground a b → same_ground b c → same_ground a c)
+      → (start mid now : S) (rows : List (List Cell)) (row : List Cell) (n : ℕ) → n < ROWS
+      → ArePainted start mid rows n → OnlyReads characters failures honest same_ground mid now
+      → failures now ≡ failures mid → (honest mid → row ≡ row_wanted mid n)
+      → ArePainted start now (set rows n row) (n + 1)
+  row_painted ground_through start mid now rows row n inside so_far reads calm made = record {
+    long = length-set rows n row ∙ so_far.long;
+    reads = read_on characters failures honest same_ground ground_through start mid now so_far.reads reads;
+    calm = calm ∙ so_far.calm;
+    done = λ h. below_more (λ k. get_or (set rows n row) k [] ≡ row_wanted start k) n
+        (λ k below. let other : k ≢ n = omega (arith, below) in
+        get_or-set_other rows n k row [] other ∙ so_far.done h k below)
+        (let long : n < length rows = omega (arith, inside, so_far.long) in
+        get_or-set_same rows n row [] long ∙ made (so_far.reads.still h)
+        ∙ (λ i. painted_row columns (map (as_read (so_far.reads.same h i)) viewers) marker n));
+  }
+
+  pub all_painted : (start now : S) (rows : List (List Cell)) (n : ℕ) → ROWS ≤ n → ArePainted start now rows n
+      → honest start → rows ≡ screen_of (picture columns (map (as_read (characters start)) viewers) marker)
+  all_painted start now rows n all painted h =
+      values_is ROWS (row_wanted start) rows [] painted.long
+      (λ k below. painted.done h k (omega (arith, all, below)))
 
 -- no viewer is seen where there is none
 seen_nowhere : (b : Bool) (y : ℕ) → viewer_at (shown no_viewers (if b then User else System)) y ≡ None
@@ -68,5 +144,14 @@ unfolding viewer_at
 seen_nowhere true y = refl
 seen_nowhere false y = refl
 
-pub picture_without_viewers : (marker : Option (ℕ × ℕ)) (before : Cell) (x y : ℕ) → picture no_viewers marker before x y ≡ filler_cell (has_marker marker x y)
-picture_without_viewers marker before x y = ap (λ part. part_cell part (has_marker marker x y) before) (seen_nowhere (nat_lt x SYSTEM_LEFT) y)
+pub picture_without_viewers : (viewers : List Viewer) (marker : Option (ℕ × ℕ)) (x y : ℕ)
+    → picture no_viewers viewers marker x y ≡ filler_cell (is_at marker x y)
+unfolding picture
+picture_without_viewers viewers marker x y =
+    ap (λ seen. marked (is_at marker x y) (seen_cell no_viewers viewers (track_at x) (x - left_of (track_at x)) y seen))
+    (seen_nowhere (nat_lt x SYSTEM_LEFT) y)
+    ∙ marked_filler (is_at marker x y)
+  where
+    marked_filler : (b : Bool) → marked b filler ≡ filler_cell b
+    marked_filler true = refl
+    marked_filler false = refl

@@ -1,5 +1,23 @@
 -- A writer that takes a text in several writes.
-use Rattle.std.proofs.Common.{◌≡◌, ℕ, List, [], ◌++◌, Option, take, refl, sym, ap, ◌∙◌, subst, append_assoc, append-nil, take-append-drop, length, arith}
+use Rattle.std.proofs.Common.{
+  ◌≡◌,
+  ℕ,
+  List,
+  [],
+  ◌++◌,
+  Option,
+  take,
+  refl,
+  sym,
+  ap,
+  ◌∙◌,
+  subst,
+  append_assoc,
+  append-nil,
+  take-append-drop,
+  length,
+  arith,
+}
 use Rattle.std.specs.Prelude.{Result, Ok, Err, OnOk, OnErr}
 use Rattle.std.specs.List.{between}
 use Rattle.std.proofs.lemmas.Slice.{between_to_end}
@@ -17,7 +35,8 @@ pub taken_none : (old : Option (List ℕ)) (text : List ℕ) → HasTaken old ol
 taken_none old text = record { front = []; parts = refl; taken = Appends-nil old }
 
 -- a part more
-pub taken_part : (old mid new : Option (List ℕ)) (text part rest : List ℕ) → HasTaken old mid text (part ++ rest) → Appends mid new part → HasTaken old new text rest
+pub taken_part : (old mid new : Option (List ℕ)) (text part rest : List ℕ) → HasTaken old mid text (part ++ rest)
+    → Appends mid new part → HasTaken old new text rest
 taken_part old mid new text part rest before now = record {
   front = before.front ++ part;
   parts = before.parts ∙ sym (append_assoc before.front part rest);
@@ -25,18 +44,23 @@ taken_part old mid new text part rest before now = record {
 }
 
 -- the first n bytes of the rest more
-pub taken_more : (old mid new : Option (List ℕ)) (text rest : List ℕ) (n : ℕ) → HasTaken old mid text rest → Appends mid new (take n rest)
+pub taken_more : (old mid new : Option (List ℕ)) (text rest : List ℕ) (n : ℕ) → HasTaken old mid text rest
+    → Appends mid new (take n rest)
     → HasTaken old new text (between n (length rest) rest)
 taken_more old mid new text rest n before now =
     let split : rest ≡ take n rest ++ between n (length rest) rest =
     sym (ap (λ l. take n rest ++ l) (between_to_end rest n (length rest) (omega arith)) ∙ take-append-drop n rest) in
-    taken_part old mid new text (take n rest) (between n (length rest) rest) (subst (HasTaken old mid text) split before) now
+    taken_part old mid new text (take n rest) (between n (length rest) rest)
+    (subst (HasTaken old mid text) split before) now
 
-pub taken_all : (old mid new : Option (List ℕ)) (text rest : List ℕ) → HasTaken old mid text rest → rest ≡ [] → Keeps mid new → Appends old new text
+pub taken_all : (old mid new : Option (List ℕ)) (text rest : List ℕ) → HasTaken old mid text rest → rest ≡ []
+    → Keeps mid new → Appends old new text
 taken_all old mid new text rest before none kept =
-    Appends-kept old mid new text (subst (Appends old mid) (sym (before.parts ∙ ap (λ l. before.front ++ l) none ∙ append-nil before.front)) before.taken) kept
+    Appends-kept old mid new text (subst (Appends old mid) (sym (before.parts ∙ ap (λ l. before.front ++ l) none
+    ∙ append-nil before.front)) before.taken) kept
 
-pub front_taken : (old mid new : Option (List ℕ)) (text rest : List ℕ) → HasTaken old mid text rest → Keeps mid new → AppendsFront old new text
+pub front_taken : (old mid new : Option (List ℕ)) (text rest : List ℕ) → HasTaken old mid text rest → Keeps mid new
+    → AppendsFront old new text
 front_taken old mid new text rest before kept = record {
   front = before.front;
   back = rest;
@@ -44,12 +68,14 @@ front_taken old mid new text rest before kept = record {
   taken = Appends-kept old mid new before.front before.taken kept;
 }
 
--- a front of the next part
-pub front_part : (old mid new : Option (List ℕ)) (text part rest : List ℕ) → HasTaken old mid text (part ++ rest) → AppendsFront mid new part → AppendsFront old new text
+-- a prefix of the next part
+pub front_part : (old mid new : Option (List ℕ)) (text part rest : List ℕ) → HasTaken old mid text (part ++ rest)
+    → AppendsFront mid new part → AppendsFront old new text
 front_part old mid new text part rest before now = record {
   front = before.front ++ now.front;
   back = now.back ++ rest;
-  parts = before.parts ∙ ap (λ l. before.front ++ l) (ap (λ l. l ++ rest) now.parts ∙ append_assoc now.front now.back rest)
+  parts = before.parts ∙ ap (λ l. before.front ++ l) (ap (λ l. l ++ rest) now.parts
+      ∙ append_assoc now.front now.back rest)
       ∙ sym (append_assoc before.front now.front (now.back ++ rest));
   taken = Appends-trans old mid new before.front now.front before.taken now.taken;
 }

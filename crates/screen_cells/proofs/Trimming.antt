@@ -1,5 +1,27 @@
--- The least front behind which all is blank.
-use Rattle.std.proofs.Common.{◌≡◌, ◌≢◌, ℕ, ◌+◌, ◌-◌, ◌<◌, ◌≤◌, Bool, true, false, eqb, List, ◌∷◌, ◌&&◌, length, take, drop, get_or, ap, ◌∙◌, arith}
+-- The least prefix after which all is blank.
+use Rattle.std.proofs.Common.{
+  ◌≡◌,
+  ◌≢◌,
+  ℕ,
+  ◌+◌,
+  ◌-◌,
+  ◌<◌,
+  ◌≤◌,
+  Bool,
+  true,
+  false,
+  eqb,
+  List,
+  ◌∷◌,
+  ◌&&◌,
+  length,
+  take,
+  drop,
+  get_or,
+  ap,
+  ◌∙◌,
+  arith,
+}
 use Rattle.std.specs.List.{list_all, range_with_len}
 use Rattle.std.proofs.lemmas.List.{get_or-drop, drop_more, drop_all, length-drop}
 use Rattle.std.proofs.lemmas.List.Folds.{list_all_at}
@@ -19,7 +41,8 @@ blank_none blank bytes = record {
   blanks = rw (drop_all (length bytes) bytes (omega arith));
 }
 
-pub blank_more : (blank : ℕ) (bytes : List ℕ) (n : ℕ) → 0 < n → IsBlankFrom blank bytes n → get_or bytes (n - 1) 0 ≡ blank → IsBlankFrom blank bytes (n - 1)
+pub blank_more : (blank : ℕ) (bytes : List ℕ) (n : ℕ) → 0 < n → IsBlankFrom blank bytes n
+    → get_or bytes (n - 1) 0 ≡ blank → IsBlankFrom blank bytes (n - 1)
 blank_more blank bytes n some before here =
     let lt : n - 1 < length bytes = let w = before.within in omega arith in
     let next : n - 1 + 1 ≡ n = omega arith in
@@ -28,13 +51,16 @@ blank_more blank bytes n some before here =
     let first : eqb (get_or bytes (n - 1) 0) blank ≡ true = grind (arith, nat_tests) in
     record {
       within = omega arith;
-      blanks = ap (list_all (λ b. eqb b blank)) more ∙ ap (λ b. b && list_all (λ c. eqb c blank) (drop n bytes)) first ∙ before.blanks;
+      blanks = ap (list_all (λ b. eqb b blank)) more ∙ ap (λ b. b && list_all (λ c. eqb c blank) (drop n bytes)) first
+          ∙ before.blanks;
     }
 
-pub without_trailing_is : (blank : ℕ) (bytes : List ℕ) (n : ℕ) → IsBlankFrom blank bytes n → (0 < n → get_or bytes (n - 1) 0 ≢ blank) → without_trailing blank bytes ≡ take n bytes
+pub without_trailing_is : (blank : ℕ) (bytes : List ℕ) (n : ℕ) → IsBlankFrom blank bytes n
+    → (0 < n → get_or bytes (n - 1) 0 ≢ blank) → without_trailing blank bytes ≡ take n bytes
 unfolding without_trailing least
 without_trailing_is blank bytes n blank_from last =
-    ap (λ m. take m bytes) (position_or_len_is passes (range_with_len 0 (length bytes)) n 0 (omega (arith, blank_from.within, long)) fails now)
+    ap (λ m. take m bytes) (position_or_len_is passes (range_with_len 0 (length bytes)) n 0
+    (omega (arith, blank_from.within, long)) fails now)
   where
     passes : ℕ → Bool
     passes m = list_all (λ b. eqb b blank) (drop m bytes)
@@ -50,7 +76,8 @@ without_trailing_is blank bytes n blank_from last =
         let lt : k < length bytes = omega (arith, blank_from.within) in
         let short : n - 1 - k < length (drop k bytes) = omega (arith, length-drop k bytes, blank_from.within) in
         let sum : k + (n - 1 - k) ≡ n - 1 = omega arith in
-        let there : get_or (drop k bytes) (n - 1 - k) 0 ≡ get_or bytes (n - 1) 0 = get_or-drop k bytes (n - 1 - k) 0 ∙ ap (λ i. get_or bytes i 0) sum in
+        let there : get_or (drop k bytes) (n - 1 - k) 0 ≡ get_or bytes (n - 1) 0 = get_or-drop k bytes (n - 1 - k) 0
+        ∙ ap (λ i. get_or bytes i 0) sum in
         let other : get_or bytes (n - 1) 0 ≢ blank = last (omega arith) in
         let no : eqb (get_or (drop k bytes) (n - 1 - k) 0) blank ≡ false = grind (arith, nat_tests) in
         ap passes (number k lt) ∙ list_all_at (λ b. eqb b blank) (drop k bytes) (n - 1 - k) 0 short no

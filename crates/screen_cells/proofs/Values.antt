@@ -1,15 +1,16 @@
 -- Lists of the values of a function.
 use Rattle.std.proofs.Common.{◌≡◌, ℕ, ◌<◌, List, length, get_or, [], ap, ◌∙◌, arith}
-use Rattle.std.specs.Prelude.{replicate, false}
+use Rattle.std.specs.Prelude.{replicate}
 use Rattle.std.proofs.lemmas.List.{length-replicate, get_or-replicate}
 use Rattle.std.proofs.lemmas.List.FromFn.{fill_by_all, get_or-map-range_with_len, length-map-range_with_len}
 use Rattle.viewer_tracks.specs.declared.display.TheConstants.{ROWS, COLUMNS}
 use Rattle.screen_cells.specs.declared.cell.Cell.{Cell}
-use Rattle.screen_cells.specs.Picture.{filler_cell}
+use Rattle.screen_cells.specs.Picture.{filler}
 use Rattle.screen_cells.specs.Screen.{values, screen_of, cell_at, column_at}
 
 module _ {X : Type 0} where
-  pub values_is : (n : ℕ) (f : ℕ → X) (xs : List X) (d : X) → length xs ≡ n → ((k : ℕ) → k < n → get_or xs k d ≡ f k) → xs ≡ values n f
+  pub values_is : (n : ℕ) (f : ℕ → X) (xs : List X) (d : X) → length xs ≡ n → ((k : ℕ) → k < n → get_or xs k d ≡ f k)
+      → xs ≡ values n f
   unfolding values
   values_is n f xs d long each = fill_by_all f xs n d long each
 
@@ -22,15 +23,19 @@ module _ {X : Type 0} where
   length-values n f = length-map-range_with_len f 0 n
 
   pub values_same : (n : ℕ) (f g : ℕ → X) → ((k : ℕ) → k < n → f k ≡ g k) → values n f ≡ values n g
-  values_same n f g same = values_is n g (values n f) (f 0) (length-values n f) (λ k h. value_at n f k (f 0) h ∙ same k h)
+  values_same n f g same = values_is n g (values n f) (f 0) (length-values n f) (λ k h. value_at n f k (f 0) h
+      ∙ same k h)
 
   pub replicate_is : (n : ℕ) (x : X) → replicate n x ≡ values n (λ k. x)
   replicate_is n x = values_is n (λ k. x) (replicate n x) x (length-replicate n x) (λ k h. get_or-replicate n k x x h)
 
 pub cell_of : (f : ℕ → ℕ → Cell) (x y : ℕ) → x < COLUMNS → y < ROWS → cell_at (screen_of f) x y ≡ f x y
 cell_of f x y inside_row inside =
-    ap (λ row. column_at row x) (value_at ROWS (λ n. values COLUMNS (λ m. f m n)) y [] inside) ∙ value_at COLUMNS (λ m. f m y) x (filler_cell false) inside_row
+    ap (λ row. column_at row x) (value_at ROWS (λ n. values COLUMNS (λ m. f m n)) y [] inside)
+    ∙ value_at COLUMNS (λ m. f m y) x filler inside_row
 
-pub all_same : (cell filler : Cell) → cell ≡ filler → replicate ROWS (replicate COLUMNS cell) ≡ screen_of (λ x y. filler)
-all_same cell filler same = ap (λ row. replicate ROWS row) (replicate_is COLUMNS cell) ∙ replicate_is ROWS (values COLUMNS (λ x. cell))
+pub all_same : (cell wanted : Cell) → cell ≡ wanted → replicate ROWS (replicate COLUMNS cell) ≡ screen_of
+    (λ x y. wanted)
+all_same cell wanted same = ap (λ row. replicate ROWS row) (replicate_is COLUMNS cell)
+    ∙ replicate_is ROWS (values COLUMNS (λ x. cell))
     ∙ ap (λ c. screen_of (λ x y. c)) same

@@ -4,7 +4,8 @@ use Rattle.screen_cells.specs.Bytes.{period}
 use Rattle.screen_cells.specs.declared.cell.Mark.{Mark}
 use Rattle.screen_cells.specs.declared.cell.Mark.TheVariants.{Marker, Caret, Selected, Menu, Bar, Text, Filler}
 
--- the first that holds: the marker stands at the cell, a caret does, its character is selected, or else the part of the display
+-- the first that holds: the marker stands at the cell, a caret does, its character is selected, or else the part of
+-- the display
 abbrev pub mark_of : Bool → Bool → Bool → Mark → Mark
 mark_of has_marker has_caret is_selected part =
     if has_marker then Marker else (if has_caret then Caret else (if is_selected then Selected else part))

@@ -1,6 +1,24 @@
--- A printed screen. The lines of its rows come from the top down: first all with their characters, then, behind a line `marks`, those of the
+-- A printed screen. The lines of its rows come from the top down: first all with their characters, then, after a line
+-- `marks`, those of the
 -- rows in which the marker, a caret or a selected character is, with a letter for each cell, and at last a line `end`.
-use Rattle.std.specs.Prelude.{ℕ, ◌/◌, ◌%◌, Bool, ◌==◌, List, [], ◌∷◌, ◌++◌, length, take, drop, map, filter, reverse, codes}
+use Rattle.std.specs.Prelude.{
+  ℕ,
+  ◌/◌,
+  ◌%◌,
+  Bool,
+  ◌==◌,
+  List,
+  [],
+  ◌∷◌,
+  ◌++◌,
+  length,
+  take,
+  drop,
+  map,
+  filter,
+  reverse,
+  codes,
+}
 use Rattle.std.specs.List.{flat_map, list_all, list_any, position_or_len, range_with_len}
 use Rattle.viewer_tracks.specs.declared.display.TheConstants.{ROWS}
 use Rattle.screen_cells.specs.declared.cell.Cell.{Cell}
@@ -12,7 +30,7 @@ use Rattle.screen_cells.specs.Screen.{row_at}
 unfoldable pub least : ℕ → (ℕ → Bool) → ℕ
 least n passes = position_or_len passes (range_with_len 0 n)
 
--- the least front of the bytes behind which all are `blank`
+-- the least prefix of the bytes after which all are `blank`
 unfoldable pub without_trailing : ℕ → List ℕ → List ℕ
 without_trailing blank bytes = take (least (length bytes) (λ n. list_all (λ b. b == blank) (drop n bytes))) bytes
 
@@ -41,7 +59,8 @@ abbrev pub character_lines : List (List Cell) → List ℕ
 character_lines screen = flat_map (λ y. character_line y (row_at screen y)) (down_from ROWS)
 
 abbrev pub mark_lines : List (List Cell) → List ℕ
-mark_lines screen = flat_map (λ y. mark_line y (row_at screen y)) (filter (λ y. has_mark_line (row_at screen y)) (down_from ROWS))
+mark_lines screen = flat_map (λ y. mark_line y (row_at screen y)) (filter (λ y. has_mark_line (row_at screen y))
+    (down_from ROWS))
 
 unfoldable pub printed : List (List Cell) → List ℕ
 printed screen = character_lines screen ++ (ended (codes "marks") ++ (mark_lines screen ++ ended (codes "end")))

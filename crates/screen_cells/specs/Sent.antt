@@ -2,7 +2,7 @@
 use Rattle.std.specs.Prelude.{◌≡◌, ℕ, List, ◌++◌, Option}
 use Rattle.std.specs.Io.KnownBytes.{Appends}
 
--- known bytes grow by a front of the text, by none or all of it perhaps
+-- known bytes grow by a prefix of the text, by none or all of it perhaps
 pub record AppendsFront (old new : Option (List ℕ)) (text : List ℕ) : Type 0 where
   pub front : List ℕ
   pub back : List ℕ

@@ -1,8 +1,8 @@
 //! What holds of all screens, for crates above.
-ghost use Rattle.std.specs.Prelude.{◌≡◌, ◌<◌, ℕ, Option};
+ghost use Rattle.std.specs.Prelude.{◌≡◌, ◌<◌, ℕ, Option, List};
 ghost use Rattle.viewer_tracks.specs.Columns.{no_viewers};
 ghost use Rattle.screen_cells.specs.declared.cell.Cell.{Cell as ACell};
-ghost use Rattle.screen_cells.specs.Picture.{filler_cell, has_marker, picture};
+ghost use Rattle.screen_cells.specs.Picture.{Viewer, filler_cell, is_at, picture};
 ghost use Rattle.screen_cells.specs.Screen.{screen_of, cell_at};
 
 use viewer_tracks::{COLUMNS, ROWS};
@@ -12,7 +12,8 @@ pub fn cells_of_a_screen()
     ensures { (f : ℕ → ℕ → ACell) (x y : ℕ) → x < COLUMNS → y < ROWS → cell_at (screen_of f) x y ≡ f x y }
 {}
 
-/// Where there is no viewer, all is filler, whatever was painted before.
+/// Where there is no viewer, all is filler.
 pub fn all_filler_without_viewers()
-    ensures { (marker : Option (ℕ × ℕ)) (before : ACell) (x y : ℕ) → picture no_viewers marker before x y ≡ filler_cell (has_marker marker x y) }
+    ensures { (viewers : List Viewer) (marker : Option (ℕ × ℕ)) (x y : ℕ)
+        → picture no_viewers viewers marker x y ≡ filler_cell (is_at marker x y) }
 {}

@@ -37,6 +37,7 @@ pub(crate) fn has_mark_line(row: &[Cell]) -> bool
     row.iter().any(|cell| cell.mark.has_letter())
 }
 
+/// The bytes of a row's characters.
 fn characters(row: &[Cell]) -> RowBytes
     requires { length row.now ≤ 80 }
     ensures { result.items ≡ map (λ c. c.ch) row.now }
@@ -48,6 +49,7 @@ fn characters(row: &[Cell]) -> RowBytes
     bytes
 }
 
+/// The letters of a row's marks.
 fn letters(row: &[Cell]) -> RowBytes
     requires { length row.now ≤ 80 }
     ensures { result.items ≡ map (λ c. letter c.mark) row.now }
@@ -59,6 +61,7 @@ fn letters(row: &[Cell]) -> RowBytes
     bytes
 }
 
+/// A line with a row's number and its bytes, without blanks at their end.
 fn row_line(y: u8, bytes: &[u8], blank: u8) -> Line
     requires two_digits { y < 100 }
     requires fits { length bytes.now ≤ 80 }

@@ -12,10 +12,11 @@ use std::io::Write;
 use viewer_tracks::ROWS;
 
 impl Screen {
-    /// Writes the characters of the screen, a line for each row from the top, then its marks and `end`, and flushes the writer.
+    /// Writes the characters of the screen, a line for each row from the top, then its marks and `end`, and flushes the
+    /// writer.
     ///
-    /// It answers `Fault` where a write or the flush fails, and where a write takes no byte; the writer may then have taken a front of the
-    /// text. It takes no memory.
+    /// It returns `Fault` where a write or the flush fails, and where a write takes no byte; the writer may then have
+    /// taken a prefix of the text. It takes no memory.
     pub fn print<W: Write>(&self, writer: &mut W) -> Result<(), Fault>
         ensures printed { OnOk result (Appends (W.contents writer.old) (W.contents writer.new) (printed self.now)) }
         ensures front { OnErr result (AppendsFront (W.contents writer.old) (W.contents writer.new) (printed self.now)) }
@@ -27,9 +28,12 @@ impl Screen {
         flush(writer)
     }
 
+    /// Writes the line of each row's characters, from the top.
     fn print_characters<W: Write>(&self, writer: &mut W) -> Result<(), Fault>
-        ensures printed { OnOk result (Appends (W.contents writer.old) (W.contents writer.new) (character_lines self.now)) }
-        ensures front { OnErr result (AppendsFront (W.contents writer.old) (W.contents writer.new) (character_lines self.now)) }
+        ensures printed { OnOk result
+            (Appends (W.contents writer.old) (W.contents writer.new) (character_lines self.now)) }
+        ensures front { OnErr result
+            (AppendsFront (W.contents writer.old) (W.contents writer.new) (character_lines self.now)) }
     {
         for y in (0..ROWS).rev() {
             let row = &self.rows()[usize::from(y)];
@@ -38,9 +42,12 @@ impl Screen {
         Ok(())
     }
 
+    /// Writes the line of each row that has a mark line, from the top.
     fn print_marks<W: Write>(&self, writer: &mut W) -> Result<(), Fault>
-        ensures printed { OnOk result (Appends (W.contents writer.old) (W.contents writer.new) (mark_lines self.now)) }
-        ensures front { OnErr result (AppendsFront (W.contents writer.old) (W.contents writer.new) (mark_lines self.now)) }
+        ensures printed { OnOk result
+            (Appends (W.contents writer.old) (W.contents writer.new) (mark_lines self.now)) }
+        ensures front { OnErr result
+            (AppendsFront (W.contents writer.old) (W.contents writer.new) (mark_lines self.now)) }
     {
         for y in (0..ROWS).rev() {
             let row = &self.rows()[usize::from(y)];

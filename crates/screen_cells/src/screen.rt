@@ -1,11 +1,17 @@
 //! The screen, and what is painted on it.
-ghost use Rattle.std.specs.Prelude.{◌≡◌, ◌<◌, false};
-ghost use Rattle.screen_cells.specs.Picture.{filler_cell, picture};
-ghost use Rattle.screen_cells.specs.Screen.{screen_of, cell_at, column_at, painted_row};
+ghost use Rattle.std.specs.Prelude.{◌≡◌, ◌<◌, ◌-◌, if◌then◌else◌, nat_lt, length, map, All, OnOk};
+ghost use Rattle.sector_disk.specs.Trail.{CountsFault};
+ghost use Rattle.char_file.specs.Source.{OnlyReads};
+ghost use Rattle.screen_cells.specs.Picture.{filler, marked, picture};
+ghost use Rattle.screen_cells.specs.Shown.{IsShowable, as_read, strip_cell};
+ghost use Rattle.screen_cells.specs.Screen.{screen_of, cell_at, column_at, painted_row, strips_cell, values};
 
-use crate::cell::Cell;
+use crate::cell::{Cell, Mark};
+use crate::shown::Shown;
+use crate::strip::{Strip, track_strip};
 use std::marker::Model;
-use viewer_tracks::{COLUMNS, ROWS, Tracks};
+use text_frames::{CharSource, Fault};
+use viewer_tracks::{COLUMNS, ROWS, SYSTEM_LEFT, Track, Tracks};
 
 const WIDTH: usize = COLUMNS as usize;
 
@@ -14,7 +20,8 @@ const HEIGHT: usize = ROWS as usize;
 /// A row, from the left.
 pub(crate) type Row = [Cell; WIDTH];
 
-/// The screen, in place. A clause sees it as the list of its 32 rows from the bottom up, each the list of its 80 cells from the left.
+/// The screen, in place. A clause sees it as the list of its 32 rows from the bottom up, each the list of its 80 cells
+/// from the left.
 #[derive(Debug, Drop)]
 pub struct Screen {
     rows: [Row; HEIGHT],
@@ -35,7 +42,7 @@ impl Model for Screen {
 impl Screen {
     /// A screen of which all is filler, without a marker.
     pub fn new() -> Self
-        ensures { result ≡ screen_of (λ x y. filler_cell false) }
+        ensures { result ≡ screen_of (λ x y. filler) }
     {
         Screen {
             rows: [[Cell::filler(false); WIDTH]; HEIGHT],
@@ -58,16 +65,37 @@ impl Screen {
         &self.rows
     }
 
-    /// Paints the fillers of the tracks, with the marker where it stands in one. The cells of viewers stay as they were.
-    pub fn paint(&mut self, tracks: &Tracks, marker: Option<(u8, u8)>)
-        ensures { self.new ≡ screen_of (λ x y. picture tracks.now marker (cell_at self.old x y) x y) }
+    /// Paints the viewers that the tracks show, and the marker where it stands in the display. `shown` has what each of
+    /// them shows: of several with one number the first counts, those in no track are ignored, and a viewer that isn't
+    /// among them is painted as a filler. `Fault`: the source failed in this call, and the screen may show anything.
+    pub fn paint<S: CharSource>(
+        &mut self,
+        tracks: &Tracks,
+        shown: &[Shown<'_>],
+        marker: Option<(u8, u8)>,
+        source: &mut S,
+    ) -> Result<(), Fault>
+        requires { All (IsShowable (length (S.characters source.old))) shown.now }
+        ensures painted { OnOk result (S.honest source.old
+            → self.new ≡ screen_of (picture tracks.now (map (as_read (S.characters source.old)) shown.now) marker)) }
+        ensures reads { OnlyReads S.characters S.failures S.honest S.same_ground source.old source.new }
+        ensures cause { CountsFault result (S.failures source.old) (S.failures source.new) }
     {
         for y in 0..ROWS {
-            paint_row(&mut self.rows[usize::from(y)], y, tracks, marker);
+            paint_row(
+                &mut self.rows[usize::from(y)],
+                y,
+                tracks,
+                shown,
+                marker,
+                source,
+            )?;
         }
+        Ok(())
     }
 }
 
+/// The cell of a row at a column.
 fn cell_of(row: &Row, x: u8) -> Cell
     requires { x < COLUMNS }
     ensures { result ≡ column_at row.now x }
@@ -75,13 +103,58 @@ fn cell_of(row: &Row, x: u8) -> Cell
     row[usize::from(x)]
 }
 
-fn paint_row(row: &mut Row, y: u8, tracks: &Tracks, marker: Option<(u8, u8)>)
-    requires { y < ROWS }
-    ensures { row.new ≡ painted_row tracks.now marker y row.old }
+/// Paints a row of the display.
+fn paint_row<S: CharSource>(
+    row: &mut Row,
+    y: u8,
+    tracks: &Tracks,
+    shown: &[Shown<'_>],
+    marker: Option<(u8, u8)>,
+    source: &mut S,
+) -> Result<(), Fault>
+    requires row { y < ROWS }
+    requires showable { All (IsShowable (length (S.characters source.old))) shown.now }
+    ensures painted { OnOk result (S.honest source.old
+        → row.new ≡ painted_row tracks.now (map (as_read (S.characters source.old)) shown.now) marker y) }
+    ensures reads { OnlyReads S.characters S.failures S.honest S.same_ground source.old source.new }
+    ensures cause { CountsFault result (S.failures source.old) (S.failures source.new) }
+{
+    let user = track_strip(tracks, shown, Track::User, y, source)?;
+    let system = track_strip(tracks, shown, Track::System, y, source)?;
+    put_strips(row, y, &user, &system, marker);
+    Ok(())
+}
+
+/// Puts what both tracks show in a row into its cells, with the marker where it stands there.
+fn put_strips(row: &mut Row, y: u8, user: &Strip, system: &Strip, marker: Option<(u8, u8)>)
+    ensures { row.new ≡ values COLUMNS (strips_cell user.now system.now marker y) }
 {
     for x in 0..COLUMNS {
-        if tracks.at(x, y).is_none() {
-            row[usize::from(x)] = Cell::filler(marker == Some((x, y)));
-        }
+        row[usize::from(x)] = marked(strips_cell(user, system, x), marker == Some((x, y)));
     }
+}
+
+/// The cell at a column that the tracks show.
+fn strips_cell(user: &Strip, system: &Strip, x: u8) -> Cell
+    ensures { result ≡ (if nat_lt x SYSTEM_LEFT then strip_cell user.now x
+        else strip_cell system.now (x - SYSTEM_LEFT)) }
+{
+    if x < SYSTEM_LEFT {
+        user.cell(x)
+    } else {
+        system.cell(x - SYSTEM_LEFT)
+    }
+}
+
+/// A cell with the marker on it, or as it is.
+fn marked(cell: Cell, has_marker: bool) -> Cell
+    ensures { result ≡ marked has_marker cell }
+{
+    if has_marker {
+        return Cell {
+            mark: Mark::Marker,
+            ..cell
+        };
+    }
+    cell
 }

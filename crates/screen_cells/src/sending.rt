@@ -19,7 +19,7 @@ pub(crate) fn send<W: Write>(writer: &mut W, bytes: &[u8]) -> Result<(), Fault>
     Ok(())
 }
 
-/// One write, which takes at least one of the bytes. The answer is how many it took.
+/// One write, which takes at least one of the bytes. It returns how many it took.
 fn take_some<W: Write>(writer: &mut W, bytes: &[u8]) -> Result<usize, Fault>
     ensures some { IfOk result (λ n. 0 < n) }
     ensures within { IfOk result (λ n. n ≤ length bytes.now) }

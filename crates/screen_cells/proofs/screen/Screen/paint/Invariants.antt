@@ -1,5 +1,8 @@
-use Rattle.screen_cells.proofs.Painting.{AreRowsPaintedTo}
+use Rattle.screen_cells.proofs.Painting.{ArePainted}
 use Rattle.screen_cells.proofs.screen.Screen.paint.Given as goal
 
 abbrev pub invariant-loop-y : goal.invariant-loop-y
-invariant-loop-y l = AreRowsPaintedTo l.tracks l.marker l.initial.self-inside.rows l.self-inside.rows l.y
+invariant-loop-y g l =
+    let s = g.S.CharSource in
+    ArePainted s.characters s.failures s.honest s.same_ground l.tracks l.shown l.marker l.fn.source l.source
+    l.self-inside.rows l.y

@@ -8,15 +8,20 @@ use Rattle.screen_cells.proofs.Rows.{line_taken, line_front, no_rows}
 use Rattle.screen_cells.proofs.screen.Screen.print_characters.Goals as goal
 
 pub loop-y-preserved : goal.loop-y-preserved
-loop-y-preserved g c = line_taken (λ (y : ℕ). character_line y (row_at c.args.self.now y)) _ _ _ _ _ c.loop-y.y c.loop-y-test.true
-    (c.as_slice.ensures.value ∙ c.character_line.ensures ∙ (λ k. character_line (c.loop-y.y - 1) (row_at (c.rows.ensures k) (c.from.ensures k))))
+loop-y-preserved g c = line_taken
+    (λ (y : ℕ). character_line y (row_at c.args.self.now y)) _ _ _ _ _ c.loop-y.y c.loop-y-test.true
+    (c.as_slice.ensures.value ∙ c.character_line.ensures
+    ∙ (λ k. character_line (c.loop-y.y - 1) (row_at (c.rows.ensures k) (c.from.ensures k))))
     c.loop-y.invariant c.in_ok-send.ensures.sent
 
 pub returns-in_err-send-clause-front : goal.returns-in_err-send-clause-front
-returns-in_err-send-clause-front g c = on_err c.from_residual.result (line_front (λ (y : ℕ). character_line y (row_at c.args.self.now y)) _ _ _ _ _ c.loop-y.y c.loop-y-test.true
-    (c.as_slice.ensures.value ∙ c.character_line.ensures ∙ (λ k. character_line (c.loop-y.y - 1) (row_at (c.rows.ensures k) (c.from.ensures k))))
+returns-in_err-send-clause-front g c = on_err c.from_residual.result
+    (line_front (λ (y : ℕ). character_line y (row_at c.args.self.now y)) _ _ _ _ _ c.loop-y.y c.loop-y-test.true
+    (c.as_slice.ensures.value ∙ c.character_line.ensures
+    ∙ (λ k. character_line (c.loop-y.y - 1) (row_at (c.rows.ensures k) (c.from.ensures k))))
     c.loop-y.invariant c.in_err-send.ensures.front)
 
 pub returns-clause-printed : goal.returns-clause-printed
 returns-clause-printed g c = taken_all _ _ _ _ _ c.loop-y.invariant
-    (ap (flat_map (λ (y : ℕ). character_line y (row_at c.args.self.now y))) (no_rows c.loop-y.y c.loop-y-test.false)) (Keeps-refl (g.W.Write.contents c.loop-y.writer))
+    (ap (flat_map (λ (y : ℕ). character_line y (row_at c.args.self.now y))) (no_rows c.loop-y.y c.loop-y-test.false))
+    (Keeps-refl (g.W.Write.contents c.loop-y.writer))

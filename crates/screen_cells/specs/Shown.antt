@@ -1,0 +1,32 @@
+-- Viewers as they are handed in, and what a track shows in a row.
+use Rattle.std.specs.Prelude.{◌≤◌, ◌-◌, ◌==◌, ℕ, if◌then◌else◌, List, length}
+use Rattle.piece_ring.specs.Flat.{flat}
+use Rattle.piece_ring.specs.Offsets.{AreWithin}
+use Rattle.readers_scanners.specs.Reading.{contents}
+use Rattle.screen_cells.specs.declared.shown.Shown.{Shown}
+use Rattle.screen_cells.specs.declared.strip.Strip.{Strip}
+use Rattle.screen_cells.specs.declared.strip.Strip.TheVariants.{Filler, Menu, Frame}
+use Rattle.screen_cells.specs.declared.cell.Cell.{Cell}
+use Rattle.screen_cells.specs.Picture.{Viewer, filler, bar_cell, menu_cell, text_cell}
+
+-- a viewer as it reads, over these characters
+abbrev pub as_read : List ℕ → Shown → Viewer
+as_read characters s = record {
+  id = s.id.0;
+  menu = contents characters (flat s.menu.now);
+  main = contents characters (flat s.main.now);
+  frame = s.frame.now;
+}
+
+-- a viewer that can be read where there are so many characters: its frame begins within its text
+pub record IsShowable (written : ℕ) (s : Shown) : Type 0 where
+  pub org : s.frame.now.org ≤ length (flat s.main.now)
+  pub menu : AreWithin written (flat s.menu.now)
+  pub main : AreWithin written (flat s.main.now)
+
+-- the cell in a column of a row of a track
+abbrev pub strip_cell : Strip → ℕ → Cell
+strip_cell Filler column = filler
+strip_cell (Menu line) column = menu_cell line.items column
+strip_cell (Frame f) column =
+    if column == 0 then bar_cell else text_cell f.line.items f.caret f.selection (column - 1) f.row

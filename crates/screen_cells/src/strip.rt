@@ -1,0 +1,388 @@
+//! What a track shows in a row.
+ghost use Rattle.std.specs.Prelude.{◌≡◌, ◌+◌, ◌<◌, ◌≤◌, ◌-◌, ◌==◌, ℕ, false, length, map, slice_get, All, IfOk, IfSome};
+ghost use Rattle.std.specs.List.{position_or_len};
+ghost use Rattle.sector_disk.specs.Trail.{CountsFault};
+ghost use Rattle.char_file.specs.Source.{OnlyReads};
+ghost use Rattle.piece_ring.specs.Flat.{flat};
+ghost use Rattle.piece_ring.specs.Offsets.{AreWithin};
+ghost use Rattle.readers_scanners.specs.Reading.{bytes, contents};
+ghost use Rattle.text_frames.specs.Cells.{cell_of};
+ghost use Rattle.text_frames.specs.Row.{row_cells};
+ghost use Rattle.viewer_tracks.specs.Display.{left_of};
+ghost use Rattle.viewer_tracks.specs.Viewers.{viewer_at, number_of};
+ghost use Rattle.viewer_tracks.specs.Columns.{shown as shown_track, StandsAt};
+ghost use Rattle.screen_cells.specs.Bytes.{shown_byte};
+ghost use Rattle.screen_cells.specs.Picture.{cell_with, filler, is_at, is_selected, text_cell, caret_at};
+ghost use Rattle.screen_cells.specs.Picture.{viewer_cell, width_of, track_cell};
+ghost use Rattle.screen_cells.specs.Mark.{mark_of};
+ghost use Rattle.screen_cells.specs.Shown.{IsShowable, as_read, strip_cell};
+
+use crate::cell::{Cell, Mark};
+use crate::shown::Shown;
+use arrayvec::ArrayVec;
+use piece_ring::{DEFAULT_LOOK, Look};
+use text_frames::{CharSource, Fault, Frame, Selection, Text};
+use viewer_tracks::{COLUMNS, ROWS, SYSTEM_LEFT, Track, Tracks, ViewerId};
+
+/// What fills a cell of a line: a character's byte and look, and its position in the text.
+type Filled = (u8, Look, u32);
+
+/// The filled cells of a line, from the left.
+type Line = ArrayVec<Filled, 50>;
+
+/// What a track shows in a row.
+#[derive(Drop)]
+pub(crate) enum Strip {
+    /// No viewer.
+    Filler,
+    /// The menu of a viewer.
+    Menu(Line),
+    /// A row of a viewer's main frame, with its bar.
+    Frame(FrameRow),
+}
+
+/// A row of a main frame.
+#[derive(Drop)]
+pub(crate) struct FrameRow {
+    pub(crate) line: Line,
+    /// The cell of the frame at which the caret stands.
+    pub(crate) caret: Option<(u8, u8)>,
+    pub(crate) selection: Option<Selection>,
+    /// The number of the row, from the top of the frame.
+    pub(crate) row: u8,
+}
+
+impl Strip {
+    /// The cell in a column.
+    pub(crate) fn cell(&self, column: u8) -> Cell
+        ensures { result ≡ strip_cell self.now column }
+    {
+        match self {
+            Strip::Filler => Cell::filler(false),
+            Strip::Menu(line) => cell_with(b'-', filled(line.as_slice(), column), Mark::Menu),
+            Strip::Frame(row) => frame_cell(row, column),
+        }
+    }
+}
+
+/// The cell of a frame's row in a column, the bar being column 0.
+fn frame_cell(row: &FrameRow, column: u8) -> Cell
+    ensures { result ≡ strip_cell (Strip.Frame row.now) column }
+{
+    if column == 0 {
+        return cell_with(b'|', None, Mark::Bar);
+    }
+    text_cell(row, column - 1)
+}
+
+/// The cell of a frame's row in a column beside the bar.
+fn text_cell(row: &FrameRow, column: u8) -> Cell
+    ensures { result ≡ text_cell row.now.line.items row.now.caret row.now.selection column row.now.row }
+{
+    let c = filled(row.line.as_slice(), column);
+    let has_caret = is_at(row.caret, column, row.row);
+    let is_inside = is_selected(row.selection, c);
+    let mark = text_mark(has_caret, is_inside);
+    cell_with(b' ', c, mark)
+}
+
+/// Whether a place is this column and row.
+fn is_at(place: Option<(u8, u8)>, x: u8, y: u8) -> bool
+    ensures { result ≡ is_at place x y }
+{
+    match place {
+        None => false,
+        Some((column, row)) => column == x && row == y,
+    }
+}
+
+/// What fills the cell in a column. None past the line's end.
+fn filled(line: &[Filled], column: u8) -> Option<Filled>
+    ensures { result ≡ slice_get line.now column }
+{
+    line.get(usize::from(column)).copied()
+}
+
+/// The mark of a cell of a text that isn't under the marker.
+fn text_mark(has_caret: bool, is_selected: bool) -> Mark
+    ensures { result ≡ mark_of false has_caret is_selected Mark.Text }
+{
+    if has_caret {
+        Mark::Caret
+    } else if is_selected {
+        Mark::Selected
+    } else {
+        Mark::Text
+    }
+}
+
+/// Whether what fills a cell is a selected character.
+fn is_selected(selection: Option<Selection>, c: Option<Filled>) -> bool
+    ensures { result ≡ is_selected selection c }
+{
+    let Some(selection) = selection else {
+        return false;
+    };
+    let Some((_, _, position)) = c else {
+        return false;
+    };
+    selection.beg <= position && position < selection.end
+}
+
+/// A cell with what fills it, or with a byte in the default look.
+fn cell_with(blank: u8, c: Option<Filled>, mark: Mark) -> Cell
+    ensures { result ≡ cell_with blank c mark }
+{
+    match c {
+        None => Cell {
+            ch: blank,
+            look: DEFAULT_LOOK,
+            mark,
+        },
+        Some((byte, look, _)) => Cell {
+            ch: shown_byte(byte),
+            look,
+            mark,
+        },
+    }
+}
+
+/// The byte that is shown for one.
+#[tactic(auto, unfolding(crate::specs::Bytes::shown_byte))]
+fn shown_byte(byte: u8) -> u8
+    ensures { result ≡ shown_byte byte }
+{
+    if byte == b'\t' {
+        b' '
+    } else if byte >= b' ' && byte <= b'~' {
+        byte
+    } else {
+        b'?'
+    }
+}
+
+/// The viewer that is seen in a row of a track.
+fn seen(tracks: &Tracks, track: Track, y: u8) -> Option<ViewerId>
+    requires { y < ROWS }
+    ensures seen { number_of result ≡ viewer_at (shown_track tracks.now track) y }
+    ensures stands { IfSome result (λ v. StandsAt tracks.now v.0 (left_of track) y) }
+{
+    match track {
+        Track::User => tracks.at(0, y),
+        Track::System => tracks.at(SYSTEM_LEFT, y),
+    }
+}
+
+/// The first viewer of that number, or how many there are.
+fn index_of(shown: &[Shown<'_>], viewer: ViewerId) -> usize
+    ensures { result ≡ position_or_len (λ s. s.id.0 == viewer.0) shown.now }
+{
+    shown
+        .iter()
+        .position(|s| s.id == viewer)
+        .unwrap_or(shown.len())
+}
+
+/// The filled cells of a row of a frame. `Fault`: the source failed in this call.
+fn cells_of_row<S: CharSource>(
+    frame: &Frame,
+    text: &Text,
+    w: u8,
+    h: u8,
+    row: u8,
+    source: &mut S,
+) -> Result<Line, Fault>
+    requires columns { w ≤ 50 }
+    requires rows { h ≤ 31 }
+    requires row { row < h }
+    requires org { frame.now.org ≤ length (flat text.now) }
+    requires offsets { AreWithin (length (S.characters source.old)) (flat text.now) }
+    ensures cells { IfOk result (λ line. S.honest source.old
+        → line.items ≡ row_cells w (contents (S.characters source.old) (flat text.now)) frame.now.org row) }
+    ensures reads { OnlyReads S.characters S.failures S.honest S.same_ground source.old source.new }
+    ensures cause { CountsFault result (S.failures source.old) (S.failures source.new) }
+{
+    frame.line(text, w, h, row, source)
+}
+
+/// The cell of a frame at which a position is shown, if it is. `Fault`: the source failed in this call.
+fn cell_of_position<S: CharSource>(
+    frame: &Frame,
+    text: &Text,
+    w: u8,
+    h: u8,
+    p: u32,
+    source: &mut S,
+) -> Result<Option<(u8, u8)>, Fault>
+    requires columns { w ≤ 50 }
+    requires rows { h ≤ 31 }
+    requires place { p ≤ length (flat text.now) }
+    requires offsets { AreWithin (length (S.characters source.old)) (flat text.now) }
+    ensures cell { IfOk result (λ cell. S.honest source.old
+        → cell ≡ cell_of w h (bytes (S.characters source.old) (flat text.now)) frame.now.org p) }
+    ensures reads { OnlyReads S.characters S.failures S.honest S.same_ground source.old source.new }
+    ensures cause { CountsFault result (S.failures source.old) (S.failures source.new) }
+{
+    frame.cell_of(text, w, h, p, source)
+}
+
+/// The cell of a frame of `w` columns and `h` rows at which the caret of a viewer stands, if it is shown.
+fn caret_at<S: CharSource>(
+    shown: &Shown<'_>,
+    w: u8,
+    h: u8,
+    source: &mut S,
+) -> Result<Option<(u8, u8)>, Fault>
+    requires columns { w ≤ 50 }
+    requires rows { h ≤ 31 }
+    requires showable { IsShowable (length (S.characters source.old)) shown.now }
+    ensures caret { IfOk result (λ caret. S.honest source.old
+        → let v = as_read (S.characters source.old) shown.now in
+        caret ≡ caret_at w h v.main v.frame.org v.frame.caret) }
+    ensures reads { OnlyReads S.characters S.failures S.honest S.same_ground source.old source.new }
+    ensures cause { CountsFault result (S.failures source.old) (S.failures source.new) }
+{
+    let Some(p) = shown.frame.caret else {
+        return Ok(None);
+    };
+    if p > shown.main.len() {
+        return Ok(None);
+    }
+    cell_of_position(shown.frame, shown.main, w, h, p, source)
+}
+
+/// A row of the main frame of a viewer of that width and these rows.
+fn frame_strip<S: CharSource>(
+    shown: &Shown<'_>,
+    width: u8,
+    bottom: u8,
+    top: u8,
+    y: u8,
+    source: &mut S,
+) -> Result<Strip, Fault>
+    requires some { 0 < width }
+    requires fits { width ≤ 50 }
+    requires display { top ≤ ROWS }
+    requires from { bottom ≤ y }
+    requires under_menu { y + 1 < top }
+    requires showable { IsShowable (length (S.characters source.old)) shown.now }
+    ensures strip { IfOk result (λ strip. S.honest source.old → (column : ℕ) → strip_cell strip column
+        ≡ viewer_cell (as_read (S.characters source.old) shown.now) width bottom top column y) }
+    ensures reads { OnlyReads S.characters S.failures S.honest S.same_ground source.old source.new }
+    ensures cause { CountsFault result (S.failures source.old) (S.failures source.new) }
+{
+    let h = top - bottom - 1;
+    let row = top - 2 - y;
+    let line = cells_of_row(shown.frame, shown.main, width - 1, h, row, source)?;
+    let caret = caret_at(shown, width - 1, h, source)?;
+    let selection = shown.frame.selection;
+    Ok(Strip::Frame(FrameRow {
+        line,
+        caret,
+        selection,
+        row,
+    }))
+}
+
+/// The menu row `y` of a viewer of that width whose rows begin at `bottom`.
+fn menu_strip<S: CharSource>(
+    shown: &Shown<'_>,
+    width: u8,
+    bottom: u8,
+    y: u8,
+    source: &mut S,
+) -> Result<Strip, Fault>
+    requires fits { width ≤ 50 }
+    requires showable { IsShowable (length (S.characters source.old)) shown.now }
+    ensures strip { IfOk result (λ strip. S.honest source.old → (column : ℕ) → strip_cell strip column
+        ≡ viewer_cell (as_read (S.characters source.old) shown.now) width bottom (y + 1) column y) }
+    ensures reads { OnlyReads S.characters S.failures S.honest S.same_ground source.old source.new }
+    ensures cause { CountsFault result (S.failures source.old) (S.failures source.new) }
+{
+    let frame = Frame {
+        text: 0,
+        org: 0,
+        caret: None,
+        selection: None,
+    };
+    let _ = bottom;
+    let _ = y;
+    let line = cells_of_row(&frame, shown.menu, width, 1, 0, source)?;
+    Ok(Strip::Menu(line))
+}
+
+/// A row of a viewer of that width and these rows.
+fn viewer_strip<S: CharSource>(
+    shown: &Shown<'_>,
+    width: u8,
+    bottom: u8,
+    top: u8,
+    y: u8,
+    source: &mut S,
+) -> Result<Strip, Fault>
+    requires some { 0 < width }
+    requires fits { width ≤ 50 }
+    requires display { top ≤ ROWS }
+    requires from { bottom ≤ y }
+    requires before { y < top }
+    requires showable { IsShowable (length (S.characters source.old)) shown.now }
+    ensures strip { IfOk result (λ strip. S.honest source.old → (column : ℕ) → strip_cell strip column
+        ≡ viewer_cell (as_read (S.characters source.old) shown.now) width bottom top column y) }
+    ensures reads { OnlyReads S.characters S.failures S.honest S.same_ground source.old source.new }
+    ensures cause { CountsFault result (S.failures source.old) (S.failures source.new) }
+{
+    if y + 1 == top {
+        menu_strip(shown, width, bottom, y, source)
+    } else {
+        frame_strip(shown, width, bottom, top, y, source)
+    }
+}
+
+/// The width of a track.
+fn width(track: Track) -> u8
+    ensures value { result ≡ width_of track }
+    ensures some { 0 < result }
+    ensures fits { result ≤ 50 }
+{
+    match track {
+        Track::User => SYSTEM_LEFT,
+        Track::System => COLUMNS - SYSTEM_LEFT,
+    }
+}
+
+/// Nothing, where no viewer is shown.
+fn filler_strip<S: CharSource>(source: &mut S) -> Result<Strip, Fault>
+    ensures strip { IfOk result (λ strip. (column : ℕ) → strip_cell strip column ≡ filler) }
+    ensures reads { OnlyReads S.characters S.failures S.honest S.same_ground source.old source.new }
+    ensures cause { CountsFault result (S.failures source.old) (S.failures source.new) }
+{
+    let _ = source;
+    Ok(Strip::Filler)
+}
+
+/// What a track shows in a row. `Fault`: the source failed in this call.
+pub(crate) fn track_strip<S: CharSource>(
+    tracks: &Tracks,
+    shown: &[Shown<'_>],
+    track: Track,
+    y: u8,
+    source: &mut S,
+) -> Result<Strip, Fault>
+    requires row { y < ROWS }
+    requires showable { All (IsShowable (length (S.characters source.old))) shown.now }
+    ensures strip { IfOk result (λ strip. S.honest source.old → (column : ℕ) → strip_cell strip column
+        ≡ track_cell tracks.now (map (as_read (S.characters source.old)) shown.now) track column y) }
+    ensures reads { OnlyReads S.characters S.failures S.honest S.same_ground source.old source.new }
+    ensures cause { CountsFault result (S.failures source.old) (S.failures source.new) }
+{
+    let Some(viewer) = seen(tracks, track, y) else {
+        return filler_strip(source);
+    };
+    let index = index_of(shown, viewer);
+    if index >= shown.len() {
+        return filler_strip(source);
+    }
+    let place = tracks.place_of(viewer);
+    let width = width(track);
+    viewer_strip(&shown[index], width, place.bottom, place.top, y, source)
+}
