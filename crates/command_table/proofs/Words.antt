@@ -6,7 +6,13 @@ use Rattle.std.specs.Str.{bytes_eq}
 use Rattle.std.proofs.Common.{refl, sym, ap, ◌∙◌, arith}
 use Rattle.std.proofs.lemmas.Slice.Eq.{bytes_eq-Decides}
 use Rattle.command_table.specs.declared.command.Command.{Command}
-use Rattle.command_table.specs.declared.command.Command.TheVariants.{EditOpen, SystemOpen, SystemOpenLog, SystemClose, SystemRecall, SystemCopy, SystemClear, SystemDirectory, SystemDeleteFiles, SystemSetFont, SystemSetColor, SystemSetOffset, EditChangeFont, EditChangeColor, EditChangeOffset, EditStore, EditSearch, EditRecall}
+use Rattle.command_table.specs.declared.command.Command.TheVariants.{EditOpen, SystemOpen, SystemOpenLog, SystemClose}
+use Rattle.command_table.specs.declared.command.Command.TheVariants.{SystemRecall, SystemCopy, SystemClear}
+use Rattle.command_table.specs.declared.command.Command.TheVariants.{SystemDirectory, SystemDeleteFiles}
+use Rattle.command_table.specs.declared.command.Command.TheVariants.{SystemSetFont, SystemSetColor, SystemSetOffset}
+use Rattle.command_table.specs.declared.command.Command.TheVariants.{EditChangeFont, EditChangeColor}
+use Rattle.command_table.specs.declared.command.Command.TheVariants.{EditChangeOffset, EditStore, EditSearch}
+use Rattle.command_table.specs.declared.command.Command.TheVariants.{EditRecall}
 use Rattle.command_table.specs.Commands.{word_of, commands, command_named, OneWordEach}
 
 found_passes : {X : Type 0} (test : X → Bool) (xs : List X) (x : X) → find test xs ≡ Some x → test x ≡ true
@@ -40,7 +46,8 @@ found_word EditRecall = refl
 own_word : (word : List ℕ) (command : Command) → command_named word ≡ Some command → word ≡ word_of command
 unfolding command_named
 own_word word command e =
-    let passes = found_passes (λ c. bytes_eq (word_of c) word) commands command e in sym ((bytes_eq-Decides (word_of command) word).0 passes)
+    let passes = found_passes (λ c. bytes_eq (word_of c) word) commands command e in
+    sym ((bytes_eq-Decides (word_of command) word).0 passes)
 
 pub one_word_each : OneWordEach
 one_word_each word command = (own_word word command, λ e. ap command_named e ∙ found_word command)
@@ -70,7 +77,8 @@ pub long_word : (word : List ℕ) → 18 < length word → command_named word �
 long_word word long = by_named (command_named word) refl where
   by_named : (found : Option Command) → command_named word ≡ found → command_named word ≡ None
   by_named None e = e
-  by_named (Some command) e = let same = ap length (own_word word command e) in let short = short_word command in absurd (omega (arith, long, same, short))
+  by_named (Some command) e = let same = ap length (own_word word command e) in let short = short_word command in
+      absurd (omega (arith, long, same, short))
 
 pub no_word : command_named [] ≡ None
 unfolding command_named commands

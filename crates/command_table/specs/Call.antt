@@ -1,5 +1,6 @@
 -- The word of a call: the longest run of letters, digits and periods that holds the byte at a position.
-use Rattle.std.specs.Prelude.{ℕ, zero, suc, ◌≡◌, ◌+◌, ◌-◌, ◌<◌, ◌≤◌, ◌==◌, Bool, false, IsTrue, if◌then◌else◌, List, [], length, drop, slice_index, slice_range, Option}
+use Rattle.std.specs.Prelude.{ℕ, zero, suc, ◌≡◌, ◌+◌, ◌-◌, ◌<◌, ◌≤◌, ◌==◌, Bool, false, IsTrue, if◌then◌else◌, List}
+use Rattle.std.specs.Prelude.{[], length, drop, slice_index, slice_range, Option}
 use Rattle.std.specs.Option.{option_map}
 use Rattle.std.specs.List.{prefix_len}
 use Rattle.event_bytes.specs.Bytes.{is_name_byte}
@@ -36,4 +37,5 @@ pub record IsLongestRun (bs : List ℕ) (p begin end : ℕ) : Type 0 where
   pub last : end < length bs → is_name_byte (slice_index bs end) ≡ false
 
 abbrev pub WordIsLongest : Type 0
-WordIsLongest = (bs : List ℕ) (p : ℕ) → p < length bs → IsTrue (is_name_byte (slice_index bs p)) → IsLongestRun bs p (word_begin bs p) (word_end bs p)
+WordIsLongest = (bs : List ℕ) (p : ℕ) → p < length bs → IsTrue (is_name_byte (slice_index bs p))
+    → IsLongestRun bs p (word_begin bs p) (word_end bs p)

@@ -3,7 +3,13 @@ use Rattle.std.specs.Prelude.{ℕ, ◌≡◌, ◌↔◌, List, [], ◌∷◌, Op
 use Rattle.std.specs.List.{find}
 use Rattle.std.specs.Str.{bytes_eq}
 use Rattle.command_table.specs.declared.command.Command.{Command}
-use Rattle.command_table.specs.declared.command.Command.TheVariants.{EditOpen, SystemOpen, SystemOpenLog, SystemClose, SystemRecall, SystemCopy, SystemClear, SystemDirectory, SystemDeleteFiles, SystemSetFont, SystemSetColor, SystemSetOffset, EditChangeFont, EditChangeColor, EditChangeOffset, EditStore, EditSearch, EditRecall}
+use Rattle.command_table.specs.declared.command.Command.TheVariants.{EditOpen, SystemOpen, SystemOpenLog, SystemClose}
+use Rattle.command_table.specs.declared.command.Command.TheVariants.{SystemRecall, SystemCopy, SystemClear}
+use Rattle.command_table.specs.declared.command.Command.TheVariants.{SystemDirectory, SystemDeleteFiles}
+use Rattle.command_table.specs.declared.command.Command.TheVariants.{SystemSetFont, SystemSetColor, SystemSetOffset}
+use Rattle.command_table.specs.declared.command.Command.TheVariants.{EditChangeFont, EditChangeColor}
+use Rattle.command_table.specs.declared.command.Command.TheVariants.{EditChangeOffset, EditStore, EditSearch}
+use Rattle.command_table.specs.declared.command.Command.TheVariants.{EditRecall}
 
 -- the word that calls a command
 abbrev pub word_of : Command → List ℕ
@@ -29,8 +35,10 @@ word_of EditRecall = codes "Edit.Recall"
 -- every command
 unfoldable pub commands : List Command
 commands =
-    EditOpen ∷ SystemOpen ∷ SystemOpenLog ∷ SystemClose ∷ SystemRecall ∷ SystemCopy ∷ SystemClear ∷ SystemDirectory ∷ SystemDeleteFiles ∷
-    SystemSetFont ∷ SystemSetColor ∷ SystemSetOffset ∷ EditChangeFont ∷ EditChangeColor ∷ EditChangeOffset ∷ EditStore ∷ EditSearch ∷ EditRecall ∷ []
+    EditOpen ∷ SystemOpen ∷ SystemOpenLog ∷ SystemClose ∷ SystemRecall ∷ SystemCopy ∷ SystemClear ∷ SystemDirectory ∷
+    SystemDeleteFiles ∷
+    SystemSetFont ∷ SystemSetColor ∷ SystemSetOffset ∷ EditChangeFont ∷ EditChangeColor ∷ EditChangeOffset ∷ EditStore
+    ∷ EditSearch ∷ EditRecall ∷ []
 
 -- the command that a word calls
 unfoldable pub command_named : List ℕ → Option Command

@@ -17,4 +17,5 @@ can_be_deleted files names = list_all (is_among files) names && are_distinct nam
 
 -- with fewer files than that, the first names of a list decide as all of them do
 abbrev pub FirstNamesDecide : Type 0
-FirstNamesDecide = (files names : List (List ℕ)) → length files + 1 ≤ MOST_NAMES → can_be_deleted files (take MOST_NAMES names) ≡ can_be_deleted files names
+FirstNamesDecide = (files names : List (List ℕ)) → length files + 1 ≤ MOST_NAMES
+    → can_be_deleted files (take MOST_NAMES names) ≡ can_be_deleted files names

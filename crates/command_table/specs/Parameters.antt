@@ -1,6 +1,7 @@
 -- The parameters of a command: a value, or a list of names.
 -- T is what stands for a text, and `read` its bytes. A place is a text and a position in it.
-use Rattle.std.specs.Prelude.{ℕ, zero, suc, ◌≡◌, ◌+◌, ◌<◌, ◌≤◌, ◌⊎◌, Bool, false, ◌==◌, if◌then◌else◌, List, [], ◌∷◌, length, Option, Some, None, Result, Ok, Err, MatchResult}
+use Rattle.std.specs.Prelude.{ℕ, zero, suc, ◌≡◌, ◌+◌, ◌<◌, ◌≤◌, ◌⊎◌, Bool, false, ◌==◌, if◌then◌else◌, List, [], ◌∷◌}
+use Rattle.std.specs.Prelude.{length, Option, Some, None, Result, Ok, Err, MatchResult}
 use Rattle.std.specs.Option.{option_map}
 use Rattle.std.specs.Result.{result_map_both}
 use Rattle.std.specs.Borrow.{Bor}
@@ -93,7 +94,8 @@ listed r = result_map_both (λ names. names.items) (λ code. code) r
 
 -- whatever a source tells, a value is a symbol that can be, or one of two codes, each for its reason
 abbrev pub IsValue : {A B : Type 0} → Option A → Option B → Result Symbol ℕ → Type 0
-IsValue selection menu r = MatchResult r IsShaped (λ code. ((code ≡ NO_SELECTION) × (selection ≡ None)) ⊎ ((code ≡ NO_VIEWER) × (menu ≡ None)))
+IsValue selection menu r = MatchResult r IsShaped (λ code. ((code ≡ NO_SELECTION) × (selection ≡ None))
+    ⊎ ((code ≡ NO_VIEWER) × (menu ≡ None)))
 
 -- a list has 1 to 257 names, or none and so a code
 abbrev pub IsList : Result (List (List ℕ)) ℕ → Type 0

@@ -1,18 +1,19 @@
 //! Which command is called at a position of a text.
-ghost use Rattle.std.specs.Prelude.{◌≡◌, ◌+◌, ◌-◌, ◌<◌, ◌≤◌, ◌^◌, length, drop, take, slice_get, Some, IfOk, IfSome, OnOk, min};
+ghost use Rattle.std.specs.Prelude.{◌≡◌, ◌+◌, ◌-◌, ◌<◌, ◌≤◌, ◌^◌, length, drop, take, slice_get, Some, IfOk, IfSome};
+ghost use Rattle.std.specs.Prelude.{OnOk, min};
 ghost use Rattle.std.specs.List.{prefix_len};
 ghost use Rattle.sector_disk.specs.Trail.{CountsFault};
 ghost use Rattle.char_file.specs.Source.{OnlyReads};
 ghost use Rattle.event_bytes.specs.Bytes.{is_name_byte};
 ghost use Rattle.piece_ring.specs.Flat.{flat};
 ghost use Rattle.piece_ring.specs.Offsets.{AreWithin};
-ghost use Rattle.readers_scanners.specs.Reading.{bytes};
+ghost use Rattle.readers_scanners.specs.Reading.{contents, bytes};
 ghost use Rattle.command_table.specs.Call.{run_from, word_begin, called_at};
 ghost use Rattle.command_table.specs.Parameters.{IsPlace};
 
 use crate::{ArrayVec, CharSource, Command, Fault, Text};
 use event_bytes::is_name_byte;
-use readers_scanners::Reader;
+use readers_scanners::{Look, Reader};
 
 /// How many bytes the longest word of a command has. A longer run of letters, digits and periods calls nothing.
 const LONGEST: u32 = 18;
@@ -26,9 +27,14 @@ const LOOKED_AT: usize = 37;
 /// in this call.
 ///
 /// It reads 37 characters at most, however long the run is.
-pub fn called<S: CharSource>(text: &Text, pos: u32, source: &mut S) -> Result<Option<(Command, u32)>, Fault>
+pub fn called<S: CharSource>(
+    text: &Text,
+    pos: u32,
+    source: &mut S,
+) -> Result<Option<(Command, u32)>, Fault>
     requires { IsPlace (length (S.characters source.old)) (flat text.now, pos) }
-    ensures call { IfOk result (λ call. S.honest source.old → call ≡ called_at (bytes (S.characters source.old) (flat text.now)) pos) }
+    ensures call { IfOk result (λ call. S.honest source.old
+        → call ≡ called_at (bytes (S.characters source.old) (flat text.now)) pos) }
     ensures range { IfOk result (λ call. IfSome call (λ x. (pos < x.1) × (x.1 ≤ length (flat text.now)))) }
     ensures reads { OnlyReads S.characters S.failures S.honest S.same_ground source.old source.new }
     ensures cause { CountsFault result (S.failures source.old) (S.failures source.new) }
@@ -43,7 +49,11 @@ pub fn called<S: CharSource>(text: &Text, pos: u32, source: &mut S) -> Result<Op
 
 /// The bytes of a text from a position on, as many as are looked at, or fewer at its end. `Fault`: the source failed in
 /// this call.
-fn bytes_from<S: CharSource>(text: &Text, start: u32, source: &mut S) -> Result<ArrayVec<u8, LOOKED_AT>, Fault>
+fn bytes_from<S: CharSource>(
+    text: &Text,
+    start: u32,
+    source: &mut S,
+) -> Result<ArrayVec<u8, LOOKED_AT>, Fault>
     requires { IsPlace (length (S.characters source.old)) (flat text.now, start) }
     ensures bytes { IfOk result (λ window. S.honest source.old
         → window.items ≡ take LOOKED_AT (drop start (bytes (S.characters source.old) (flat text.now)))) }
@@ -62,7 +72,27 @@ fn bytes_from<S: CharSource>(text: &Text, start: u32, source: &mut S) -> Result<
     Ok(window)
 }
 
-/// The byte before which the reader stands, which it passes. `Fault`: the source failed in this call.
+/// The character before which the reader stands; it stands after it then. `Fault`: the source failed in this call.
+fn next_character<S: CharSource>(
+    reader: &mut Reader<'_>,
+    source: &mut S,
+) -> Result<(u8, Look), Fault>
+    requires more { reader.old.position < length reader.old.text }
+    requires offsets { AreWithin (length (S.characters source.old)) reader.old.text }
+    ensures character { IfOk result (λ c. S.honest source.old
+        → slice_get (contents (S.characters source.old) reader.old.text) reader.old.position ≡ Some c) }
+    ensures moves { OnOk result (reader.new.position ≡ reader.old.position + 1) }
+    ensures text { reader.new.text ≡ reader.old.text }
+    ensures reads { OnlyReads S.characters S.failures S.honest S.same_ground source.old source.new }
+    ensures cause { CountsFault result (S.failures source.old) (S.failures source.new) }
+{
+    match reader.read(source)? {
+        Some(character) => Ok(character),
+        None => unreachable!(),
+    }
+}
+
+/// The byte before which the reader stands; it stands after it then. `Fault`: the source failed in this call.
 fn next_byte<S: CharSource>(reader: &mut Reader<'_>, source: &mut S) -> Result<u8, Fault>
     requires more { reader.old.position < length reader.old.text }
     requires offsets { AreWithin (length (S.characters source.old)) reader.old.text }
@@ -73,10 +103,8 @@ fn next_byte<S: CharSource>(reader: &mut Reader<'_>, source: &mut S) -> Result<u
     ensures reads { OnlyReads S.characters S.failures S.honest S.same_ground source.old source.new }
     ensures cause { CountsFault result (S.failures source.old) (S.failures source.new) }
 {
-    match reader.read(source)? {
-        Some((byte, _)) => Ok(byte),
-        None => unreachable!(),
-    }
+    let (byte, _) = next_character(reader, source)?;
+    Ok(byte)
 }
 
 /// The command that is called at a position of these bytes, and where its word ends.

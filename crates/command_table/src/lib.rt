@@ -1,7 +1,7 @@
 //! The commands: the words that call them, and the parameters that stand after a word.
 //!
-//! `specs/Commands.antt` has the table of words, `specs/Call.antt` says which word is called at a position, and `specs/Parameters.antt` what
-//! the parameters after it are.
+//! `specs/Commands.antt` has the table of words, `specs/Call.antt` says which word is called at a position, and
+//! `specs/Parameters.antt` what the parameters after it are.
 #![tactic(auto)]
 
 mod calling;

@@ -7,7 +7,8 @@ ghost use Rattle.piece_ring.specs.Flat.{flat};
 ghost use Rattle.piece_ring.specs.Offsets.{AreWithin};
 ghost use Rattle.readers_scanners.specs.Reading.{bytes};
 ghost use Rattle.readers_scanners.specs.Symbol.{IsShaped};
-ghost use Rattle.command_table.specs.Parameters.{IsPlace, IsNames, IsList, place_of, listed, names, names_on, some_names};
+ghost use Rattle.command_table.specs.Parameters.{IsPlace, IsNames, IsList, place_of, listed, names, names_on};
+ghost use Rattle.command_table.specs.Parameters.{some_names};
 
 use crate::symbols::{is_special, name_in, next_symbol};
 use crate::{ArrayVec, CharSource, Fault, Name, Symbol, Text, codes};
@@ -34,7 +35,8 @@ pub fn names<S: CharSource>(
     requires text { IsPlace (length (S.characters source.old)) (flat text.now, pos) }
     requires sel { IfSome (option_map place_of sel) (IsPlace (length (S.characters source.old))) }
     ensures names { IfOk result (λ r. S.honest source.old
-        → listed r ≡ names (bytes (S.characters source.old)) (flat text.now) pos (option_map place_of sel.entry)) }
+        → listed r ≡ names (bytes (S.characters source.old)) (flat text.now) pos
+        (option_map place_of sel.entry)) }
     ensures kind { IfOk result (λ r. IsNames sel.entry (listed r)) }
     ensures reads { OnlyReads S.characters S.failures S.honest S.same_ground source.old source.new }
     ensures cause { CountsFault result (S.failures source.old) (S.failures source.new) }
@@ -55,12 +57,17 @@ pub fn names<S: CharSource>(
 
 /// The list that begins with a symbol that was scanned, or a code where that is no name. `Fault`: the source failed in
 /// this call.
-fn list_from<S: CharSource>(first: &Symbol, scanner: &mut Scanner<'_>, source: &mut S) -> Result<Result<Names, u8>, Fault>
+fn list_from<S: CharSource>(
+    first: &Symbol,
+    scanner: &mut Scanner<'_>,
+    source: &mut S,
+) -> Result<Result<Names, u8>, Fault>
     requires shape { IsShaped first.now }
     requires within { scanner.old.position ≤ length scanner.old.text }
     requires offsets { AreWithin (length (S.characters source.old)) scanner.old.text }
     ensures names { IfOk result (λ r. S.honest source.old
-        → listed r ≡ some_names (names_on (bytes (S.characters source.old) scanner.old.text) MOST_NAMES (first.now, scanner.old.position))) }
+        → listed r ≡ some_names (names_on (bytes (S.characters source.old) scanner.old.text) MOST_NAMES
+        (first.now, scanner.old.position))) }
     ensures kind { IfOk result (λ r. IsList (listed r)) }
     ensures reads { OnlyReads S.characters S.failures S.honest S.same_ground source.old source.new }
     ensures cause { CountsFault result (S.failures source.old) (S.failures source.new) }
@@ -75,12 +82,17 @@ fn list_from<S: CharSource>(first: &Symbol, scanner: &mut Scanner<'_>, source: &
 
 /// The names that begin with a symbol that was scanned, at most 257: none where that is no name. `Fault`: the source
 /// failed in this call.
-fn names_from<S: CharSource>(first: &Symbol, scanner: &mut Scanner<'_>, source: &mut S) -> Result<Names, Fault>
+fn names_from<S: CharSource>(
+    first: &Symbol,
+    scanner: &mut Scanner<'_>,
+    source: &mut S,
+) -> Result<Names, Fault>
     requires shape { IsShaped first.now }
     requires within { scanner.old.position ≤ length scanner.old.text }
     requires offsets { AreWithin (length (S.characters source.old)) scanner.old.text }
     ensures names { IfOk result (λ names. S.honest source.old
-        → names.items ≡ names_on (bytes (S.characters source.old) scanner.old.text) MOST_NAMES (first.now, scanner.old.position)) }
+        → names.items ≡ names_on (bytes (S.characters source.old) scanner.old.text) MOST_NAMES
+        (first.now, scanner.old.position)) }
     ensures most { IfOk result (λ names. length names.items ≤ MOST_NAMES) }
     ensures reads { OnlyReads S.characters S.failures S.honest S.same_ground source.old source.new }
     ensures cause { CountsFault result (S.failures source.old) (S.failures source.new) }

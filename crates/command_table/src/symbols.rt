@@ -5,7 +5,7 @@ ghost use Rattle.char_file.specs.Source.{OnlyReads};
 ghost use Rattle.piece_ring.specs.Flat.{flat};
 ghost use Rattle.piece_ring.specs.Offsets.{AreWithin};
 ghost use Rattle.readers_scanners.specs.Form.{symbol as symbol_worked};
-ghost use Rattle.readers_scanners.specs.Reading.{bytes};
+ghost use Rattle.readers_scanners.specs.Reading.{bytes, MovesOn};
 ghost use Rattle.readers_scanners.specs.Symbol.{IsShaped};
 ghost use Rattle.command_table.specs.Parameters.{IsPlace, symbol_in, is_special, name_in};
 
@@ -13,14 +13,17 @@ use crate::{CharSource, Fault, Name, Symbol, Text};
 use readers_scanners::{Scanner, symbol_worked_out};
 
 /// The next symbol of a scanner that stands within its text. `Fault`: the source failed in this call.
-pub(crate) fn next_symbol<S: CharSource>(scanner: &mut Scanner<'_>, source: &mut S) -> Result<Symbol, Fault>
+pub(crate) fn next_symbol<S: CharSource>(
+    scanner: &mut Scanner<'_>,
+    source: &mut S,
+) -> Result<Symbol, Fault>
     requires within { scanner.old.position ≤ length scanner.old.text }
     requires offsets { AreWithin (length (S.characters source.old)) scanner.old.text }
     ensures symbol { IfOk result (λ symbol. S.honest source.old
-        → symbol_worked (bytes (S.characters source.old) scanner.old.text) scanner.old.position ≡ (symbol, scanner.new.position)) }
+        → symbol_worked (bytes (S.characters source.old) scanner.old.text) scanner.old.position
+        ≡ (symbol, scanner.new.position)) }
     ensures shape { IfOk result IsShaped }
-    ensures text { scanner.new.text ≡ scanner.old.text }
-    ensures within { scanner.new.position ≤ length scanner.old.text }
+    ensures moves { MovesOn scanner.old scanner.new }
     ensures reads { OnlyReads S.characters S.failures S.honest S.same_ground source.old source.new }
     ensures cause { CountsFault result (S.failures source.old) (S.failures source.new) }
 {
@@ -29,7 +32,11 @@ pub(crate) fn next_symbol<S: CharSource>(scanner: &mut Scanner<'_>, source: &mut
 }
 
 /// The first symbol from `pos` on. `Fault`: the source failed in this call.
-pub(crate) fn symbol_at<S: CharSource>(text: &Text, pos: u32, source: &mut S) -> Result<Symbol, Fault>
+pub(crate) fn symbol_at<S: CharSource>(
+    text: &Text,
+    pos: u32,
+    source: &mut S,
+) -> Result<Symbol, Fault>
     requires { IsPlace (length (S.characters source.old)) (flat text.now, pos) }
     ensures symbol { IfOk result (λ symbol. S.honest source.old
         → symbol ≡ symbol_in (bytes (S.characters source.old)) (flat text.now, pos)) }

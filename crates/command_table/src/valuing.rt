@@ -16,8 +16,8 @@ use crate::{CharSource, Fault, Symbol, Text, codes};
 /// the marker. The symbol found there isn't followed again. Of what kind it is, the caller tests.
 ///
 /// `sel` is the text of the newest selection and where it begins, `menu` that menu's text. A code:
-/// `codes::NO_SELECTION` for `^` where `sel` is None, `codes::NO_VIEWER` for `*` where `menu` is None. `Fault`: the source
-/// failed in this call.
+/// `codes::NO_SELECTION` for `^` where `sel` is None, `codes::NO_VIEWER` for `*` where `menu` is None. `Fault`: the
+/// source failed in this call.
 pub fn params<S: CharSource>(
     text: &Text,
     pos: u32,
@@ -29,7 +29,8 @@ pub fn params<S: CharSource>(
     requires sel { IfSome (option_map place_of sel) (IsPlace (length (S.characters source.old))) }
     requires menu { IfSome (option_map text_of menu) (λ m. IsPlace (length (S.characters source.old)) (m, 0)) }
     ensures value { IfOk result (λ r. S.honest source.old
-        → r ≡ value (bytes (S.characters source.old)) (flat text.now) pos (option_map place_of sel.entry) (option_map text_of menu.entry)) }
+        → r ≡ value (bytes (S.characters source.old)) (flat text.now) pos
+        (option_map place_of sel.entry) (option_map text_of menu.entry)) }
     ensures kind { IfOk result (IsValue sel.entry menu.entry) }
     ensures reads { OnlyReads S.characters S.failures S.honest S.same_ground source.old source.new }
     ensures cause { CountsFault result (S.failures source.old) (S.failures source.new) }
@@ -45,7 +46,11 @@ pub fn params<S: CharSource>(
 }
 
 /// The first symbol at a place, or the code where there is no place. `Fault`: the source failed in this call.
-fn symbol_or<S: CharSource>(code: u8, place: Option<(&Text, u32)>, source: &mut S) -> Result<Result<Symbol, u8>, Fault>
+fn symbol_or<S: CharSource>(
+    code: u8,
+    place: Option<(&Text, u32)>,
+    source: &mut S,
+) -> Result<Result<Symbol, u8>, Fault>
     requires { IfSome (option_map place_of place) (IsPlace (length (S.characters source.old))) }
     ensures symbol { IfOk result (λ r. S.honest source.old
         → r ≡ symbol_or (bytes (S.characters source.old)) code (option_map place_of place.entry)) }

@@ -10,5 +10,6 @@ invariant-loop-at g l =
     record {
       way : IsAt s.characters s.failures s.honest s.same_ground l.fn.source l.source (flat l.text) l.reader l.at;
       count : l.start + length l.window.items ≡ l.at;
-      exact : s.honest l.fn.source → l.window.items ≡ take (l.at - l.start) (drop l.start (bytes (s.characters l.fn.source) (flat l.text)));
+      exact : s.honest l.fn.source
+          → l.window.items ≡ take (l.at - l.start) (drop l.start (bytes (s.characters l.fn.source) (flat l.text)));
     }

@@ -7,12 +7,14 @@ pub loop-begin-preserved : goal.loop-begin-preserved
 loop-begin-preserved c =
     let before = c.loop-begin.invariant in record {
       within = omega (arith, before.within);
-      same = step_back c.args.bytes.now c.args.at c.loop-begin.begin c.loop-begin-test.true (sym c.is_name_byte.ensures ∙ c.if-is_name_byte.true) before.same;
+      same = step_back c.args.bytes.now c.args.at c.loop-begin.begin c.loop-begin-test.true
+          (sym c.is_name_byte.ensures ∙ c.if-is_name_byte.true) before.same;
     }
 
 pub returns-else-is_name_byte-clause-begin : goal.returns-else-is_name_byte-clause-begin
 returns-else-is_name_byte-clause-begin c =
-    sym (stop_back c.args.bytes.now c.args.at c.loop-begin.begin c.loop-begin-test.true (sym c.is_name_byte.ensures ∙ c.if-is_name_byte.false) c.loop-begin.invariant.same)
+    sym (stop_back c.args.bytes.now c.args.at c.loop-begin.begin c.loop-begin-test.true (sym c.is_name_byte.ensures
+    ∙ c.if-is_name_byte.false) c.loop-begin.invariant.same)
 
 pub returns-after-loop-begin-clause-begin : goal.returns-after-loop-begin-clause-begin
 returns-after-loop-begin-clause-begin c =

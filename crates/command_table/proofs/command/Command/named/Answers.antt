@@ -11,4 +11,5 @@ pub returns : goal.returns
 unfolding command_named commands
 returns c =
     option_map_self c.find.result
-    ∙ find_from_yields_List (λ command. bytes_eq (word_of command) c.args.word.now) _ _ _ c.find.ensures.ran (YieldsList-from_copied (YieldsList-from_slice commands cc)) (λ x b q k. search (rules, tests))
+    ∙ find_from_yields_List (λ command. bytes_eq (word_of command) c.args.word.now) _ _ _ c.find.ensures.ran
+    (YieldsList-from_copied (YieldsList-from_slice commands cc)) (λ x b q k. search (rules, tests))
