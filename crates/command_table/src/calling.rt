@@ -8,7 +8,7 @@ ghost use Rattle.event_bytes.specs.Bytes.{is_name_byte};
 ghost use Rattle.piece_ring.specs.Flat.{flat};
 ghost use Rattle.piece_ring.specs.Offsets.{AreWithin};
 ghost use Rattle.readers_scanners.specs.Reading.{contents, bytes};
-ghost use Rattle.command_table.specs.Call.{run_from, word_begin, called_at};
+ghost use Rattle.command_table.specs.Call.{word_begin, called_at};
 ghost use Rattle.command_table.specs.Parameters.{IsPlace};
 
 use crate::{ArrayVec, CharSource, Command, Fault, Text};
