@@ -1,0 +1,6 @@
+pub mod Deciding
+pub mod Gathering
+pub mod Runs
+pub mod Values
+pub mod Walking
+pub mod Words

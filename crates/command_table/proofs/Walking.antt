@@ -1,0 +1,87 @@
+-- What a loop keeps that reads a text character after character.
+use Rattle.std.specs.Prelude.{◌≡◌, ℕ, ◌+◌, ◌-◌, ◌<◌, ◌≤◌, min, List, [], ◌∷◌, ◌++◌, length, drop, take, Some, slice_get}
+use Rattle.std.specs.Option.{option_map}
+use Rattle.std.proofs.Common.{refl, sym, ap, ◌∙◌, arith, get_or, length-append, length-drop}
+use Rattle.std.proofs.lemmas.List.{take_more, take_min, get_or-drop}
+use Rattle.std.proofs.lemmas.Option.{slice_get_within, slice_get-map, get_or_from_slice_get}
+use Rattle.char_file.specs.Source.{OnlyReads}
+use Rattle.char_file.proofs.Reading.{no_read, read_on}
+use Rattle.piece_ring.specs.declared.piece.Look.{Look}
+use Rattle.piece_ring.specs.Text.{Text}
+use Rattle.piece_ring.specs.Offsets.{AreWithin}
+use Rattle.readers_scanners.specs.Reading.{contents, bytes, Reading}
+
+-- one more byte of those from `start` on
+pub one_more : (bs kept : List ℕ) (start at byte : ℕ) → start ≤ at → kept ≡ take (at - start) (drop start bs)
+    → slice_get bs at ≡ Some byte
+    → kept ++ byte ∷ [] ≡ take (at + 1 - start) (drop start bs)
+one_more bs kept start at byte low e there =
+    let inside = slice_get_within bs at byte there in
+    let place : start + (at - start) ≡ at = omega (arith, low) in
+    let size : at + 1 - start ≡ at - start + 1 = omega (arith, low) in
+    let read : get_or (drop start bs) (at - start) 0 ≡ byte = get_or-drop start bs (at - start) 0
+    ∙ (ap (λ k. get_or bs k 0) place ∙ get_or_from_slice_get bs at byte 0 there) in
+    ap (λ l. l ++ byte ∷ []) e
+    ∙ (ap (λ b. take (at - start) (drop start bs) ++ b ∷ []) (sym read)
+    ∙ (sym (take_more (drop start bs) (at - start) 0 (omega (arith, inside, low, length-drop start bs)))
+    ∙ ap (λ n. take n (drop start bs)) (sym size)))
+
+pub one_count : (kept more : List ℕ) (start at byte : ℕ) → start + length kept ≡ at → more ≡ kept ++ byte ∷ []
+    → start + length more ≡ at + 1
+one_count kept more start at byte e made = omega (arith, e, ap length made, length-append kept (byte ∷ []))
+
+-- as many as are asked for, or as there are
+pub all_there : (most : ℕ) (bs kept : List ℕ) (start at count : ℕ) → kept ≡ take (at - start) (drop start bs)
+    → count ≡ length bs → at - start ≡ min most (count - start) → kept ≡ take most (drop start bs)
+all_there most bs kept start at count e counted size =
+    let left : count - start ≡ length (drop start bs) = omega (arith, counted, length-drop start bs) in
+    e ∙ (ap (λ n. take n (drop start bs)) (size ∙ ap (min most) left) ∙ take_min most (drop start bs))
+
+-- the byte of a character that was read
+pub byte_there : (characters : List ℕ) (text : Text ℕ) (at : ℕ) (c : ℕ × Look)
+    → slice_get (contents characters text) at ≡ Some c → slice_get (bytes characters text) at ≡ Some c.0
+byte_there characters text at c there = slice_get-map _ (contents characters text) at ∙ ap (option_map _) there
+
+module _ {S : Type 0} (characters : S → List ℕ) (failures : S → ℕ) (honest : S → Type 0) (same_ground : S → S
+    → Type 0) where
+  -- The reader stands before the character `at` of the text, and since the state `start` nothing failed.
+  pub record IsAt (start now : S) (text : Text ℕ) (reader : Reading) (at : ℕ) : Type 0 where
+    pub place : reader.position ≡ at
+    pub same : reader.text ≡ text
+    pub reads : OnlyReads characters failures honest same_ground start now
+    pub calm : failures now ≡ failures start
+
+  module _ (ground_self : (s : S) → same_ground s s) (ground_through : (a b c : S) → same_ground a b → same_ground b c
+      → same_ground a c) where
+    pub at_first : (start : S) (text : Text ℕ) (reader : Reading) (at : ℕ) → reader.position ≡ at → reader.text ≡ text
+        → IsAt start start text reader at
+    at_first start text reader at p t = record {
+      place = p;
+      same = t;
+      reads = no_read characters failures honest same_ground ground_self start;
+      calm = refl;
+    }
+
+    module _ (start now : S) (text : Text ℕ) (reader : Reading) (at : ℕ) (is : IsAt start now text reader at) where
+      pub more : at < length text → reader.position < length reader.text
+      more h = omega (arith, h, is.place, ap length is.same)
+
+      pub offsets : AreWithin (length (characters start)) text → AreWithin (length (characters now)) reader.text
+      offsets h = rw (is.reads.as_long, is.same) h
+
+      pub onward : (later : S) (next : Reading) → next.position ≡ reader.position + 1 → next.text ≡ reader.text
+          → OnlyReads characters failures honest same_ground now later → failures later ≡ failures now
+          → IsAt start later text next (at + 1)
+      onward later next p t reads calm = record {
+        place = omega (arith, p, is.place);
+        same = t ∙ is.same;
+        reads = read_on characters failures honest same_ground ground_through start now later is.reads reads;
+        calm = calm ∙ is.calm;
+      }
+
+      -- what was read there
+      pub seen : (byte : ℕ) → (honest now → slice_get (bytes (characters now) reader.text) reader.position
+          ≡ Some byte) → honest start
+          → slice_get (bytes (characters start) text) at ≡ Some byte
+      seen byte there h = sym (λ k. slice_get (bytes (is.reads.same h k) (is.same k)) (is.place k))
+          ∙ there (is.reads.still h)

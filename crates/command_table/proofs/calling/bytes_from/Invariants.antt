@@ -1,0 +1,15 @@
+use Rattle.std.proofs.Common.{◌≡◌, ◌-◌, ◌+◌, length, take, drop}
+use Rattle.piece_ring.specs.Flat.{flat}
+use Rattle.readers_scanners.specs.Reading.{bytes}
+use Rattle.command_table.proofs.Walking.{IsAt}
+use Rattle.command_table.proofs.calling.bytes_from.Given as goal
+
+abbrev pub invariant-loop-at : goal.invariant-loop-at
+invariant-loop-at g l =
+    let s = g.S.CharSource in
+    record {
+      way : IsAt s.characters s.failures s.honest s.same_ground l.fn.source l.source (flat l.text) l.reader l.at;
+      count : l.start + length l.window.items ≡ l.at;
+      exact : s.honest l.fn.source
+          → l.window.items ≡ take (l.at - l.start) (drop l.start (bytes (s.characters l.fn.source) (flat l.text)));
+    }

@@ -1,0 +1,46 @@
+use Rattle.std.specs.Prelude.{◌≡◌}
+use Rattle.std.specs.Option.{option_map}
+use Rattle.std.proofs.Common.{sym, ap, ◌∙◌, rules}
+use Rattle.std.proofs.lemmas.Result.{IfOk-weaker}
+use Rattle.piece_ring.specs.Flat.{flat}
+use Rattle.readers_scanners.specs.Reading.{bytes}
+use Rattle.command_table.specs.declared.codes.TheConstants.{NO_SELECTION, NO_VIEWER}
+use Rattle.command_table.specs.Parameters.{place_of, text_of, symbol_or}
+use Rattle.command_table.proofs.Values.{value_of_selection, value_of_menu, value_itself}
+use Rattle.command_table.proofs.valuing.params.Goals as goal
+
+pub returns-then-is_special-clause-value : goal.returns-then-is_special-clause-value
+returns-then-is_special-clause-value g c =
+    let s = g.S.CharSource in let before = c.in_ok-first.ensures in
+    IfOk-weaker c.symbol_or.result _ _
+    (λ r there h. there (before.reads.still h)
+    ∙ (ap (λ characters. symbol_or (bytes characters) NO_SELECTION (option_map place_of c.args.sel))
+    (before.reads.same h)
+    ∙ sym (value_of_selection (bytes (s.characters c.args.source.now)) (flat c.args.text.now) c.args.pos
+    (option_map place_of c.args.sel) (option_map text_of c.args.menu)
+    c.in_ok-first.first c.is_special.result (before.symbol h) c.is_special.ensures c.if-is_special.true)))
+    c.symbol_or.ensures.symbol
+
+pub returns-then-is_special-2-clause-value : goal.returns-then-is_special-2-clause-value
+returns-then-is_special-2-clause-value g c =
+    let s = g.S.CharSource in let before = c.in_ok-first.ensures in
+    let same : option_map place_of c.map.result ≡ option_map (λ m. (m, 0)) (option_map text_of c.args.menu) =
+    search rules in
+    IfOk-weaker c.symbol_or-then-is_special-2.result _ _
+    (λ r there h. there (before.reads.still h)
+    ∙ ((λ k. symbol_or (bytes (before.reads.same h k)) NO_VIEWER (same k))
+    ∙ sym (value_of_menu (bytes (s.characters c.args.source.now)) (flat c.args.text.now) c.args.pos
+    (option_map place_of c.args.sel) (option_map text_of c.args.menu)
+    c.in_ok-first.first c.is_special.result c.is_special-else-is_special.result
+    (before.symbol h) c.is_special.ensures c.if-is_special.false c.is_special-else-is_special.ensures
+    c.if-is_special-2.true)))
+    c.symbol_or-then-is_special-2.ensures.symbol
+
+pub returns-else-is_special-2-clause-value : goal.returns-else-is_special-2-clause-value
+returns-else-is_special-2-clause-value g c h =
+    let s = g.S.CharSource in let before = c.in_ok-first.ensures in
+    sym (value_itself (bytes (s.characters c.args.source.now)) (flat c.args.text.now) c.args.pos
+    (option_map place_of c.args.sel) (option_map text_of c.args.menu)
+    c.in_ok-first.first c.is_special.result c.is_special-else-is_special.result
+    (before.symbol h) c.is_special.ensures c.if-is_special.false c.is_special-else-is_special.ensures
+    c.if-is_special-2.false)

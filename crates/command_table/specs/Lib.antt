@@ -1,0 +1,4 @@
+pub mod Call
+pub mod Commands
+pub mod Deciding
+pub mod Parameters

@@ -1,0 +1,20 @@
+//! What holds of all words and lists.
+ghost use Rattle.command_table.specs.Call.{WordIsLongest};
+ghost use Rattle.command_table.specs.Commands.{OneWordEach};
+ghost use Rattle.command_table.specs.Deciding.{FirstNamesDecide};
+
+/// Each command has a word of its own, and no other word calls it.
+pub fn one_word_each()
+    ensures { OneWordEach }
+{}
+
+/// The word at a position is the longest run of letters, digits and periods that holds the byte there.
+pub fn word_is_longest()
+    ensures { WordIsLongest }
+{}
+
+/// With at most 256 files the first 257 names of a list decide whether its files can be deleted: 257 names have one
+/// that is no file's, or one that is named twice.
+pub fn first_names_decide()
+    ensures { FirstNamesDecide }
+{}
