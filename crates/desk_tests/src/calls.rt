@@ -3,7 +3,8 @@
 use crate::sources::{fails_after, text_of};
 use char_file::{CharFile, CharSource};
 use command_table::{
-    Command, Name, Symbol, called, first_names_decide, names, one_word_each, params, word_is_longest,
+    Command, Name, Symbol, called, first_names_decide, names, one_word_each, params,
+    word_is_longest,
 };
 use std::alloc::{AllocError, Global};
 use std::process::Abort;
@@ -35,13 +36,25 @@ fn words(rt: HostRuntime) {
     for (word, command) in table {
         assert_eq!(rt; Command::named(word.as_bytes()), Some(command));
     }
-    for word in ["", "Edit", "edit.Open", "Edit.Open.", "System.Collect", "System.Grow"] {
+    for word in [
+        "",
+        "Edit",
+        "edit.Open",
+        "Edit.Open.",
+        "System.Collect",
+        "System.Grow",
+    ] {
         assert_eq!(rt; Command::named(word.as_bytes()), None);
     }
 }
 
 /// What is called at a position of a text of these bytes.
-fn call(rt: &impl Abort, alloc: Global, bytes: &str, pos: u32) -> Result<Option<(Command, u32)>, Fail> {
+fn call(
+    rt: &impl Abort,
+    alloc: Global,
+    bytes: &str,
+    pos: u32,
+) -> Result<Option<(Command, u32)>, Fail> {
     let mut source = CharFile::new(alloc);
     let text = text_of(rt, alloc, &mut source, bytes.as_bytes())?;
     assert!(rt; pos <= text.len());
@@ -56,8 +69,16 @@ fn words_that_call(rt: HostRuntime) -> Result<(), Fail> {
         ("Edit.Open ^", 8, Some((Command::EditOpen, 9))),
         ("\rSystem.Close\r", 5, Some((Command::SystemClose, 13))),
         ("\"System.Close\"", 3, Some((Command::SystemClose, 13))),
-        ("a System.DeleteFiles", 2, Some((Command::SystemDeleteFiles, 20))),
-        ("a System.DeleteFiles", 19, Some((Command::SystemDeleteFiles, 20))),
+        (
+            "a System.DeleteFiles",
+            2,
+            Some((Command::SystemDeleteFiles, 20)),
+        ),
+        (
+            "a System.DeleteFiles",
+            19,
+            Some((Command::SystemDeleteFiles, 20)),
+        ),
     ];
     for (bytes, pos, wanted) in table {
         assert_eq!(rt; call(&rt, rt.alloc(), bytes, pos)?, wanted);
@@ -103,7 +124,14 @@ fn shown(alloc: Global, value: &Result<Symbol, u8>) -> Result<Vec<u8>, AllocErro
 
 /// The value parameter at a position of a text of these bytes. The text is the selection's too, where that begins
 /// somewhere, and the menu at the marker, where there is one.
-fn value(rt: &impl Abort, alloc: Global, bytes: &str, pos: u32, sel: Option<u32>, marked: bool) -> Result<Vec<u8>, Fail> {
+fn value(
+    rt: &impl Abort,
+    alloc: Global,
+    bytes: &str,
+    pos: u32,
+    sel: Option<u32>,
+    marked: bool,
+) -> Result<Vec<u8>, Fail> {
     let mut source = CharFile::new(alloc);
     let text = text_of(rt, alloc, &mut source, bytes.as_bytes())?;
     assert!(rt; pos <= text.len());
@@ -145,7 +173,13 @@ fn values(rt: HostRuntime) -> Result<(), Fail> {
 
 /// The list of names at a position of a text of these bytes, which is the selection's too: each name with a space
 /// after it, or the code. And how many names it has.
-fn list(rt: &impl Abort, alloc: Global, bytes: &[u8], pos: u32, sel: Option<u32>) -> Result<(Vec<u8>, usize), Fail> {
+fn list(
+    rt: &impl Abort,
+    alloc: Global,
+    bytes: &[u8],
+    pos: u32,
+    sel: Option<u32>,
+) -> Result<(Vec<u8>, usize), Fail> {
     let mut source = CharFile::new(alloc);
     let text = text_of(rt, alloc, &mut source, bytes)?;
     assert!(rt; pos <= text.len());
@@ -172,7 +206,12 @@ fn joined(alloc: Global, names: &[Name]) -> Result<Vec<u8>, AllocError> {
 #[test]
 fn lists(rt: HostRuntime) -> Result<(), Fail> {
     let table = [
-        ("System.DeleteFiles A.Text B\tC\r~ D", 18, None, "A.Text B C "),
+        (
+            "System.DeleteFiles A.Text B\tC\r~ D",
+            18,
+            None,
+            "A.Text B C ",
+        ),
         ("System.DeleteFiles A 1 B", 18, Some(0), "A "),
         ("System.DeleteFiles A", 18, None, "A "),
         ("System.DeleteFiles A * B", 18, None, "A "),

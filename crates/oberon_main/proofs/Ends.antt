@@ -3,15 +3,8 @@ use Rattle.std.proofs.Common.{◌≡◌, ◌⊎◌, ℕ, ◌<◌, Result, Ok, Er
 use Rattle.std.proofs.Common.{◌∙◌, subst}
 use Rattle.sector_disk.specs.Faults.{FailsAs, OneOf}
 use Rattle.desk_journal.specs.declared.error.Error.{Error}
-use Rattle.desk_journal.specs.declared.error.Error.TheVariants.{
-  NoMemory,
-  Fault,
-  MustReopen,
-  NotAStore,
-  Damaged,
-  TooSmall,
-  JournalFull,
-}
+use Rattle.desk_journal.specs.declared.error.Error.TheVariants.{NoMemory, Fault, MustReopen, NotAStore, Damaged}
+use Rattle.desk_journal.specs.declared.error.Error.TheVariants.{TooSmall, JournalFull}
 use Rattle.desk_journal.specs.Errors.{OfPost}
 use Rattle.oberon_main.specs.declared.answering.Answer.{Answer}
 use Rattle.oberon_main.specs.declared.playing.PlayEnd.{PlayEnd}

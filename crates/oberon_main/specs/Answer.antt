@@ -1,24 +1,6 @@
 -- The lines of an answer.
-use Rattle.std.specs.Prelude.{
-  ℕ,
-  ◌+◌,
-  ◌/◌,
-  ◌%◌,
-  Bool,
-  ◌==◌,
-  ◌&&◌,
-  not,
-  nat_lt,
-  if◌then◌else◌,
-  List,
-  [],
-  ◌∷◌,
-  ◌++◌,
-  Option,
-  Some,
-  None,
-  codes,
-}
+use Rattle.std.specs.Prelude.{ℕ, ◌+◌, ◌/◌, ◌%◌, Bool, ◌==◌, ◌&&◌, not, nat_lt, if◌then◌else◌, List, [], ◌∷◌, ◌++◌}
+use Rattle.std.specs.Prelude.{Option, Some, None, codes}
 use Rattle.std.specs.List.{flat_map}
 use Rattle.std.specs.Fmt.{decimal, signed_decimal}
 use Rattle.std.specs.Ordering.{int_eq}

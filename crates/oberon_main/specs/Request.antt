@@ -1,26 +1,6 @@
 -- What a line of a script asks for.
-use Rattle.std.specs.Prelude.{
-  ℕ,
-  ◌+◌,
-  ◌-◌,
-  ◌*◌,
-  Bool,
-  ◌==◌,
-  ◌&&◌,
-  nat_le,
-  if◌then◌else◌,
-  List,
-  [],
-  ◌∷◌,
-  length,
-  drop,
-  Option,
-  Some,
-  None,
-  unwrap_or,
-  position,
-  codes,
-}
+use Rattle.std.specs.Prelude.{ℕ, ◌+◌, ◌-◌, ◌*◌, Bool, ◌==◌, ◌&&◌, nat_le, if◌then◌else◌, List, [], ◌∷◌, length, drop}
+use Rattle.std.specs.Prelude.{Option, Some, None, unwrap_or, position, codes}
 use Rattle.std.specs.Option.{option_map}
 use Rattle.std.specs.List.{list_all, before_first}
 use Rattle.std.specs.Str.{bytes_eq}

@@ -1,29 +1,6 @@
 -- What a track shows in a row is what its strip does.
-use Rattle.std.proofs.Common.{
-  ◌≡◌,
-  ℕ,
-  ◌+◌,
-  ◌-◌,
-  ◌<◌,
-  ◌≤◌,
-  Bool,
-  true,
-  false,
-  ◌==◌,
-  List,
-  length,
-  map,
-  Option,
-  Some,
-  None,
-  option_map,
-  get_or,
-  slice_get,
-  ap,
-  sym,
-  ◌∙◌,
-  arith,
-}
+use Rattle.std.proofs.Common.{◌≡◌, ℕ, ◌+◌, ◌-◌, ◌<◌, ◌≤◌, Bool, true, false, ◌==◌, List, length, map, Option, Some}
+use Rattle.std.proofs.Common.{None, option_map, get_or, slice_get, ap, sym, ◌∙◌, arith}
 use Rattle.std.specs.Prelude.{if◌then◌else◌}
 use Rattle.std.proofs.lemmas.Option.{slice_get-map, slice_get-get_or, slice_get_past}
 use Rattle.std.proofs.lemmas.List.Folds.{find_at}
@@ -35,17 +12,8 @@ use Rattle.text_frames.specs.declared.frame.Selection.{Selection}
 use Rattle.text_frames.specs.Row.{row_cells}
 use Rattle.viewer_tracks.specs.declared.display.Track.{Track}
 use Rattle.viewer_tracks.specs.Columns.{Columns, placed_bottom, placed_top}
-use Rattle.screen_cells.specs.Picture.{
-  Viewer,
-  bar_cell,
-  menu_cell,
-  text_cell,
-  frame_cell,
-  viewer_cell,
-  caret_at,
-  shown_cell,
-  width_of,
-}
+use Rattle.screen_cells.specs.Picture.{Viewer, bar_cell, menu_cell, text_cell, frame_cell, viewer_cell, caret_at}
+use Rattle.screen_cells.specs.Picture.{shown_cell, width_of}
 
 -- a row below the menu
 pub frame_shown : (v : Viewer) (width bottom top y column row : ℕ) (line : List (ℕ × Look × ℕ))

@@ -1,27 +1,6 @@
 -- The least prefix after which all is blank.
-use Rattle.std.proofs.Common.{
-  ◌≡◌,
-  ◌≢◌,
-  ℕ,
-  ◌+◌,
-  ◌-◌,
-  ◌<◌,
-  ◌≤◌,
-  Bool,
-  true,
-  false,
-  eqb,
-  List,
-  ◌∷◌,
-  ◌&&◌,
-  length,
-  take,
-  drop,
-  get_or,
-  ap,
-  ◌∙◌,
-  arith,
-}
+use Rattle.std.proofs.Common.{◌≡◌, ◌≢◌, ℕ, ◌+◌, ◌-◌, ◌<◌, ◌≤◌, Bool, true, false, eqb, List, ◌∷◌, ◌&&◌, length, take}
+use Rattle.std.proofs.Common.{drop, get_or, ap, ◌∙◌, arith}
 use Rattle.std.specs.List.{list_all, range_with_len}
 use Rattle.std.proofs.lemmas.List.{get_or-drop, drop_more, drop_all, length-drop}
 use Rattle.std.proofs.lemmas.List.Folds.{list_all_at}

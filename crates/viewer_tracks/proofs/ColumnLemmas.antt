@@ -1,25 +1,6 @@
 -- What an edit in one of the two tracks makes of the columns.
-use Rattle.std.proofs.Common.{
-  ◌≡◌,
-  ℕ,
-  ◌+◌,
-  ◌<◌,
-  ◌≤◌,
-  List,
-  [],
-  ◌∷◌,
-  refl,
-  ap,
-  ◌==◌,
-  cond,
-  true,
-  false,
-  arith,
-  subst,
-  sym,
-  length,
-  ⊎_elim,
-}
+use Rattle.std.proofs.Common.{◌≡◌, ℕ, ◌+◌, ◌<◌, ◌≤◌, List, [], ◌∷◌, refl, ap, ◌==◌, cond, true, false, arith, subst}
+use Rattle.std.proofs.Common.{sym, length, ⊎_elim}
 use Rattle.std.specs.Prelude.{All}
 use Rattle.std.proofs.lemmas.Bool.{lt-ltb, le-ltb, cases_lt, false≢true}
 use Rattle.viewer_tracks.specs.declared.display.Track.{Track}
@@ -27,18 +8,8 @@ use Rattle.viewer_tracks.specs.declared.display.Track.TheVariants.{User, System}
 use Rattle.viewer_tracks.specs.Display.{track_at}
 use Rattle.viewer_tracks.specs.Viewers.{Entry, IsTrack, times_in, entry_of}
 use Rattle.viewer_tracks.specs.Edits.{opened, changed, closed}
-use Rattle.viewer_tracks.specs.Columns.{
-  Columns,
-  IsColumns,
-  IsPlaced,
-  track_of,
-  topmost,
-  shown,
-  with_shown,
-  after_open,
-  after_change,
-  after_close,
-}
+use Rattle.viewer_tracks.specs.Columns.{Columns, IsColumns, IsPlaced, track_of, topmost, shown, with_shown, after_open}
+use Rattle.viewer_tracks.specs.Columns.{after_change, after_close}
 use Rattle.viewer_tracks.proofs.Positions.{counted}
 use Rattle.viewer_tracks.proofs.Once.{times_in-opened, times_in-changed, times_in-closed, once_opened}
 use Rattle.viewer_tracks.proofs.TrackLemmas.{IsTrack-opened, IsTrack-changed, IsTrack-closed}

@@ -1,32 +1,6 @@
 -- What an edit of the edges makes of the viewers with their heights.
-use Rattle.std.proofs.Common.{
-  ◌≡◌,
-  ℕ,
-  suc,
-  zero,
-  ◌+◌,
-  ◌-◌,
-  ◌<◌,
-  ◌≤◌,
-  nat_le,
-  List,
-  [],
-  ◌∷◌,
-  length,
-  take,
-  get_or,
-  set,
-  map,
-  refl,
-  ap,
-  sym,
-  ◌∙◌,
-  add-one,
-  zero-add,
-  sub-one,
-  arith,
-  sum_by,
-}
+use Rattle.std.proofs.Common.{◌≡◌, ℕ, suc, zero, ◌+◌, ◌-◌, ◌<◌, ◌≤◌, nat_le, List, [], ◌∷◌, length, take, get_or, set}
+use Rattle.std.proofs.Common.{map, refl, ap, sym, ◌∙◌, add-one, zero-add, sub-one, arith, sum_by}
 use Rattle.std.specs.Prelude.{insert, remove}
 use Rattle.std.specs.List.{position_or_len}
 use Rattle.std.proofs.lemmas.List.{ext_get_or, get_or-map, length-map}

@@ -1,38 +1,11 @@
 -- The first n elements of an array, as an edit of the array leaves them.
-use Rattle.std.proofs.Common.{
-  ◌≡◌,
-  ℕ,
-  suc,
-  ◌+◌,
-  ◌-◌,
-  ◌<◌,
-  ◌≤◌,
-  List,
-  ◌∷◌,
-  ◌++◌,
-  length,
-  take,
-  drop,
-  set,
-  ap,
-  sym,
-  ◌∙◌,
-  add-one,
-  arith,
-}
+use Rattle.std.proofs.Common.{◌≡◌, ℕ, suc, ◌+◌, ◌-◌, ◌<◌, ◌≤◌, List, ◌∷◌, ◌++◌, length, take, drop, set, ap, sym, ◌∙◌}
+use Rattle.std.proofs.Common.{add-one, arith}
 use Rattle.std.specs.Prelude.{insert, remove}
 use Rattle.std.specs.List.{copy_within}
 use Rattle.std.proofs.Math.Seq.{take-set-lt}
-use Rattle.std.proofs.lemmas.List.{
-  take-take,
-  take-append-le,
-  drop-take,
-  drop_at,
-  set_split,
-  length-take-le,
-  length-drop,
-  length-append,
-}
+use Rattle.std.proofs.lemmas.List.{take-take, take-append-le, drop-take, drop_at, set_split, length-take-le}
+use Rattle.std.proofs.lemmas.List.{length-drop, length-append}
 use Rattle.std.proofs.lemmas.List.Edits.{take-paste}
 
 -- those behind i moved down by one

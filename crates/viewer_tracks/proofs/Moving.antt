@@ -1,34 +1,6 @@
 -- A viewer's edge found, moved and taken out.
-use Rattle.std.proofs.Common.{
-  ◌≡◌,
-  ℕ,
-  suc,
-  ◌+◌,
-  ◌-◌,
-  ◌<◌,
-  ◌≤◌,
-  true,
-  false,
-  cond,
-  not,
-  nat_lt,
-  ◌==◌,
-  List,
-  [],
-  ◌∷◌,
-  length,
-  get_or,
-  set,
-  refl,
-  ap,
-  sym,
-  subst,
-  ◌∙◌,
-  add-one,
-  arith,
-  min,
-  ⊎_elim,
-}
+use Rattle.std.proofs.Common.{◌≡◌, ℕ, suc, ◌+◌, ◌-◌, ◌<◌, ◌≤◌, true, false, cond, not, nat_lt, ◌==◌, List, [], ◌∷◌}
+use Rattle.std.proofs.Common.{length, get_or, set, refl, ap, sym, subst, ◌∙◌, add-one, arith, min, ⊎_elim}
 use Rattle.std.specs.Prelude.{remove, count_by}
 use Rattle.std.specs.List.{position_or_len}
 use Rattle.std.proofs.lemmas.List.Sums.{sum_by-cons}
@@ -42,15 +14,8 @@ use Rattle.viewer_tracks.specs.Viewers.{Entry, bottom_of, top_of, times_in, entr
 use Rattle.viewer_tracks.specs.Edits.{with_entry, with_height, change_top, changed, closed}
 use Rattle.viewer_tracks.specs.Edges.{entries_from, Rises}
 use Rattle.viewer_tracks.proofs.Positions.{counted, found}
-use Rattle.viewer_tracks.proofs.EdgeLemmas.{
-  length-entries_from,
-  bottom_of-entries_from,
-  entries_from-remove,
-  Rises-remove,
-  entries_from-with_top,
-  Rises-with_top,
-  Rises-top,
-}
+use Rattle.viewer_tracks.proofs.EdgeLemmas.{length-entries_from, bottom_of-entries_from, entries_from-remove}
+use Rattle.viewer_tracks.proofs.EdgeLemmas.{Rises-remove, entries_from-with_top, Rises-with_top, Rises-top}
 use Rattle.viewer_tracks.proofs.Opening.{no_edge, bottom_of-grows}
 
 -- a viewer stands in the track as often as among the edges, and at the same place

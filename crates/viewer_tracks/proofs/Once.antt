@@ -1,43 +1,12 @@
 -- A viewer stands at most once on the display, whatever is opened, moved or closed.
-use Rattle.std.proofs.Common.{
-  ◌≡◌,
-  ℕ,
-  suc,
-  zero,
-  ◌+◌,
-  ◌-◌,
-  ◌≤◌,
-  Bool,
-  true,
-  false,
-  cond,
-  ◌==◌,
-  nat_lt,
-  List,
-  [],
-  ◌∷◌,
-  refl,
-  ap,
-  sym,
-  ◌∙◌,
-  arith,
-}
+use Rattle.std.proofs.Common.{◌≡◌, ℕ, suc, zero, ◌+◌, ◌-◌, ◌≤◌, Bool, true, false, cond, ◌==◌, nat_lt, List, [], ◌∷◌}
+use Rattle.std.proofs.Common.{refl, ap, sym, ◌∙◌, arith}
 use Rattle.std.specs.Prelude.{insert, remove}
 use Rattle.std.proofs.lemmas.List.Sums.{sum_by-cons, sum_by-insert}
 use Rattle.std.proofs.lemmas.Bool.{eqb-true}
 use Rattle.viewer_tracks.specs.Viewers.{Entry, bottom_of, top_of, times_in}
-use Rattle.viewer_tracks.specs.Edits.{
-  with_entry,
-  with_height,
-  with_viewer,
-  takes_place,
-  open_entry,
-  open_top,
-  opened,
-  change_top,
-  changed,
-  closed,
-}
+use Rattle.viewer_tracks.specs.Edits.{with_entry, with_height, with_viewer, takes_place, open_entry, open_top, opened}
+use Rattle.viewer_tracks.specs.Edits.{change_top, changed, closed}
 
 -- one more where the viewers are the same
 abbrev pub one_if : ℕ → ℕ → ℕ

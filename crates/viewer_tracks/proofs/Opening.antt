@@ -1,38 +1,6 @@
 -- Where a viewer opens, read off the edges.
-use Rattle.std.proofs.Common.{
-  ◌≡◌,
-  ◌≢◌,
-  ℕ,
-  suc,
-  zero,
-  ◌+◌,
-  ◌-◌,
-  ◌<◌,
-  ◌≤◌,
-  true,
-  false,
-  cond,
-  not,
-  nat_le,
-  List,
-  [],
-  ◌∷◌,
-  length,
-  get_or,
-  set,
-  refl,
-  ap,
-  sym,
-  subst,
-  ◌∙◌,
-  arith,
-  min,
-  max,
-  Some,
-  None,
-  ⊎_elim,
-  eqb,
-}
+use Rattle.std.proofs.Common.{◌≡◌, ◌≢◌, ℕ, suc, zero, ◌+◌, ◌-◌, ◌<◌, ◌≤◌, true, false, cond, not, nat_le, List, [], ◌∷◌}
+use Rattle.std.proofs.Common.{length, get_or, set, refl, ap, sym, subst, ◌∙◌, arith, min, max, Some, None, ⊎_elim, eqb}
 use Rattle.std.specs.Prelude.{insert}
 use Rattle.std.specs.List.{position_or_len}
 use Rattle.std.proofs.lemmas.List.Sums.{prefix_len-le-length, fails_before_first, passes_at_first}
@@ -44,31 +12,13 @@ use Rattle.viewer_tracks.specs.declared.viewer_id.ViewerId.{ViewerId}
 use Rattle.viewer_tracks.specs.declared.edges.Edge.{Edge}
 use Rattle.viewer_tracks.specs.declared.display.TheConstants.{ROWS}
 use Rattle.viewer_tracks.specs.Viewers.{bottom_of, viewer_of}
-use Rattle.viewer_tracks.specs.Edits.{
-  with_entry,
-  with_height,
-  with_viewer,
-  open_entry,
-  open_top,
-  takes_place,
-  put_into,
-  opened,
-  replaced,
-}
+use Rattle.viewer_tracks.specs.Edits.{with_entry, with_height, with_viewer, open_entry, open_top, takes_place, put_into}
+use Rattle.viewer_tracks.specs.Edits.{opened, replaced}
 use Rattle.viewer_tracks.specs.Edges.{entries_from, Rises}
-use Rattle.viewer_tracks.proofs.EdgeLemmas.{
-  length-entries_from,
-  bottom_of-cons,
-  bottom_of-entries_from,
-  bottom_of_edge,
-  bottom_of-le,
-  lowest_reaching-entries_from,
-  Rises-within,
-  entries_from-insert,
-  Rises-insert,
-  entries_from-with_viewer,
-  Rises-with_viewer,
-}
+use Rattle.viewer_tracks.proofs.EdgeLemmas.{length-entries_from, bottom_of-cons, bottom_of-entries_from, bottom_of_edge}
+use Rattle.viewer_tracks.proofs.EdgeLemmas.{bottom_of-le, lowest_reaching-entries_from, Rises-within}
+use Rattle.viewer_tracks.proofs.EdgeLemmas.{entries_from-insert, Rises-insert, entries_from-with_viewer}
+use Rattle.viewer_tracks.proofs.EdgeLemmas.{Rises-with_viewer}
 
 -- the viewer whose top is put at row `top` goes to edge i
 pub record Opening (es : List Edge) (y i top : ℕ) : Type 0 where

@@ -1,36 +1,6 @@
 -- Who is placed after an edit, and where a viewer is that is seen.
-use Rattle.std.proofs.Common.{
-  ◌≡◌,
-  ℕ,
-  suc,
-  zero,
-  ◌+◌,
-  ◌-◌,
-  ◌<◌,
-  ◌≤◌,
-  Bool,
-  true,
-  false,
-  cond,
-  not,
-  ◌==◌,
-  ◌&&◌,
-  nat_le,
-  List,
-  [],
-  ◌∷◌,
-  length,
-  refl,
-  ap,
-  sym,
-  subst,
-  ◌∙◌,
-  arith,
-  Option,
-  Some,
-  None,
-  ⊎_elim,
-}
+use Rattle.std.proofs.Common.{◌≡◌, ℕ, suc, zero, ◌+◌, ◌-◌, ◌<◌, ◌≤◌, Bool, true, false, cond, not, ◌==◌, ◌&&◌, nat_le}
+use Rattle.std.proofs.Common.{List, [], ◌∷◌, length, refl, ap, sym, subst, ◌∙◌, arith, Option, Some, None, ⊎_elim}
 use Rattle.std.specs.Prelude.{insert, remove, IfSome}
 use Rattle.viewer_tracks.specs.declared.viewer_id.ViewerId.{ViewerId}
 use Rattle.std.specs.List.{position_or_len}
@@ -40,43 +10,12 @@ use Rattle.viewer_tracks.specs.declared.edges.Edge.{Edge}
 use Rattle.viewer_tracks.specs.declared.display.Track.{Track}
 use Rattle.viewer_tracks.specs.declared.display.Track.TheVariants.{User, System}
 use Rattle.viewer_tracks.specs.Display.{track_at}
-use Rattle.viewer_tracks.specs.Viewers.{
-  Entry,
-  IsTrack,
-  bottom_of,
-  top_of,
-  lowest_reaching,
-  viewer_of,
-  viewer_at,
-  times_in,
-  entry_of,
-  number_of,
-}
-use Rattle.viewer_tracks.specs.Edits.{
-  with_entry,
-  with_height,
-  with_viewer,
-  open_entry,
-  open_top,
-  takes_place,
-  opened,
-  replaced,
-  closed,
-}
-use Rattle.viewer_tracks.specs.Columns.{
-  Columns,
-  IsColumns,
-  IsPlaced,
-  times_placed,
-  times_meant,
-  shown,
-  StandsAt,
-  seen_at,
-  replaced_at,
-  after_open,
-  after_change,
-  after_close,
-}
+use Rattle.viewer_tracks.specs.Viewers.{Entry, IsTrack, bottom_of, top_of, lowest_reaching, viewer_of, viewer_at}
+use Rattle.viewer_tracks.specs.Viewers.{times_in, entry_of, number_of}
+use Rattle.viewer_tracks.specs.Edits.{with_entry, with_height, with_viewer, open_entry, open_top, takes_place, opened}
+use Rattle.viewer_tracks.specs.Edits.{replaced, closed}
+use Rattle.viewer_tracks.specs.Columns.{Columns, IsColumns, IsPlaced, times_placed, times_meant, shown, StandsAt}
+use Rattle.viewer_tracks.specs.Columns.{seen_at, replaced_at, after_open, after_change, after_close}
 use Rattle.viewer_tracks.specs.Edges.{entries_from, Rises}
 use Rattle.viewer_tracks.proofs.Positions.{counted}
 use Rattle.viewer_tracks.proofs.Once.{one_if, times_in-cons, times_in-with_height, times_in-changed}
@@ -84,21 +23,10 @@ use Rattle.viewer_tracks.proofs.EdgeLemmas.{lowest_reaching-entries_from}
 use Rattle.viewer_tracks.proofs.Opening.{no_edge, viewer_of-past, reaches, begins_below}
 use Rattle.viewer_tracks.proofs.Moving.{top_of-entries_from}
 use Rattle.viewer_tracks.proofs.TrackLemmas.{for_tracks}
-use Rattle.viewer_tracks.proofs.ColumnLemmas.{
-  columns,
-  for_columns,
-  user_track,
-  system_track,
-  track_of_user,
-  track_of_system,
-  in_system,
-  after_open_user,
-  after_open_system,
-  after_change_user,
-  after_change_system,
-  after_close_user,
-  after_close_system,
-}
+use Rattle.viewer_tracks.proofs.ColumnLemmas.{columns, for_columns, user_track, system_track, track_of_user}
+use Rattle.viewer_tracks.proofs.ColumnLemmas.{track_of_system, in_system, after_open_user, after_open_system}
+use Rattle.viewer_tracks.proofs.ColumnLemmas.{after_change_user, after_change_system, after_close_user}
+use Rattle.viewer_tracks.proofs.ColumnLemmas.{after_close_system}
 
 -- the number of viewers and who they are, under edits of one entry
 length-with_entry : (f : Entry → Entry) (t : List Entry) (i : ℕ) → length (with_entry f t i) ≡ length t

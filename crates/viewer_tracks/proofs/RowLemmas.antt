@@ -1,39 +1,7 @@
 -- Which viewer has a row, read off the edges, and what edits change of it.
-use Rattle.std.proofs.Common.{
-  ◌≡◌,
-  ℕ,
-  suc,
-  zero,
-  ◌+◌,
-  ◌-◌,
-  ◌<◌,
-  ◌≤◌,
-  Bool,
-  true,
-  false,
-  cond,
-  not,
-  nat_le,
-  List,
-  [],
-  ◌∷◌,
-  ◌++◌,
-  length,
-  get_or,
-  set,
-  take,
-  drop,
-  refl,
-  ap,
-  sym,
-  ◌∙◌,
-  add-one,
-  arith,
-  Option,
-  Some,
-  None,
-  ⊎_elim,
-}
+use Rattle.std.proofs.Common.{◌≡◌, ℕ, suc, zero, ◌+◌, ◌-◌, ◌<◌, ◌≤◌, Bool, true, false, cond, not, nat_le, List, []}
+use Rattle.std.proofs.Common.{◌∷◌, ◌++◌, length, get_or, set, take, drop, refl, ap, sym, ◌∙◌, add-one, arith, Option}
+use Rattle.std.proofs.Common.{Some, None, ⊎_elim}
 use Rattle.std.specs.Prelude.{insert, remove}
 use Rattle.std.specs.List.{position_or_len}
 use Rattle.std.proofs.lemmas.List.{take-append-drop, set_split, drop_all, drop_more}
@@ -44,27 +12,10 @@ use Rattle.viewer_tracks.specs.Viewers.{Entry, IsTrack, bottom_of, top_of, viewe
 use Rattle.viewer_tracks.specs.Edits.{open_entry, open_top, takes_place, opened, change_top, changed, closed}
 use Rattle.viewer_tracks.specs.Edges.{entries_from, Rises}
 use Rattle.viewer_tracks.specs.Rows.{OpensRows, ChangesRows, ClosesRows}
-use Rattle.viewer_tracks.proofs.EdgeLemmas.{
-  length-entries_from,
-  lowest_reaching-entries_from,
-  bottom_of-cons,
-  bottom_of-entries_from,
-  Rises-top,
-  Rises-remove,
-}
-use Rattle.viewer_tracks.proofs.Opening.{
-  no_edge,
-  bottom_of-grows,
-  viewer_of-entries_from,
-  viewer_of-past,
-  opening_at,
-  taken_within,
-  same_top,
-  taken_track,
-  taken_rises,
-  inserted,
-  inserted_rises,
-}
+use Rattle.viewer_tracks.proofs.EdgeLemmas.{length-entries_from, lowest_reaching-entries_from, bottom_of-cons}
+use Rattle.viewer_tracks.proofs.EdgeLemmas.{bottom_of-entries_from, Rises-top, Rises-remove}
+use Rattle.viewer_tracks.proofs.Opening.{no_edge, bottom_of-grows, viewer_of-entries_from, viewer_of-past, opening_at}
+use Rattle.viewer_tracks.proofs.Opening.{taken_within, same_top, taken_track, taken_rises, inserted, inserted_rises}
 use Rattle.viewer_tracks.proofs.Moving.{moving_to, top_of-entries_from, changed_up, rises_changed, closed_edges}
 use Rattle.viewer_tracks.proofs.TrackLemmas.{for_tracks}
 

@@ -8,28 +8,8 @@
 -- border never passes the display. Where y would leave the viewer itself no row, nothing changes.
 -- Closing gives a viewer's rows to the entry above it.
 -- No edit touches any other row, and a viewer that an edit doesn't speak of stays where it was.
-use Rattle.std.specs.Prelude.{
-  ℕ,
-  zero,
-  suc,
-  ◌+◌,
-  ◌-◌,
-  Bool,
-  ◌&&◌,
-  if◌then◌else◌,
-  nat_lt,
-  ◌==◌,
-  min,
-  max,
-  Option,
-  None,
-  List,
-  [],
-  ◌∷◌,
-  length,
-  insert,
-  remove,
-}
+use Rattle.std.specs.Prelude.{ℕ, zero, suc, ◌+◌, ◌-◌, Bool, ◌&&◌, if◌then◌else◌, nat_lt, ◌==◌, min, max, Option, None}
+use Rattle.std.specs.Prelude.{List, [], ◌∷◌, length, insert, remove}
 use Rattle.viewer_tracks.specs.declared.display.TheConstants.{ROWS}
 use Rattle.viewer_tracks.specs.Viewers.{Entry, bottom_of, top_of, lowest_reaching, viewer_of}
 

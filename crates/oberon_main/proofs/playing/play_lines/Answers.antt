@@ -1,15 +1,6 @@
 use Rattle.std.proofs.Common.{refl, ◌∙◌, inl, inr}
-use Rattle.oberon_main.proofs.Played.{
-  played_more,
-  stopped_in_line,
-  ended_with_rest,
-  cut_off,
-  pieces_with_line,
-  pieces_with_rest,
-  counts_of_line,
-  counts_from,
-  only_failures,
-}
+use Rattle.oberon_main.proofs.Played.{played_more, stopped_in_line, ended_with_rest, cut_off, pieces_with_line}
+use Rattle.oberon_main.proofs.Played.{pieces_with_rest, counts_of_line, counts_from, only_failures}
 use Rattle.oberon_main.proofs.playing.play_lines.Goals as goal
 
 pub returns-in-Err-clause-played : goal.returns-in-Err-clause-played
