@@ -1,5 +1,5 @@
 //! The screen: worked rows, and writers that take a text in pieces or fail.
-ghost use Rattle.std.specs.Prelude.{◌≡◌, ◌≤◌, length, IfOk, IfSome};
+ghost use Rattle.std.specs.Prelude.{◌≡◌, ◌<◌, ◌≤◌, ◌+◌, ◌^◌, length, IfOk, IfSome};
 ghost use Rattle.piece_ring.specs.Flat.{flat};
 ghost use Rattle.piece_ring.specs.Offsets.{AreWithin};
 ghost use Rattle.screen_cells.specs.Printed.{printed};
@@ -102,7 +102,21 @@ fn wanted(alloc: Global, marker: Option<(u8, u8)>) -> Result<Vec<u8>, Fail> {
 }
 
 /// The text of some of the source's characters, in the default look.
-#[tactic(auto, using(crate::proofs::Texts::run_within))]
+fn text_within<S: CharSource>(
+    alloc: Global,
+    source: &S,
+    first: u32,
+    count: u32,
+) -> Result<Text, NoMemory>
+    requires fits { first + count < 2 ^ 32 }
+    requires inside { first + count ≤ length (S.characters source.now) }
+    ensures { IfOk result (λ text. AreWithin (length (S.characters source.now)) (flat text)) }
+{
+    let text = Text::of_run(alloc, first, count, DEFAULT_LOOK)?;
+    Ok(text)
+}
+
+/// The same, where they are there.
 fn text_at<S: CharSource>(
     rt: &impl Abort,
     alloc: Global,
@@ -113,10 +127,10 @@ fn text_at<S: CharSource>(
     ensures { IfOk result (λ text. AreWithin (length (S.characters source.now)) (flat text)) }
 {
     let len = source.len();
-    assert!(rt; first < 100_000 && count < 100_000);
+    assert!(rt; first < 100_000);
+    assert!(rt; count < 100_000);
     assert!(rt; first + count <= len);
-    let text = Text::of_run(alloc, first, count, DEFAULT_LOOK)?;
-    Ok(text)
+    text_within(alloc, source, first, count)
 }
 
 /// A source of a menu, and then of a main text.
