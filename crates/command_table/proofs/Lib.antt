@@ -2,5 +2,5 @@ pub mod Deciding
 pub mod Gathering
 pub mod Runs
 pub mod Values
-pub mod Walking
+pub mod Window
 pub mod Words

@@ -1,19 +1,17 @@
 //! Which command is called at a position of a text.
-ghost use Rattle.std.specs.Prelude.{◌≡◌, ◌+◌, ◌-◌, ◌<◌, ◌≤◌, ◌^◌, length, drop, take, slice_get, Some, IfOk, IfSome};
-ghost use Rattle.std.specs.Prelude.{OnOk, min};
+ghost use Rattle.std.specs.Prelude.{◌≡◌, ◌+◌, ◌-◌, ◌<◌, ◌≤◌, ◌^◌, length, drop, take, min, IfOk, IfSome};
 ghost use Rattle.std.specs.List.{prefix_len};
 ghost use Rattle.sector_disk.specs.Trail.{CountsFault};
 ghost use Rattle.char_file.specs.Source.{OnlyReads};
 ghost use Rattle.event_bytes.specs.Bytes.{is_name_byte};
 ghost use Rattle.piece_ring.specs.Flat.{flat};
-ghost use Rattle.piece_ring.specs.Offsets.{AreWithin};
-ghost use Rattle.readers_scanners.specs.Reading.{contents, bytes};
+ghost use Rattle.readers_scanners.specs.Reading.{bytes};
 ghost use Rattle.command_table.specs.Call.{word_begin, called_at};
 ghost use Rattle.command_table.specs.Parameters.{IsPlace};
 
 use crate::{ArrayVec, CharSource, Command, Fault, Text};
 use event_bytes::is_name_byte;
-use readers_scanners::{Look, Reader};
+use readers_scanners::Reader;
 
 /// How many bytes the longest word of a command has. A longer run of letters, digits and periods calls nothing.
 const LONGEST: u32 = 18;
@@ -66,45 +64,10 @@ fn bytes_from<S: CharSource>(
     let mut reader = Reader::open(text, start);
     let mut window = ArrayVec::new();
     for at in start..end {
-        let byte = next_byte(&mut reader, source)?;
+        let byte = reader.next_byte(source)?;
         window.push(byte);
     }
     Ok(window)
-}
-
-/// The character before which the reader stands; it stands after it then. `Fault`: the source failed in this call.
-fn next_character<S: CharSource>(
-    reader: &mut Reader<'_>,
-    source: &mut S,
-) -> Result<(u8, Look), Fault>
-    requires more { reader.old.position < length reader.old.text }
-    requires offsets { AreWithin (length (S.characters source.old)) reader.old.text }
-    ensures character { IfOk result (λ c. S.honest source.old
-        → slice_get (contents (S.characters source.old) reader.old.text) reader.old.position ≡ Some c) }
-    ensures moves { OnOk result (reader.new.position ≡ reader.old.position + 1) }
-    ensures text { reader.new.text ≡ reader.old.text }
-    ensures reads { OnlyReads S.characters S.failures S.honest S.same_ground source.old source.new }
-    ensures cause { CountsFault result (S.failures source.old) (S.failures source.new) }
-{
-    match reader.read(source)? {
-        Some(character) => Ok(character),
-        None => unreachable!(),
-    }
-}
-
-/// The byte before which the reader stands; it stands after it then. `Fault`: the source failed in this call.
-fn next_byte<S: CharSource>(reader: &mut Reader<'_>, source: &mut S) -> Result<u8, Fault>
-    requires more { reader.old.position < length reader.old.text }
-    requires offsets { AreWithin (length (S.characters source.old)) reader.old.text }
-    ensures byte { IfOk result (λ byte. S.honest source.old
-        → slice_get (bytes (S.characters source.old) reader.old.text) reader.old.position ≡ Some byte) }
-    ensures moves { OnOk result (reader.new.position ≡ reader.old.position + 1) }
-    ensures text { reader.new.text ≡ reader.old.text }
-    ensures reads { OnlyReads S.characters S.failures S.honest S.same_ground source.old source.new }
-    ensures cause { CountsFault result (S.failures source.old) (S.failures source.new) }
-{
-    let (byte, _) = next_character(reader, source)?;
-    Ok(byte)
 }
 
 /// The command that is called at a position of these bytes, and where its word ends.

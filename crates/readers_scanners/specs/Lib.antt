@@ -3,3 +3,4 @@ pub mod Form
 pub mod Passing
 pub mod Reading
 pub mod Symbol
+pub mod Walking

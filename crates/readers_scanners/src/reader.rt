@@ -2,7 +2,7 @@
 //!
 //! A clause sees a reader as the text, each of its characters by its offset in the source, and the position before
 //! which it stands.
-ghost use Rattle.std.specs.Prelude.{◌≡◌, ◌+◌, ◌<◌, ◌≤◌, min, length, IfOk, OnOk, OnErr};
+ghost use Rattle.std.specs.Prelude.{◌≡◌, ◌+◌, ◌<◌, ◌≤◌, min, length, Some, slice_get, IfOk, OnOk, OnErr};
 ghost use Rattle.sector_disk.specs.Trail.{CountsFault};
 ghost use Rattle.char_file.specs.Source.{OnlyReads};
 ghost use Rattle.piece_ring.specs.Flat.{flat};
@@ -39,7 +39,7 @@ impl<'a> Model for Reader<'a> {
 }
 
 impl<'a> Reader<'a> {
-    ghost use Rattle.readers_scanners.specs.Reading.{IsItem};
+    ghost use Rattle.readers_scanners.specs.Reading.{IsItem, contents, bytes};
 
     /// A reader of the text from the character at `pos` on.
     pub fn open(text: &'a Text, pos: u32) -> Reader<'a>
@@ -81,6 +81,39 @@ impl<'a> Reader<'a> {
             self.pass();
         }
         Ok(item)
+    }
+
+    /// The character at the position and its look; the reader then stands after it. `Fault`: the source failed in this
+    /// call.
+    pub fn next_character<S: CharSource>(&mut self, source: &mut S) -> Result<(u8, Look), Fault>
+        requires more { self.old.position < length self.old.text }
+        requires offsets { AreWithin (length (S.characters source.old)) self.old.text }
+        ensures character { IfOk result (λ c. S.honest source.old
+            → slice_get (contents (S.characters source.old) self.old.text) self.old.position ≡ Some c) }
+        ensures moves { OnOk result (self.new.position ≡ self.old.position + 1) }
+        ensures text { self.new.text ≡ self.old.text }
+        ensures reads { OnlyReads S.characters S.failures S.honest S.same_ground source.old source.new }
+        ensures cause { CountsFault result (S.failures source.old) (S.failures source.new) }
+    {
+        match self.read(source)? {
+            Some(character) => Ok(character),
+            None => unreachable!(),
+        }
+    }
+
+    /// The byte at the position; the reader then stands after it. `Fault`: the source failed in this call.
+    pub fn next_byte<S: CharSource>(&mut self, source: &mut S) -> Result<u8, Fault>
+        requires more { self.old.position < length self.old.text }
+        requires offsets { AreWithin (length (S.characters source.old)) self.old.text }
+        ensures byte { IfOk result (λ byte. S.honest source.old
+            → slice_get (bytes (S.characters source.old) self.old.text) self.old.position ≡ Some byte) }
+        ensures moves { OnOk result (self.new.position ≡ self.old.position + 1) }
+        ensures text { self.new.text ≡ self.old.text }
+        ensures reads { OnlyReads S.characters S.failures S.honest S.same_ground source.old source.new }
+        ensures cause { CountsFault result (S.failures source.old) (S.failures source.new) }
+    {
+        let (byte, _) = self.next_character(source)?;
+        Ok(byte)
     }
 
     /// The character at the position and its look. None at the end of the text. The reader stays. `Fault`: the source

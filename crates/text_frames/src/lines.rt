@@ -1,52 +1,16 @@
 //! Lines of a text, read character after character.
-ghost use Rattle.std.specs.Prelude.{◌≡◌, ℕ, ◌+◌, ◌-◌, ◌/◌, ◌^◌, ◌<◌, ◌≤◌, ◌∷◌, Some, length, take};
-ghost use Rattle.std.specs.Prelude.{slice_get, slice_index};
-ghost use Rattle.std.specs.Prelude.{IfOk, OnOk, if◌then◌else◌};
+ghost use Rattle.std.specs.Prelude.{◌≡◌, ℕ, ◌+◌, ◌-◌, ◌/◌, ◌^◌, ◌<◌, ◌≤◌, ◌∷◌, length, take, slice_index, IfOk};
+ghost use Rattle.std.specs.Prelude.{if◌then◌else◌};
 ghost use Rattle.sector_disk.specs.Trail.{CountsFault};
 ghost use Rattle.char_file.specs.Source.{OnlyReads};
 ghost use Rattle.piece_ring.specs.Flat.{flat};
 ghost use Rattle.piece_ring.specs.Offsets.{AreWithin};
-ghost use Rattle.readers_scanners.specs.Reading.{contents, bytes};
+ghost use Rattle.readers_scanners.specs.Reading.{bytes};
 ghost use Rattle.text_frames.specs.Lines.{is_return, line_start, line_above};
 
-use crate::{CharSource, Fault, Look, Text};
+use crate::{CharSource, Fault, Text};
 use event_bytes::CARRIAGE_RETURN;
 use readers_scanners::Reader;
-
-/// The character before which the reader stands; it stands after it then. `Fault`: the source failed in this call.
-pub(crate) fn next_character<S: CharSource>(
-    reader: &mut Reader<'_>,
-    source: &mut S,
-) -> Result<(u8, Look), Fault>
-    requires more { reader.old.position < length reader.old.text }
-    requires offsets { AreWithin (length (S.characters source.old)) reader.old.text }
-    ensures character { IfOk result (λ c. S.honest source.old
-        → slice_get (contents (S.characters source.old) reader.old.text) reader.old.position ≡ Some c) }
-    ensures moves { OnOk result (reader.new.position ≡ reader.old.position + 1) }
-    ensures text { reader.new.text ≡ reader.old.text }
-    ensures reads { OnlyReads S.characters S.failures S.honest S.same_ground source.old source.new }
-    ensures cause { CountsFault result (S.failures source.old) (S.failures source.new) }
-{
-    match reader.read(source)? {
-        Some(character) => Ok(character),
-        None => unreachable!(),
-    }
-}
-
-/// The byte before which the reader stands; it stands after it then. `Fault`: the source failed in this call.
-pub(crate) fn next_byte<S: CharSource>(reader: &mut Reader<'_>, source: &mut S) -> Result<u8, Fault>
-    requires more { reader.old.position < length reader.old.text }
-    requires offsets { AreWithin (length (S.characters source.old)) reader.old.text }
-    ensures byte { IfOk result (λ byte. S.honest source.old
-        → slice_get (bytes (S.characters source.old) reader.old.text) reader.old.position ≡ Some byte) }
-    ensures moves { OnOk result (reader.new.position ≡ reader.old.position + 1) }
-    ensures text { reader.new.text ≡ reader.old.text }
-    ensures reads { OnlyReads S.characters S.failures S.honest S.same_ground source.old source.new }
-    ensures cause { CountsFault result (S.failures source.old) (S.failures source.new) }
-{
-    let (byte, _) = next_character(reader, source)?;
-    Ok(byte)
-}
 
 /// Where the line of the position starts: at 0, or after the last carriage return before it. `Fault`: the source failed
 /// in this call.
@@ -62,7 +26,7 @@ pub fn line_start<S: CharSource>(text: &Text, pos: u32, source: &mut S) -> Resul
     let mut reader = Reader::open(text, 0);
     let mut start = 0;
     for at in 0..pos {
-        let byte = next_byte(&mut reader, source)?;
+        let byte = reader.next_byte(source)?;
         start = start_behind(byte, at, start);
     }
     Ok(start)
@@ -112,7 +76,7 @@ pub(crate) fn lines_above<S: CharSource>(
     let mut reader = Reader::open(text, 0);
     let mut starts = [0; REMEMBERED];
     for at in 0..pos {
-        let byte = next_byte(&mut reader, source)?;
+        let byte = reader.next_byte(source)?;
         pass(&mut starts, byte, at);
     }
     Ok(starts)

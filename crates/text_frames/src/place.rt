@@ -8,7 +8,6 @@ ghost use Rattle.piece_ring.specs.Offsets.{AreWithin};
 ghost use Rattle.readers_scanners.specs.Reading.{bytes};
 ghost use Rattle.text_frames.specs.Cells.{column_after, row_of, column_of, position_at};
 
-use crate::lines::next_byte;
 use crate::{CharSource, Fault, Text};
 use event_bytes::{CARRIAGE_RETURN, TABULATOR};
 use readers_scanners::Reader;
@@ -92,7 +91,7 @@ pub(crate) fn place_of<S: CharSource>(
     let mut reader = Reader::open(text, org);
     let mut place = Place { row: 0, column: 0 };
     for at in org..pos {
-        let byte = next_byte(&mut reader, source)?;
+        let byte = reader.next_byte(source)?;
         place.pass(byte);
     }
     Ok(place)
@@ -119,7 +118,7 @@ pub(crate) fn position_at<S: CharSource>(
     let mut place = Place { row: 0, column: 0 };
     let len = text.len();
     for at in org..len {
-        let byte = next_byte(&mut reader, source)?;
+        let byte = reader.next_byte(source)?;
         place.pass(byte);
         if !place.comes_by(column, row) {
             return Ok(at);

@@ -9,7 +9,6 @@ ghost use Rattle.piece_ring.specs.Offsets.{AreWithin};
 ghost use Rattle.readers_scanners.specs.Reading.{contents};
 ghost use Rattle.text_frames.specs.Row.{cells_taken, row_cells, IsOfText};
 
-use crate::lines::next_character;
 use crate::place::{Place, column_after};
 use crate::{CharSource, Fault, Look, Text};
 use arrayvec::ArrayVec;
@@ -81,7 +80,7 @@ pub(crate) fn cells_of_row<S: CharSource>(
     let mut line = ArrayVec::new();
     let len = text.len();
     for at in org..len {
-        let (byte, look) = next_character(&mut reader, source)?;
+        let (byte, look) = reader.next_character(source)?;
         let count = cells_taken(&place, byte, row);
         fill(&mut line, (byte, look, at), count, w);
         place.pass(byte);

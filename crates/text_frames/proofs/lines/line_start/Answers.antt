@@ -4,7 +4,7 @@ use Rattle.piece_ring.specs.Flat.{flat}
 use Rattle.readers_scanners.specs.Reading.{bytes}
 use Rattle.text_frames.specs.Lines.{ends_line}
 use Rattle.text_frames.proofs.Greatest.{start_next}
-use Rattle.text_frames.proofs.Walking.{at_first, more, offsets, onward, seen}
+use Rattle.readers_scanners.specs.Walking.{at_first, more, offsets, onward, seen}
 use Rattle.text_frames.proofs.lines.line_start.Goals as goal
 
 pub loop-at-init : goal.loop-at-init

@@ -2,7 +2,7 @@ use Rattle.std.proofs.Common.{◌≡◌, ◌≤◌}
 use Rattle.piece_ring.specs.Flat.{flat}
 use Rattle.readers_scanners.specs.Reading.{bytes}
 use Rattle.text_frames.specs.Lines.{line_start}
-use Rattle.text_frames.proofs.Walking.{IsAt}
+use Rattle.readers_scanners.specs.Walking.{IsAt}
 use Rattle.text_frames.proofs.lines.line_start.Given as goal
 
 abbrev pub invariant-loop-at : goal.invariant-loop-at

@@ -2,7 +2,7 @@ use Rattle.piece_ring.specs.Flat.{flat}
 use Rattle.readers_scanners.specs.Reading.{bytes}
 use Rattle.text_frames.specs.Lines.{is_return}
 use Rattle.text_frames.proofs.Above.{starts_next, range_next}
-use Rattle.text_frames.proofs.Walking.{onward, seen}
+use Rattle.readers_scanners.specs.Walking.{onward, seen}
 use Rattle.text_frames.proofs.lines.lines_above.Goals as goal
 
 pub loop-at-preserved : goal.loop-at-preserved

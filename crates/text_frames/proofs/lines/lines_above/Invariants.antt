@@ -3,7 +3,7 @@ use Rattle.std.specs.Prelude.{slice_index}
 use Rattle.piece_ring.specs.Flat.{flat}
 use Rattle.readers_scanners.specs.Reading.{bytes}
 use Rattle.text_frames.specs.Lines.{line_above}
-use Rattle.text_frames.proofs.Walking.{IsAt}
+use Rattle.readers_scanners.specs.Walking.{IsAt}
 use Rattle.text_frames.proofs.lines.lines_above.Given as goal
 
 abbrev pub invariant-loop-at : goal.invariant-loop-at
