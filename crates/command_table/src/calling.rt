@@ -1,11 +1,8 @@
 //! Which command is called at a position of a text.
 ghost use Rattle.std.specs.Prelude.{◌≡◌, ◌+◌, ◌-◌, ◌<◌, ◌≤◌, ◌^◌, length, drop, take, min, IfOk, IfSome};
 ghost use Rattle.std.specs.List.{prefix_len};
-ghost use Rattle.sector_disk.specs.Trail.{CountsFault};
-ghost use Rattle.char_file.specs.Source.{OnlyReads};
+ghost use Rattle.readers_scanners.specs.Words.{CountsFault, OnlyReads, flat, bytes};
 ghost use Rattle.event_bytes.specs.Bytes.{is_name_byte};
-ghost use Rattle.piece_ring.specs.Flat.{flat};
-ghost use Rattle.readers_scanners.specs.Reading.{bytes};
 ghost use Rattle.command_table.specs.Call.{word_begin, called_at};
 ghost use Rattle.command_table.specs.Parameters.{IsPlace};
 

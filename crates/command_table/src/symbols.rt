@@ -1,9 +1,6 @@
 //! The symbols of a text, and what is asked of them.
 ghost use Rattle.std.specs.Prelude.{◌≡◌, ◌≤◌, length, IfOk};
-ghost use Rattle.sector_disk.specs.Trail.{CountsFault};
-ghost use Rattle.char_file.specs.Source.{OnlyReads};
-ghost use Rattle.piece_ring.specs.Flat.{flat};
-ghost use Rattle.piece_ring.specs.Offsets.{AreWithin};
+ghost use Rattle.readers_scanners.specs.Words.{CountsFault, OnlyReads, flat, AreWithin};
 ghost use Rattle.readers_scanners.specs.Form.{symbol as symbol_worked};
 ghost use Rattle.readers_scanners.specs.Reading.{bytes, MovesOn};
 ghost use Rattle.readers_scanners.specs.Symbol.{IsShaped};

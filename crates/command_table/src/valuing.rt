@@ -1,10 +1,7 @@
 //! The value parameter of a command.
 ghost use Rattle.std.specs.Prelude.{◌≡◌, length, IfOk, IfSome, MatchResult, None};
 ghost use Rattle.std.specs.Option.{option_map};
-ghost use Rattle.sector_disk.specs.Trail.{CountsFault};
-ghost use Rattle.char_file.specs.Source.{OnlyReads};
-ghost use Rattle.piece_ring.specs.Flat.{flat};
-ghost use Rattle.readers_scanners.specs.Reading.{bytes};
+ghost use Rattle.readers_scanners.specs.Words.{CountsFault, OnlyReads, flat, bytes};
 ghost use Rattle.readers_scanners.specs.Symbol.{IsShaped};
 ghost use Rattle.command_table.specs.Parameters.{IsPlace, IsValue, place_of, text_of, value, symbol_or};
 

@@ -45,7 +45,7 @@ index_within ns s h =
     (pieces ns) in omega arith
 
 module _ (ns : List (Ptr × Piece)) (s : Seam) (h : IsSeam ns s) where
-  -- the pieces behind it up to another seam are taken out
+  -- the pieces after it up to another seam are taken out
   pub kept-taken : (t : Seam) (ms : List (Ptr × Piece)) → ms ≡ take (s.index + 1) ns ++ drop (t.index + 1) ns
       → IsSeam ms s
   kept-taken t ms made =
@@ -77,11 +77,11 @@ module _ (ns : List (Ptr × Piece)) (s : Seam) (h : IsSeam ns s) where
         (ap (take s.index) joined ∙ take-append-le s.index (take s.index ps) (pieces os ++ drop s.index ps)
         (omega arith) ∙ take-take s.index s.index ps (omega arith)) h
 
-    -- the seam behind them
-    pub behind-joined : (first last : Ptr) (more long : ℕ) → IsStretch os first more long
+    -- the seam after them
+    pub after-joined : (first last : Ptr) (more long : ℕ) → IsStretch os first more long
         → slice_get (places os) (length os - 1) ≡ Some last
         → (t : Seam) → t.at.ptr ≡ last → t.index ≡ s.index + more → t.pos ≡ s.pos + long → IsSeam ms t
-    behind-joined first last more long o at t is_at is_index is_pos =
+    after-joined first last more long o at t is_at is_index is_pos =
         let w = seam_inside ns s h in let all = index_within ns s h in let upto = h.upto in let counted = o.counted in
         let measured = o.measured in
         let size = length-take-le s.index ps all in let nodes = length-take-le (s.index + 1) ns (omega arith) in

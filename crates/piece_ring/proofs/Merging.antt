@@ -51,22 +51,22 @@ module _ (ns : List (Ptr × Piece)) (trailer : Ptr) (count len : ℕ) (v : IsPie
     upto = λ w. absurd (omega (arith, w));
   }
 
-  pub kept-found : (pos : ℕ) (f : Found) → IsFound ns pos f → IsKeptAt (kept_pieces ns f.behind) pos
+  pub kept-found : (pos : ℕ) (f : Found) → IsFound ns pos f → IsKeptAt (kept_pieces ns f.after) pos
   kept-found pos f h =
       let next = h.next in let low = h.from in let high = h.upto in let front = h.before.upto in
-      let whole = h.behind.upto in
-      let same : length (flat (take (f.behind.index - 1) (pieces_of ns)))
+      let whole = h.after.upto in
+      let same : length (flat (take (f.after.index - 1) (pieces_of ns)))
       ≡ length (flat (take f.before.index (pieces_of ns))) =
-      ap (λ n. length (flat (take n (pieces_of ns)))) (let e : f.behind.index - 1
+      ap (λ n. length (flat (take n (pieces_of ns)))) (let e : f.after.index - 1
       ≡ f.before.index = omega arith in e) in
       record { end = λ e. absurd (omega (arith, e)); from = λ _. omega arith; upto = λ _. omega arith }
 
   -- no pieces meet inside a piece
   pub merged-inside : (pos : ℕ) (f : Found) → IsFound ns pos f → f.before.pos < pos → IsMergedAt (pieces_of ns) pos
   merged-inside pos f h inside k p q e g at c =
-      let next = h.next in let high = h.upto in let front = h.before.upto in let whole = h.behind.upto in
+      let next = h.next in let high = h.upto in let front = h.before.upto in let whole = h.after.upto in
       let a = index_order (pieces_of ns) f.before.index (k + 1) (omega arith) in let b = index_order (pieces_of ns)
-      (k + 1) f.behind.index (omega arith) in omega arith
+      (k + 1) f.after.index (omega arith) in omega arith
 
   module _ (s : Seam) (h : IsSeam ns s) where
     -- pieces that meet at the seam's position are those beside it
@@ -258,7 +258,7 @@ module _ (ns : List (Ptr × Piece)) (trailer : Ptr) (count len : ℕ) (v : IsPie
       old_get : (n : ℕ) → slice_get ps (k + n) ≡ slice_get (x ∷ y ∷ back) n
       old_get n = (λ i. slice_get (was i) (sym front_long i + n)) ∙ get-append front (x ∷ y ∷ back) n
 
-      -- neighbours behind it are those of before
+      -- neighbours after it are those of before
       elsewhere : (d at : ℕ) → IsMergedAt ps at → (p q : Piece) → slice_get (m ∷ back) d ≡ Some p
           → slice_get (m ∷ back) (suc d) ≡ Some q → length (flat (take (k + (1 + d)) (pieces_of ms))) ≡ at
           → Continues p q → ⊥

@@ -30,7 +30,7 @@ piece_count [] trailer count len v = let e = v.trailer_first in cc
 piece_count (n ∷ ns) trailer count len v = let long = length-map ns (λ (m : Ptr × Piece). m.1) in let c = v.counted in
     omega arith
 
--- a seam before the text's end has a piece behind it
+-- a seam before the text's end has a piece after it
 pub seam_index : (ns : List (Ptr × Piece)) (trailer : Ptr) (count len : ℕ) (s : Seam)
     → IsPieceList ns trailer count len → IsSeam ns s → s.pos < len → s.index < count
 seam_index ns trailer count len s v h w =
@@ -43,7 +43,7 @@ pub behind_trailer : (ns : List (Ptr × Piece)) (k : ℕ) (x : Piece) → slice_
 behind_trailer [] k x e = let same = add-one k in cc
 behind_trailer (n ∷ ns) k x e = ap (slice_get (n.1 ∷ pieces ns)) (sym (add-one k)) ∙ e
 
--- the seam behind the next piece
+-- the seam after the next piece
 pub seam-next : (ns : List (Ptr × Piece)) (s t : Seam) (x : Piece) → IsSeam ns s → slice_get (places ns) (s.index + 1)
     ≡ Some t.at.ptr → slice_get (pieces ns) (s.index + 1) ≡ Some x
     → t.index ≡ s.index + 1 → t.pos ≡ s.pos + x.len → IsSeam ns t

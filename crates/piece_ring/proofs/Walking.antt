@@ -113,34 +113,34 @@ module _ (ns : List (Ptr × Piece)) (trailer : Ptr) (count len pos : ℕ) (v : I
       ∙ sym (drop_all pos (text_of ns) (omega (arith, e)))
 
   module _ (f : Found) (h : IsFound ns pos f) where
-    abbrev cut : Cut ns f.behind.index f.behind.at.ptr
-    cut = cut_at ns f.behind.index f.behind.at.ptr h.behind.place
+    abbrev cut : Cut ns f.after.index f.after.at.ptr
+    cut = cut_at ns f.after.index f.after.at.ptr h.after.place
 
-    is : slice_get (pieces ns) f.behind.index ≡ Some cut.piece
-    is = piece_is ns f.behind.index f.behind.at.ptr cut
+    is : slice_get (pieces ns) f.after.index ≡ Some cut.piece
+    is = piece_is ns f.after.index f.after.at.ptr cut
 
-    pub at_found : IsCursor ns f.behind.at.ptr f.behind.index (pos - f.before.pos) 0
+    pub at_found : IsCursor ns f.after.at.ptr f.after.index (pos - f.before.pos) 0
     at_found =
-        let next = h.next in let w = slice_get_within (pieces ns) f.behind.index cut.piece is in
+        let next = h.next in let w = slice_get_within (pieces ns) f.after.index cut.piece is in
         let long = length-map ns (λ (m : Ptr × Piece). m.1) in record {
           started = omega arith;
           bounded = omega arith;
-          place = λ _. h.behind.place;
+          place = λ _. h.after.place;
           inside = λ p e. let l = found_long ns trailer count len pos f p v h e in let low = h.from in
               let high = h.upto in omega arith;
           linked = omega arith;
         }
 
-    pub found-text : flat (shortened (pos - f.before.pos) (drop f.behind.index (pieces ns))) ≡ drop pos (text_of ns)
+    pub found-text : flat (shortened (pos - f.before.pos) (drop f.after.index (pieces ns))) ≡ drop pos (text_of ns)
     found-text =
         let n : ℕ = pos - f.before.pos in let low = h.from in let high = h.upto in let span : f.before.pos + n
         ≡ pos = omega arith in
         let long = found_long ns trailer count len pos f cut.piece v h is in
-        let rest = drop f.behind.index (pieces ns) in
+        let rest = drop f.after.index (pieces ns) in
         let here : drop f.before.index (pieces_of ns) ≡ rest = drop-drop 1 f.before.index (pieces ns)
         ∙ ap (λ i. drop i (pieces ns)) (let next = h.next in let e : 1 + f.before.index
-        ≡ f.behind.index = omega arith in e) in
+        ≡ f.after.index = omega arith in e) in
         ap (λ m. flat (shortened m rest)) (sym (zero-add n))
-        ∙ passed_within (pieces ns) f.behind.index 0 cut.piece is (shortened 0 rest) refl n (omega arith)
+        ∙ passed_within (pieces ns) f.after.index 0 cut.piece is (shortened 0 rest) refl n (omega arith)
         ∙ ap (drop n) (flat-shortened-none rest ∙ ap flat (sym here) ∙ sym (seam-drop ns f.before h.before))
         ∙ drop-drop f.before.pos n (text_of ns) ∙ ap (λ m. drop m (text_of ns)) span

@@ -16,7 +16,7 @@ use std::marker::Model;
 pub struct Cursor<'a> {
     pub(crate) list: &'a PieceList,
     pub(crate) at: Spot,
-    // The index of the node at `at`; behind the last piece it is one more than the number of
+    // The index of the node at `at`; after the last piece it is one more than the number of
     // pieces.
     pub(crate) index: usize,
     // The number of the piece's characters that were passed.

@@ -11,7 +11,7 @@
 //!   and pieces on their way.
 //! - `ring`, `cursor`: what callers see.
 //!
-//! `NoMemory` is answered where memory for a node is refused. What stands then is said with each
+//! `NoMemory` is returned where memory for a node is refused. What stands then is said with each
 //! call.
 #![tactic(auto)]
 
@@ -23,8 +23,6 @@ mod place;
 mod ring;
 mod spare;
 mod stretch;
-#[cfg(test)]
-mod tests;
 
 pub use cursor::Cursor;
 pub use piece::{DEFAULT_LOOK, Look, Piece};

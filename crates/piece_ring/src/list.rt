@@ -63,7 +63,7 @@ impl PieceList {
         }
     }
 
-    /// The seam behind the last piece.
+    /// The seam after the last piece.
     pub(crate) fn end(&self) -> Seam
         ensures seam { IsSeam self.now.chain.nodes result }
         ensures last { result.pos ≡ self.now.len }
@@ -75,11 +75,11 @@ impl PieceList {
         }
     }
 
-    /// The seam behind the piece that follows `seam`.
+    /// The seam after the piece that follows `seam`.
     pub(crate) fn step(&self, seam: Seam) -> Seam
         requires seam { IsSeam self.now.chain.nodes seam }
         requires more { seam.pos < self.now.len }
-        ensures behind { IsSeam self.now.chain.nodes result }
+        ensures after { IsSeam self.now.chain.nodes result }
         ensures next { result.index ≡ seam.index + 1 }
     {
         let at = self.chain.next(seam.at, seam.index);
@@ -107,7 +107,7 @@ impl PieceList {
         }
     }
 
-    /// The piece that has the character at `pos`, which is behind `from`, by a walk towards the end.
+    /// The piece that has the character at `pos`, which is after `from`, by a walk towards the end.
     fn find_ahead(&self, from: Seam, pos: u32) -> Found
         requires from { IsSeam self.now.chain.nodes from }
         requires order { from.pos ≤ pos }
@@ -115,15 +115,15 @@ impl PieceList {
         ensures { IsFound self.now.chain.nodes pos result }
     {
         let mut before = from;
-        let mut behind = self.step(before);
-        while behind.pos <= pos {
-            before = behind;
-            behind = self.step(before);
+        let mut after = self.step(before);
+        while after.pos <= pos {
+            before = after;
+            after = self.step(before);
         }
         Found {
             before,
-            behind,
-            links: behind.index - from.index,
+            after,
+            links: after.index - from.index,
         }
     }
 
@@ -134,16 +134,16 @@ impl PieceList {
         requires order { pos < from.pos }
         ensures { IsFound self.now.chain.nodes pos result }
     {
-        let mut behind = from;
-        let mut before = self.step_back(behind);
+        let mut after = from;
+        let mut before = self.step_back(after);
         while pos < before.pos {
-            behind = before;
-            before = self.step_back(behind);
+            after = before;
+            before = self.step_back(after);
         }
         Found {
             before,
-            behind,
-            links: from.index - behind.index + 1,
+            after,
+            links: from.index - after.index + 1,
         }
     }
 
@@ -167,7 +167,7 @@ impl PieceList {
         if before.pos <= pos {
             return Found {
                 before,
-                behind: kept,
+                after: kept,
                 links: 0,
             };
         }
@@ -202,7 +202,7 @@ impl PieceList {
         if pos == self.len {
             return self.start();
         }
-        self.find(pos).behind
+        self.find(pos).after
     }
 
     /// Keeps the place of the piece that has the character at `pos`, or of the trailer at the end.
@@ -226,7 +226,7 @@ impl PieceList {
         ensures kept { (s : ASeam) → s.pos ≤ pos → IsSeam self.old.chain.nodes s
             → IsSeam self.new.chain.nodes s }
     {
-        let Seam { at, index, pos: _ } = found.behind;
+        let Seam { at, index, pos: _ } = found.after;
         let keep = pos - found.before.pos;
         let Piece { off, len, look } = self.chain.piece(at, index);
         let (mut node, second) = spare.into_node();
@@ -311,13 +311,13 @@ impl PieceList {
         Ok((from, upto))
     }
 
-    /// Puts pieces in at `seam`, and gives the seam behind them.
+    /// Puts pieces in at `seam`, and gives the seam after them.
     pub(crate) fn insert(&mut self, seam: Seam, other: Stretch) -> Seam
         requires seam { IsSeam self.old.chain.nodes seam }
         requires fits { self.old.len + other.len < 2 ^ 32 }
         ensures text { text_of self.new.chain.nodes
             ≡ inserted seam.pos (flat (pieces other.chain.nodes)) (text_of self.old.chain.nodes) }
-        ensures behind { IsSeam self.new.chain.nodes result }
+        ensures after { IsSeam self.new.chain.nodes result }
         ensures at { result.pos ≡ seam.pos + other.len }
     {
         let Stretch {
@@ -487,7 +487,7 @@ impl PieceList {
     }
 }
 
-/// Changes the looks of the pieces behind the node of index `i` up to that of index `j`.
+/// Changes the looks of the pieces after the node of index `i` up to that of index `j`.
 fn relook_nodes(chain: &mut Chain, at: Spot, i: usize, j: usize, sel: u8, look: Look)
     requires at { slice_get (places chain.old.nodes) i ≡ Some at.ptr }
     requires order { i ≤ j }

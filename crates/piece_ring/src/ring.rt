@@ -122,8 +122,8 @@ impl Ring {
         };
         let Ring { list, alloc: own } = other;
         let pieces = list.into_stretch(&own);
-        let behind = self.list.insert(seam, pieces);
-        self.list.merge(&alloc, behind);
+        let after = self.list.insert(seam, pieces);
+        self.list.merge(&alloc, after);
         self.list.settle(&alloc, pos);
         Ok(())
     }
@@ -223,8 +223,8 @@ impl Ring {
         let found = self.list.find(pos);
         Cursor {
             list: &self.list,
-            at: found.behind.at,
-            index: found.behind.index,
+            at: found.after.at,
+            index: found.after.index,
             within: pos - found.before.pos,
             links: 0,
             walked: found.links as u32,
@@ -232,7 +232,7 @@ impl Ring {
     }
 
     /// Frees all nodes, and says how many there were: one for each piece, and the trailer.
-    pub(crate) fn destroy(self) -> usize
+    pub fn destroy(self) -> usize
         ensures { result ≡ length self.pieces + 1 }
     {
         let Ring { list, alloc } = self;

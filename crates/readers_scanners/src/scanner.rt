@@ -3,10 +3,7 @@
 //! A clause sees a scanner as the text and the position at which the last symbol ended.
 ghost use Rattle.std.specs.Prelude.{ℕ, ◌≡◌, ◌-◌, ◌≤◌, ◌^◌, ◌∷◌, [], ◌++◌, List, min};
 ghost use Rattle.std.specs.Prelude.{length, take, IsTrue, IfOk, OnErr};
-ghost use Rattle.sector_disk.specs.Trail.{CountsFault};
-ghost use Rattle.char_file.specs.Source.{OnlyReads};
-ghost use Rattle.piece_ring.specs.Flat.{flat};
-ghost use Rattle.piece_ring.specs.Offsets.{AreWithin};
+ghost use Rattle.readers_scanners.specs.Words.{CountsFault, OnlyReads, flat, AreWithin};
 ghost use Rattle.readers_scanners.specs.Form.{number_symbol as number_form};
 
 use crate::bytes::{Class, digit_value, is_tail};

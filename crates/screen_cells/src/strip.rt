@@ -1,11 +1,7 @@
 //! What a track shows in a row.
 ghost use Rattle.std.specs.Prelude.{◌≡◌, ◌+◌, ◌<◌, ◌≤◌, ◌-◌, ◌==◌, ℕ, false, length, map, slice_get, All, IfOk, IfSome};
 ghost use Rattle.std.specs.List.{position_or_len};
-ghost use Rattle.sector_disk.specs.Trail.{CountsFault};
-ghost use Rattle.char_file.specs.Source.{OnlyReads};
-ghost use Rattle.piece_ring.specs.Flat.{flat};
-ghost use Rattle.piece_ring.specs.Offsets.{AreWithin};
-ghost use Rattle.readers_scanners.specs.Reading.{bytes, contents};
+ghost use Rattle.readers_scanners.specs.Words.{CountsFault, OnlyReads, flat, AreWithin, bytes, contents};
 ghost use Rattle.text_frames.specs.Cells.{cell_of};
 ghost use Rattle.text_frames.specs.Row.{row_cells};
 ghost use Rattle.viewer_tracks.specs.Display.{left_of};
@@ -251,39 +247,6 @@ fn caret_at<S: CharSource>(
     cell_of_position(shown.frame, shown.main, w, h, p, source)
 }
 
-/// A row of the main frame of a viewer of that width and these rows.
-fn frame_strip<S: CharSource>(
-    shown: &Shown<'_>,
-    width: u8,
-    bottom: u8,
-    top: u8,
-    y: u8,
-    source: &mut S,
-) -> Result<Strip, Fault>
-    requires some { 0 < width }
-    requires fits { width ≤ 50 }
-    requires display { top ≤ ROWS }
-    requires from { bottom ≤ y }
-    requires under_menu { y + 1 < top }
-    requires showable { IsShowable (length (S.characters source.old)) shown.now }
-    ensures strip { IfOk result (λ strip. S.honest source.old → (column : ℕ) → strip_cell strip column
-        ≡ viewer_cell (as_read (S.characters source.old) shown.now) width bottom top column y) }
-    ensures reads { OnlyReads S.characters S.failures S.honest S.same_ground source.old source.new }
-    ensures cause { CountsFault result (S.failures source.old) (S.failures source.new) }
-{
-    let h = top - bottom - 1;
-    let row = top - 2 - y;
-    let line = cells_of_row(shown.frame, shown.main, width - 1, h, row, source)?;
-    let caret = caret_at(shown, width - 1, h, source)?;
-    let selection = shown.frame.selection;
-    Ok(Strip::Frame(FrameRow {
-        line,
-        caret,
-        selection,
-        row,
-    }))
-}
-
 /// The menu row `y` of a viewer of that width whose rows begin at `bottom`.
 fn menu_strip<S: CharSource>(
     shown: &Shown<'_>,
@@ -311,7 +274,8 @@ fn menu_strip<S: CharSource>(
     Ok(Strip::Menu(line))
 }
 
-/// A row of a viewer of that width and these rows.
+/// A row of a viewer of that width and these rows: of its menu, or of its main frame. `Fault`: the source failed in
+/// this call.
 fn viewer_strip<S: CharSource>(
     shown: &Shown<'_>,
     width: u8,
@@ -332,10 +296,19 @@ fn viewer_strip<S: CharSource>(
     ensures cause { CountsFault result (S.failures source.old) (S.failures source.new) }
 {
     if y + 1 == top {
-        menu_strip(shown, width, bottom, y, source)
-    } else {
-        frame_strip(shown, width, bottom, top, y, source)
+        return menu_strip(shown, width, bottom, y, source);
     }
+    let h = top - bottom - 1;
+    let row = top - 2 - y;
+    let line = cells_of_row(shown.frame, shown.main, width - 1, h, row, source)?;
+    let caret = caret_at(shown, width - 1, h, source)?;
+    let selection = shown.frame.selection;
+    Ok(Strip::Frame(FrameRow {
+        line,
+        caret,
+        selection,
+        row,
+    }))
 }
 
 /// The width of a track.

@@ -1,11 +1,7 @@
 //! A frame, and the rules by which it follows its text.
 ghost use Rattle.std.specs.Prelude.{◌≡◌, ◌⊎◌, ◌+◌, ◌^◌, ◌<◌, ◌≤◌, ◌==◌, Some, length};
 ghost use Rattle.std.specs.Prelude.{IfOk, IfSome, OnOk, OnErr, if◌then◌else◌};
-ghost use Rattle.sector_disk.specs.Trail.{CountsFault};
-ghost use Rattle.char_file.specs.Source.{OnlyReads};
-ghost use Rattle.piece_ring.specs.Flat.{flat};
-ghost use Rattle.piece_ring.specs.Offsets.{AreWithin};
-ghost use Rattle.readers_scanners.specs.Reading.{bytes};
+ghost use Rattle.readers_scanners.specs.Words.{CountsFault, OnlyReads, flat, AreWithin, bytes};
 ghost use Rattle.text_frames.specs.Cells.{IsPositionAt, IsCellOf};
 ghost use Rattle.text_frames.specs.Row.{IsRow};
 ghost use Rattle.text_frames.specs.Rules.{moved, changed_org, is_shown, IsFollowed, IsBrought};

@@ -147,7 +147,7 @@ changed-staying es y i z m low =
     ap (λ b. cond b (lifted z) t) (sym (le-ltb _ _ low))
     ∙ ap (λ n. cond (nat_lt (bottom_of t i) n) (lifted n) t) m.to
 
--- for `close`, with no answer of its own
+-- for `close`, which has no proof file of its own
 pub closed_edges : (es : List Edge) (i : ℕ) → Rises 0 es → i < length es
     → entries_from 0 (remove es i) ≡ closed (entries_from 0 es) i
 closed_edges = closed-entries_from

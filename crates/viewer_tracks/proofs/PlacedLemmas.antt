@@ -15,7 +15,7 @@ use Rattle.viewer_tracks.specs.Viewers.{times_in, entry_of, number_of}
 use Rattle.viewer_tracks.specs.Edits.{with_entry, with_height, with_viewer, open_entry, open_top, takes_place, opened}
 use Rattle.viewer_tracks.specs.Edits.{replaced, closed}
 use Rattle.viewer_tracks.specs.Columns.{Columns, IsColumns, IsPlaced, times_placed, times_meant, shown, StandsAt}
-use Rattle.viewer_tracks.specs.Columns.{seen_at, replaced_at, after_open, after_change, after_close}
+use Rattle.viewer_tracks.specs.Columns.{seen_at, replaced_at, after_open, after_change, after_close, track_of}
 use Rattle.viewer_tracks.specs.Edges.{entries_from, Rises}
 use Rattle.viewer_tracks.proofs.Positions.{counted}
 use Rattle.viewer_tracks.proofs.Once.{one_if, times_in-cons, times_in-with_height, times_in-changed}
@@ -259,6 +259,24 @@ close_places c v w =
     (cases_lt 0 (times_in v u)))
     c
 
+stands_in : (v x y : ℕ) (u s : List Entry) (k : Track) → track_at x ≡ k → Seen (shown (columns u s) k) v y
+    → times_in v (shown (columns u s) k) ≤ 1 → track_of (columns u s) v ≡ k → IsPlaced v (columns u s)
+    → StandsAt (columns u s) v x y
+stands_in v x y u s k at seen one of placed = record {
+  placed = placed;
+  track = of ∙ sym at;
+  from = omega (
+    arith,
+    seen.from one,
+    ap (λ (k : Track). bottom_of (shown (columns u s) k) (entry_of (shown (columns u s) k) v)) of,
+  );
+  before = omega (
+    arith,
+    seen.before one,
+    ap (λ (k : Track). top_of (shown (columns u s) k) (entry_of (shown (columns u s) k) v)) of,
+  );
+}
+
 seen_case : (v x y : ℕ) (u s : List Entry) (k : Track) → track_at x ≡ k → IsColumns (columns u s)
     → seen_at (columns u s) x y ≡ Some v
     → StandsAt (columns u s) v x y
@@ -266,22 +284,10 @@ seen_case v x y u s User at sound is =
     let seen = seen_in u v y (user_track u s sound) (sym (ap (λ (k : Track). viewer_at (shown (columns u s) k) y) at)
     ∙ is) in
     let once = sound.once v in
+    let some = seen.some in
     let one : times_in v u ≤ 1 = omega arith in
-    let k = track_of_user u s v seen.some in
-    record {
-      placed = omega (arith, seen.some);
-      track = k ∙ sym at;
-      from = omega (
-        arith,
-        seen.from one,
-        ap (λ (k : Track). bottom_of (shown (columns u s) k) (entry_of (shown (columns u s) k) v)) k,
-      );
-      before = omega (
-        arith,
-        seen.before one,
-        ap (λ (k : Track). top_of (shown (columns u s) k) (entry_of (shown (columns u s) k) v)) k,
-      );
-    }
+    let placed : IsPlaced v (columns u s) = omega (arith, some) in
+    stands_in v x y u s User at seen one (track_of_user u s v some) placed
 seen_case v x y u s System at sound is =
     let seen = seen_in s v y (system_track u s sound)
     (sym (ap (λ (k : Track). viewer_at (shown (columns u s) k) y) at) ∙ is) in
@@ -289,21 +295,8 @@ seen_case v x y u s System at sound is =
     let some = seen.some in
     let one : times_in v s ≤ 1 = omega arith in
     let none : times_in v u ≤ 0 = omega arith in
-    let k = track_of_system u s v none in
-    record {
-      placed = omega arith;
-      track = k ∙ sym at;
-      from = omega (
-        arith,
-        seen.from one,
-        ap (λ (k : Track). bottom_of (shown (columns u s) k) (entry_of (shown (columns u s) k) v)) k,
-      );
-      before = omega (
-        arith,
-        seen.before one,
-        ap (λ (k : Track). top_of (shown (columns u s) k) (entry_of (shown (columns u s) k) v)) k,
-      );
-    }
+    let placed : IsPlaced v (columns u s) = omega (arith, some) in
+    stands_in v x y u s System at seen one (track_of_system u s v none) placed
 
 pub seen_placed : (c : Columns) (v x y : ℕ) → IsColumns c → seen_at c x y ≡ Some v → StandsAt c v x y
 seen_placed c v x y =

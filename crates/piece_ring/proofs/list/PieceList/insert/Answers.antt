@@ -1,7 +1,7 @@
 use Rattle.std.proofs.Common.{refl, arith}
 use Rattle.piece_ring.proofs.Seams.{few_pieces, few_taken, seam_within}
 use Rattle.piece_ring.proofs.Moving.{seam_inside, joined-text, joined-list}
-use Rattle.piece_ring.proofs.Keeping.{kept-joined, behind-joined}
+use Rattle.piece_ring.proofs.Keeping.{kept-joined, after-joined}
 use Rattle.piece_ring.proofs.list.PieceList.insert.Goals as goal
 
 pub overflow_add-self : goal.overflow_add-self
@@ -42,7 +42,7 @@ returns c =
     record {
       text = joined-text l.chain.nodes l.trailer.ptr l.count l.len l.sound c.args.seam c.requires.seam o.chain.nodes
           o.first.ptr o.count o.len o.sound c.requires.fits c.join.new.self.nodes c.join.ensures;
-      behind = behind-joined l.chain.nodes c.args.seam c.requires.seam o.chain.nodes c.join.new.self.nodes
+      after = after-joined l.chain.nodes c.args.seam c.requires.seam o.chain.nodes c.join.new.self.nodes
           c.join.ensures o.first.ptr c.prev-last.result.ptr o.count o.len o.sound
           (c.prev-last.ensures.last refl) _ refl refl refl;
       at = refl;
