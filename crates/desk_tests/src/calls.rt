@@ -1,11 +1,9 @@
 //! Words that are called, and the parameters after them.
 
-use crate::sources::{fails_after, text_of};
-use char_file::{CharFile, CharSource};
-use command_table::{
-    Command, Name, Symbol, called, first_names_decide, names, one_word_each, params,
-    word_is_longest,
-};
+use crate::sources::text_of;
+use char_file::CharFile;
+use command_table::{Command, Name, Symbol, called, first_names_decide, names, one_word_each};
+use command_table::{params, word_is_longest};
 use std::alloc::{AllocError, Global};
 use std::process::Abort;
 use std::test::Fail;
@@ -79,32 +77,22 @@ fn words_that_call(rt: HostRuntime) -> Result<(), Fail> {
             19,
             Some((Command::SystemDeleteFiles, 20)),
         ),
+        ("", 0, None),
+        ("Edit.Open ^", 9, None),
+        ("Edit.Open ^", 10, None),
+        ("Edit.Open ^", 11, None),
+        ("Edit.Open", 9, None),
+        ("xSystem.Close", 3, None),
+        ("System.Close.", 3, None),
+        ("2System.Close", 3, None),
+        ("System.close", 3, None),
+        ("xSystem.DeleteFiles", 18, None),
+        ("System.DeleteFilesx", 0, None),
+        ("System.Collect", 0, None),
+        ("System.Close\tx", 12, None),
     ];
     for (bytes, pos, wanted) in table {
-        assert_eq!(rt; call(&rt, rt.alloc(), bytes, pos)?, wanted);
-    }
-    Ok(())
-}
-
-#[test]
-fn words_that_do_not_call(rt: HostRuntime) -> Result<(), Fail> {
-    let table = [
-        ("", 0),
-        ("Edit.Open ^", 9),
-        ("Edit.Open ^", 10),
-        ("Edit.Open ^", 11),
-        ("Edit.Open", 9),
-        ("xSystem.Close", 3),
-        ("System.Close.", 3),
-        ("2System.Close", 3),
-        ("System.close", 3),
-        ("xSystem.DeleteFiles", 18),
-        ("System.DeleteFilesx", 0),
-        ("System.Collect", 0),
-        ("System.Close\tx", 12),
-    ];
-    for (bytes, pos) in table {
-        assert_eq!(rt; call(&rt, rt.alloc(), bytes, pos)?, None);
+        assert!(rt; call(&rt, rt.alloc(), bytes, pos)? == wanted);
     }
     Ok(())
 }
@@ -166,20 +154,20 @@ fn values(rt: HostRuntime) -> Result<(), Fail> {
     ];
     for (bytes, pos, sel, marked, wanted) in table {
         let found = value(&rt, rt.alloc(), bytes, pos, sel, marked)?;
-        assert_eq!(rt; found.as_slice(), wanted.as_bytes(), "{bytes}");
+        assert!(rt; found.as_slice() == wanted.as_bytes());
     }
     Ok(())
 }
 
 /// The list of names at a position of a text of these bytes, which is the selection's too: each name with a space
-/// after it, or the code. And how many names it has.
+/// after it, or the code.
 fn list(
     rt: &impl Abort,
     alloc: Global,
     bytes: &[u8],
     pos: u32,
     sel: Option<u32>,
-) -> Result<(Vec<u8>, usize), Fail> {
+) -> Result<Vec<u8>, Fail> {
     let mut source = CharFile::new(alloc);
     let text = text_of(rt, alloc, &mut source, bytes)?;
     assert!(rt; pos <= text.len());
@@ -188,8 +176,8 @@ fn list(
         _ => None,
     };
     match names(&text, pos, sel, &mut source)? {
-        Ok(names) => Ok((joined(alloc, names.as_slice())?, names.len())),
-        Err(code) => Ok((format!(in alloc; "no {code}")?.into_bytes(), 0)),
+        Ok(names) => Ok(joined(alloc, names.as_slice())?),
+        Err(code) => Ok(format!(in alloc; "no {code}")?.into_bytes()),
     }
 }
 
@@ -231,44 +219,23 @@ fn lists(rt: HostRuntime) -> Result<(), Fail> {
         ),
     ];
     for (bytes, pos, sel, wanted) in table {
-        let (found, _) = list(&rt, rt.alloc(), bytes.as_bytes(), pos, sel)?;
-        assert_eq!(rt; found.as_slice(), wanted.as_bytes(), "{bytes}");
+        let found = list(&rt, rt.alloc(), bytes.as_bytes(), pos, sel)?;
+        assert!(rt; found.as_slice() == wanted.as_bytes());
     }
     Ok(())
+}
+
+/// How many names a list of so many names gives.
+fn names_of(rt: &impl Abort, alloc: Global, count: usize) -> Result<usize, Fail> {
+    let bytes = "a ".repeat(alloc, count)?;
+    Ok(list(rt, alloc, bytes.as_bytes(), 0, None)?.len() / 2)
 }
 
 #[test]
 fn long_lists(rt: HostRuntime) -> Result<(), Fail> {
     first_names_decide();
     for (count, wanted) in [(256, 256), (257, 257), (258, 257), (300, 257)] {
-        let mut bytes = Vec::new(rt.alloc());
-        for _ in 0..count {
-            bytes.extend_from_slice(b"a ")?;
-        }
-        let (_, found) = list(&rt, rt.alloc(), bytes.as_slice(), 0, None)?;
-        assert_eq!(rt; found, wanted);
+        assert_eq!(rt; names_of(&rt, rt.alloc(), count)?, wanted);
     }
-    Ok(())
-}
-
-/// How many of three calls fail, where the read after so many fails.
-fn failing(rt: &impl Abort, alloc: Global, reads: u32) -> Result<usize, Fail> {
-    let mut source = fails_after(alloc, reads);
-    let text = text_of(rt, alloc, &mut source, b"Edit.Open ^ A B")?;
-    assert!(rt; text.len() == 15);
-    let call = called(&text, 0, &mut source);
-    let value = params(&text, 9, Some((&text, 12)), None, &mut source);
-    let list = names(&text, 9, Some((&text, 12)), &mut source);
-    let failed = [call.is_err(), value.is_err(), list.is_err()];
-    Ok(failed.iter().filter(|has_failed| **has_failed).count())
-}
-
-#[test]
-fn a_read_fails(rt: HostRuntime) -> Result<(), Fail> {
-    // 15 reads for the word, 2 and 2 for the value, 2 and 4 for the list
-    for reads in 0..25 {
-        assert_eq!(rt; failing(&rt, rt.alloc(), reads)?, 1);
-    }
-    assert_eq!(rt; failing(&rt, rt.alloc(), 25)?, 0);
     Ok(())
 }

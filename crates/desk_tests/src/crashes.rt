@@ -1,7 +1,7 @@
-//! Crashes of stores, tried one by one: every stop at a call of the disk, with every filling of the sectors that are
+//! Crashes of a store, tried one by one: every stop at a call of the disk, with every filling of the sectors that are
 //! pending then.
-use crate::stores::{beginning_with, event, found, fresh, opened, post, put, sector, with_events};
-use desk_journal::{Error, Store};
+use crate::stores::{FIRST, beginning_with, found, fresh, played, put, sector, with_events};
+use desk_journal::Store;
 use sector_disk::{Disk, Fuse, MemoryDisk, OneFault, Sector};
 use std::alloc::Global;
 use std::test::Fail;
@@ -16,40 +16,32 @@ const CALLS_TO_POST: u64 = 5;
 /// sync.
 const CALLS_TO_FORMAT: u64 = 8;
 
-/// Posts the second of the three events over a disk that fails at some call. Whether the post returned Fault, and the
-/// next one that the store must be opened again; and the disk.
-fn second_post<D: Disk + Drop>(alloc: Global, disk: D) -> Result<(bool, D), Fail> {
-    let event = event(1)?;
-    let mut store = opened(alloc, disk)?;
-    let failed = store.post(alloc, &event) == Err(Error::Fault);
-    let must_reopen = store.post(alloc, &event) == Err(Error::MustReopen);
-    Ok((failed && must_reopen, store.close()))
+/// Posts the second of the three events over a disk: what is said, and the disk.
+fn second_post<D: Disk + Drop>(alloc: Global, disk: D) -> (Vec<u8>, D) {
+    let mut written = Vec::new(alloc);
+    let disk = played(alloc, disk, b"file B.Text bc\n", &mut written);
+    (written, disk)
 }
 
-/// Whether the disk shows the first event of three, or the first two.
-fn has_one_or_two(alloc: Global, disk: MemoryDisk) -> Result<bool, Fail> {
-    let events = found(alloc, disk)?;
-    Ok(events == Some(1) || events == Some(2))
+/// Whether a second post over a fuse returns `Fault`, and the disk shows the first event of three, or the first two.
+fn fails_at(alloc: Global, call: u64) -> Result<bool, Fail> {
+    let (said, fuse) = second_post(alloc, Fuse::new(with_events(alloc, 1)?, call));
+    let events = found(alloc, fuse.into_inner())?;
+    Ok(said.as_slice() == b"fault\n".as_slice() && (events == Some(1) || events == Some(2)))
+}
+
+/// The same where one call alone fails.
+fn fails_once_at(alloc: Global, call: u64) -> Result<bool, Fail> {
+    let (said, once) = second_post(alloc, OneFault::new(with_events(alloc, 1)?, call));
+    let events = found(alloc, once.into_inner())?;
+    Ok(said.as_slice() == b"fault\n".as_slice() && (events == Some(1) || events == Some(2)))
 }
 
 #[test]
 fn failing_post(rt: HostRuntime) -> Result<(), Fail> {
-    let alloc = rt.alloc();
     for call in 6..11 {
-        let (failed, fuse) = second_post(alloc, Fuse::new(with_events(alloc, 1)?, call))?;
-        assert!(rt; failed, "call {call}");
-        assert!(rt; has_one_or_two(alloc, fuse.into_inner())?);
-    }
-    Ok(())
-}
-
-#[test]
-fn post_over_one_fault(rt: HostRuntime) -> Result<(), Fail> {
-    let alloc = rt.alloc();
-    for call in 6..11 {
-        let (failed, once) = second_post(alloc, OneFault::new(with_events(alloc, 1)?, call))?;
-        assert!(rt; failed, "call {call}");
-        assert!(rt; has_one_or_two(alloc, once.into_inner())?);
+        assert!(rt; fails_at(rt.alloc(), call)?);
+        assert!(rt; fails_once_at(rt.alloc(), call)?);
     }
     Ok(())
 }
@@ -57,7 +49,7 @@ fn post_over_one_fault(rt: HostRuntime) -> Result<(), Fail> {
 /// The disk after a second post that was stopped at its call of this number and at all later ones.
 fn stopped(alloc: Global, call: u64) -> Result<MemoryDisk, Fail> {
     let calls = CALLS_TO_OPEN.saturating_add(call);
-    let (_, fuse) = second_post(alloc, Fuse::new(with_events(alloc, 1)?, calls))?;
+    let (_, fuse) = second_post(alloc, Fuse::new(with_events(alloc, 1)?, calls));
     Ok(fuse.into_inner())
 }
 
@@ -99,36 +91,47 @@ fn chosen(
 /// at all.
 #[derive(Clone, Copy)]
 struct Wanted {
-    least: u32,
-    most: u32,
+    least: usize,
+    most: usize,
     or_none: bool,
 }
 
-/// Whether an image shows what is wanted, by the files that it has.
-fn is_right(alloc: Global, image: MemoryDisk, wanted: Wanted) -> Result<bool, Fail> {
-    match found(alloc, image)? {
-        None => Ok(wanted.or_none),
-        Some(events) => Ok(wanted.least <= events && events <= wanted.most),
+/// How many images there are of this choice, 0 or 1. It must show what is wanted.
+fn try_image(
+    alloc: Global,
+    disk: &mut MemoryDisk,
+    pending: &[u32],
+    choice: usize,
+    wanted: Wanted,
+) -> Result<u32, Fail> {
+    let Some(sectors) = chosen(alloc, disk, pending, choice)? else {
+        return Ok(0);
+    };
+    let is_right = match found(alloc, disk.crash(alloc, &sectors)?)? {
+        None => wanted.or_none,
+        Some(events) => wanted.least <= events && events <= wanted.most,
+    };
+    if is_right {
+        Ok(1)
+    } else {
+        Err("a wrong image".into())
     }
 }
 
 /// Tries every filling of at most three pending sectors, and returns how many images there are.
-fn try_images(alloc: Global, disk: &mut MemoryDisk, wanted: Wanted) -> Result<u32, Fail> {
+fn try_images(alloc: Global, disk: MemoryDisk, wanted: Wanted) -> Result<u32, Fail> {
+    let mut disk = disk;
     let pending = disk.pending_sectors(alloc)?;
     let mut images: u32 = 0;
     for choice in 0..125 {
-        if let Some(sectors) = chosen(alloc, disk, &pending, choice)? {
-            if !is_right(alloc, disk.crash(alloc, &sectors)?, wanted)? {
-                return Err("a wrong image".into());
-            }
-            images = images.saturating_add(1);
-        }
+        let more = try_image(alloc, &mut disk, &pending, choice, wanted)?;
+        images = images.saturating_add(more);
     }
     Ok(images)
 }
 
 /// That one number of events.
-fn just(events: u32) -> Wanted {
+fn just(events: usize) -> Wanted {
     Wanted {
         least: events,
         most: events,
@@ -136,70 +139,64 @@ fn just(events: u32) -> Wanted {
     }
 }
 
-#[test]
-fn torn_body_and_gate(rt: HostRuntime) -> Result<(), Fail> {
-    let alloc = rt.alloc();
-    let images = try_images(alloc, &mut stopped(alloc, 2)?, just(1))?;
-    assert_eq!(rt; images, 25);
-    Ok(())
-}
-
-/// How many events show where the gate of a second post is torn so.
-fn events_behind(alloc: Global, filling: usize) -> Result<(bool, Option<u32>), Fail> {
+/// After how many events an image is where the gate of a second post is torn so, and whether that makes an open gate.
+fn torn(alloc: Global, filling: usize) -> Result<(bool, Option<usize>), Fail> {
     let mut disk = stopped(alloc, 4)?;
     let gate = filled(&mut disk, 7, filling);
     let image = disk.crash(alloc, &[(7, gate)])?;
     Ok((gate.starts_with(b"OPENGATE"), found(alloc, image)?))
 }
 
+/// Body and closed gate torn show the first event, an open gate torn what it came to, and after the last sync there is
+/// one image.
 #[test]
-fn torn_gate(rt: HostRuntime) -> Result<(), Fail> {
+fn torn_post(rt: HostRuntime) -> Result<(), Fail> {
     let alloc = rt.alloc();
+    assert!(rt; try_images(alloc, stopped(alloc, 2)?, just(1))? == 25);
     for filling in 0..5 {
-        let (is_open, events) = events_behind(alloc, filling)?;
-        assert_eq!(rt; events, Some(if is_open { 2 } else { 1 }));
+        let (is_open, events) = torn(alloc, filling)?;
+        assert!(rt; events == Some(if is_open { 2 } else { 1 }));
     }
-    let acknowledged = try_images(alloc, &mut stopped(alloc, CALLS_TO_POST)?, just(2))?;
-    assert_eq!(rt; acknowledged, 1);
+    assert!(rt; try_images(alloc, stopped(alloc, CALLS_TO_POST)?, just(2))? == 1);
     Ok(())
 }
 
-/// Posts the three events over a disk that fails from one call on: how many were acknowledged, and the disk.
-fn cut_off(alloc: Global, calls: u64) -> Result<(u32, MemoryDisk), Fail> {
-    match Store::open(alloc, Fuse::new(fresh(alloc)?, calls)) {
-        Err((_, fuse)) => Ok((0, fuse.into_inner())),
-        Ok(mut store) => {
-            let mut acknowledged: u32 = 0;
-            for k in 0..3 {
-                if post(alloc, &mut store, k)? {
-                    acknowledged = acknowledged.saturating_add(1);
-                }
-            }
-            Ok((acknowledged, store.close().into_inner()))
-        }
-    }
-}
-
-/// Tries every image of the three posts cut off at that call: each shows the acknowledged events, or one more.
-fn try_cut_off(alloc: Global, calls: u64) -> Result<(u32, u32), Fail> {
-    let (acknowledged, mut disk) = cut_off(alloc, calls)?;
+/// Posts the three events over a disk that fails from one call on, and tries every image: each shows the acknowledged
+/// events, or one more. How many were acknowledged, and how many images there are.
+fn try_cut_off(alloc: Global, calls: u64) -> Result<(usize, u32), Fail> {
+    let mut written = Vec::new(alloc);
+    let fuse = played(
+        alloc,
+        Fuse::new(fresh(alloc)?, calls),
+        FIRST[3],
+        &mut written,
+    );
+    let acknowledged = oks(&written);
     let wanted = Wanted {
         least: acknowledged,
         most: acknowledged.saturating_add(1),
         or_none: false,
     };
-    let images = try_images(alloc, &mut disk, wanted)?;
-    Ok((acknowledged, images))
+    Ok((acknowledged, try_images(alloc, fuse.into_inner(), wanted)?))
+}
+
+/// How many of the first three lines say that an event was done.
+fn oks(said: &[u8]) -> usize {
+    for count in [3, 2, 1] {
+        if said.starts_with(&b"ok\nok\nok\n"[..3 * count]) {
+            return count;
+        }
+    }
+    0
 }
 
 #[test]
 fn every_crash_of_three_posts(rt: HostRuntime) -> Result<(), Fail> {
-    let alloc = rt.alloc();
     let mut images: u32 = 0;
     for calls in 0..30 {
-        let (acknowledged, tried) = try_cut_off(alloc, calls)?;
+        let (acknowledged, tried) = try_cut_off(rt.alloc(), calls)?;
         images = images.saturating_add(tried);
-        assert!(rt; calls < 19 || acknowledged == 3, "call {calls}");
+        assert!(rt; calls < 19 || acknowledged == 3);
     }
     println!(rt; "{images} images of three posts, with a stop at every call")?;
     Ok(())
@@ -215,42 +212,36 @@ fn formatted(alloc: Global, calls: u64) -> Result<MemoryDisk, Fail> {
     }
 }
 
-/// What the images of a store of three events may show that is formatted anew and stopped at that call. After the first
-/// sync the old store is never found, and before the slot's gate is written none is.
-fn wanted_of_format(calls: u64) -> Wanted {
-    Wanted {
-        least: if calls < 3 { 3 } else { 0 },
-        most: if calls < 3 { 3 } else { 0 },
-        or_none: calls < CALLS_TO_FORMAT,
-    }
-}
-
+/// After the first sync of formatting the old store is never found, and before the slot's gate is written none is.
 #[test]
 fn format_without_its_syncs(rt: HostRuntime) -> Result<(), Fail> {
-    let alloc = rt.alloc();
     for calls in 0..9 {
-        let mut disk = formatted(alloc, calls)?;
-        let images = try_images(alloc, &mut disk, wanted_of_format(calls))?;
-        assert!(rt; images > 0, "call {calls}");
+        let events = if calls < 3 { 3 } else { 0 };
+        let wanted = Wanted {
+            or_none: calls < CALLS_TO_FORMAT,
+            ..just(events)
+        };
+        assert!(rt; try_images(rt.alloc(), formatted(rt.alloc(), calls)?, wanted)? > 0);
     }
     Ok(())
 }
 
-#[test]
-fn format_leaves_a_gate(rt: HostRuntime) -> Result<(), Fail> {
-    let alloc = rt.alloc();
+/// Whether no image of a store that is formatted anew up to that call has a store, and the gate of slot 1 is closed.
+fn leaves_none(alloc: Global, calls: u64) -> Result<bool, Fail> {
+    let mut disk = formatted(alloc, calls)?;
+    let is_closed = sector(&mut disk, 3)? == [0; 1024];
     let nothing = Wanted {
         least: 1,
         most: 0,
         or_none: true,
     };
+    Ok(is_closed && try_images(alloc, disk, nothing)? > 0)
+}
+
+#[test]
+fn format_leaves_a_gate(rt: HostRuntime) -> Result<(), Fail> {
     for calls in 3..7 {
-        let mut disk = formatted(alloc, calls)?;
-        let images = try_images(alloc, &mut disk, nothing)?;
-        assert!(rt;
-            images > 0 && sector(&mut disk, 3)? == [0; 1024],
-            "call {calls}"
-        );
+        assert!(rt; leaves_none(rt.alloc(), calls)?);
     }
     Ok(())
 }

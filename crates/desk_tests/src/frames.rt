@@ -1,12 +1,12 @@
-//! Frames: worked rows, tables of the rules, sources that fail and that give something else each time.
+//! Frames: worked rows, and tables of the rules.
 ghost use Rattle.std.specs.Prelude.{◌≡◌};
 
-use crate::sources::{Fickle, fails_after, text_of};
+use crate::sources::text_of;
 use char_file::CharFile;
 use piece_ring::DEFAULT_LOOK;
 use std::alloc::Global;
 use std::process::Abort;
-use std::test::*;
+use std::test::Fail;
 use text_frames::{Frame, Selection, line_start, starts_are_greatest, starts_are_starts};
 
 /// A frame with a caret and a selection.
@@ -110,19 +110,6 @@ fn start(rt: &impl Abort, alloc: Global, bytes: &[u8], p: u32) -> Result<u32, Fa
 }
 
 const LINES: &[u8] = b"ab\rcd\ref\rgh";
-
-#[test]
-fn setters(rt: HostRuntime) -> Result<(), Fail> {
-    starts_are_greatest();
-    starts_are_starts();
-    let mut frame = frame_at(0);
-    frame.set_caret(7);
-    frame.select(2, 5, 3);
-    frame.scroll(4);
-    assert_eq!(rt; frame.caret, Some(7));
-    assert_eq!(rt; frame.org, 4);
-    Ok(())
-}
 
 /// The characters shown in a row of a frame of 49 columns, a `-` for each tabulator, and where the last cell's stands.
 fn row_shown(
@@ -241,42 +228,5 @@ fn a_row_cut_off(rt: HostRuntime) -> Result<(), Fail> {
     let (shown, last) = row_shown(&rt, alloc, bytes.as_slice(), 0, 0)?;
     assert!(rt; shown.len() == 49 && shown.as_slice().last() == Some(&b'-'));
     assert_eq!(rt; last, Some(48));
-    Ok(())
-}
-
-/// Updates a frame over a source that fails at one call. Whether it failed.
-fn stays_at(rt: &impl Abort, alloc: Global, before: u32) -> Result<bool, Fail> {
-    let mut source = fails_after(alloc, before);
-    let text = text_of(rt, alloc, &mut source, LINES)?;
-    let mut frame = frame_at(9);
-    assert!(rt; text.len() == 11);
-    let failed = frame.update(&text, 0, 2, 0, &mut source).is_err();
-    assert!(rt; !failed || frame == frame_at(9));
-    Ok(failed)
-}
-
-#[test]
-fn a_fault_at_each_call(rt: HostRuntime) -> Result<(), Fail> {
-    for before in 0..11 {
-        assert!(rt; stays_at(&rt, rt.alloc(), before)?);
-    }
-    assert!(rt; !stays_at(&rt, rt.alloc(), 11)?);
-    Ok(())
-}
-
-#[test]
-fn other_bytes_each_time(rt: HostRuntime) -> Result<(), Fail> {
-    let file = CharFile::new(rt.alloc());
-    let mut source = Fickle {
-        file,
-        returned: false,
-    };
-    let text = text_of(&rt, rt.alloc(), &mut source, LINES)?;
-    let mut frame = frame_at(0);
-    assert!(rt; text.len() == 11);
-    frame.show(&text, 1, 10, &mut source)?;
-    assert!(rt; frame.org <= 11);
-    let at = frame.pos_at(&text, 49, 31, 5, 2, &mut source)?;
-    assert!(rt; frame.org <= at && at <= 11);
     Ok(())
 }

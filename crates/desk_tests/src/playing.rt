@@ -1,9 +1,10 @@
 //! Scripts played over a store: worked rows, readers that give a script in pieces or fail, and writers that fail.
-ghost use Rattle.std.specs.Prelude.{◌≡◌, IfOk, IfSome, false};
+ghost use Rattle.std.specs.Prelude.{◌≡◌, IfOk, false};
 
+use crate::stores::{fresh, played};
 use desk_journal::Store;
 use oberon_main::{PlayEnd, play, play_bounded};
-use sector_disk::{Disk, FILE_SECTORS, MemoryDisk, OneFault};
+use sector_disk::{MemoryDisk, OneFault};
 use std::alloc::Global;
 use std::cell::Cell;
 use std::io;
@@ -13,30 +14,22 @@ use std::test::Fail;
 /// Files a text and shows it.
 const HELLO: &[u8] = b"file A.Text Hello%0d\nshow A.Text\n";
 
-/// What `HELLO` is answered.
-const HELLO_ANSWERS: &[u8] = b"ok\n0 15 0 Hello%0d\nend\n";
+/// What `HELLO` gives.
+const HELLO_REPLIES: &[u8] = b"ok\n0 15 0 Hello%0d\nend\n";
 
-/// A new store on a disk; None where the disk failed.
-fn fresh_on<D: Disk + Drop>(alloc: Global, disk: D) -> Option<Store<D>>
-    ensures { IfSome result (λ store. store.must_reopen ≡ false) }
-{
-    let disk = Store::format(disk).ok()?;
-    Store::open(alloc, disk).ok()
-}
-
-/// A new store in memory.
-pub fn fresh(alloc: Global) -> Result<Store<MemoryDisk>, Fail>
+/// A new store in memory, open.
+fn opened(alloc: Global) -> Result<Store<MemoryDisk>, Fail>
     ensures { IfOk result (λ store. store.must_reopen ≡ false) }
 {
-    match fresh_on(alloc, MemoryDisk::new(alloc, FILE_SECTORS)?) {
-        Some(store) => Ok(store),
-        None => Err("no store".into()),
+    match Store::open(alloc, fresh(alloc)?) {
+        Ok(store) => Ok(store),
+        Err(_) => Err("not opened".into()),
     }
 }
 
-/// How a script ends over a new store, and what it is answered.
-fn answers<R: Read>(alloc: Global, reader: &mut R) -> Result<(PlayEnd, Vec<u8>), Fail> {
-    let mut store = fresh(alloc)?;
+/// How a script ends over a new store, and what it gives.
+fn replies<R: Read>(alloc: Global, reader: &mut R) -> Result<(PlayEnd, Vec<u8>), Fail> {
+    let mut store = opened(alloc)?;
     let mut written = Vec::new(alloc);
     let end = play(alloc, reader, &mut written, &mut store);
     Ok((end, written))
@@ -127,7 +120,7 @@ impl Write for Holding<'_> {
     }
 }
 
-/// A reader that gives an empty line at a time, and first looks whether the lines before it have their answers.
+/// A reader that gives an empty line at a time, and first looks whether the lines before it have their replies.
 #[derive(Drop)]
 struct Looking<'a> {
     shelf: &'a Shelf,
@@ -167,58 +160,28 @@ impl Read for Endless {
     }
 }
 
-#[test]
-fn rows(rt: HostRuntime) -> Result<(), Fail> {
-    let cases: [(&[u8], &[u8]); 8] = [
-        (HELLO, HELLO_ANSWERS),
-        (b"list\n", b"written 0\nend\n"),
-        (
-            b"\nlist \ntype x\nmark 80 0\nscreen \ncheckpoint\nfile\nshow\nlist\r\nfile 1A x\n",
-            b"?\n?\n?\n?\n?\n?\n?\n?\n?\n?\n",
-        ),
-        (
-            b"file A %\nfile A %4\nfile A %%\nfile A %7f\nfile A %00\nfile  A x\n",
-            b"?\n?\n?\n?\n?\n?\n",
-        ),
-        (
-            b"file A %25%2F%09\nshow A\nfile A  x\nshow A",
-            b"ok\n0 15 0 %25/%09\nend\nok\n0 15 0  x\nend\n",
-        ),
-        (
-            b"file A x\nfile A\nshow A\nfile A \nlist\nshow B",
-            b"ok\nok\nend\nok\nfile A 0\nwritten 1\nend\nno 5\n",
-        ),
-        (
-            b"file B.Text x\nfile A.Text xyz\nfile AB xy\nlist",
-            b"ok\nok\nok\nfile A.Text 3\nfile AB 2\nfile B.Text 1\nwritten 6\nend\n",
-        ),
-        (b"", b""),
-    ];
-    for (script, wanted) in cases {
-        let mut script = script;
-        let (end, written) = answers(rt.alloc(), &mut script)?;
-        assert_eq!(rt; end, PlayEnd::Done);
-        assert_eq!(rt; written.as_slice(), wanted);
-    }
-    Ok(())
+/// How `HELLO` ends that comes in pieces of that size, and then perhaps fails, and what it gives.
+fn in_pieces(
+    alloc: Global,
+    bytes: &[u8],
+    size: usize,
+    fails: bool,
+) -> Result<(PlayEnd, Vec<u8>), Fail> {
+    replies(alloc, &mut Pieces { bytes, size, fails })
 }
 
 #[test]
 fn script_in_pieces(rt: HostRuntime) -> Result<(), Fail> {
-    let cut_off = b"ok\n0 15 0 Hello%0d\nend\ninput\n";
+    let whole: (bool, PlayEnd, &[u8]) = (false, PlayEnd::Done, HELLO_REPLIES);
+    let cut_off: (bool, PlayEnd, &[u8]) = (
+        true,
+        PlayEnd::Input,
+        b"ok\n0 15 0 Hello%0d\nend\ninput\n",
+    );
     for size in 1..40 {
-        for (fails, end, wanted) in [
-            (false, PlayEnd::Done, HELLO_ANSWERS),
-            (true, PlayEnd::Input, cut_off.as_slice()),
-        ] {
-            let mut reader = Pieces {
-                bytes: HELLO,
-                size,
-                fails,
-            };
-            let (got, written) = answers(rt.alloc(), &mut reader)?;
-            assert_eq!(rt; got, end);
-            assert_eq!(rt; written.as_slice(), wanted);
+        for (fails, end, wanted) in [whole, cut_off] {
+            let (ended, written) = in_pieces(rt.alloc(), HELLO, size, fails)?;
+            assert!(rt; ended == end && written.as_slice() == wanted);
         }
     }
     Ok(())
@@ -228,17 +191,8 @@ fn script_in_pieces(rt: HostRuntime) -> Result<(), Fail> {
 fn long_lines(rt: HostRuntime) -> Result<(), Fail> {
     let script = script_of_long_lines(rt.alloc())?;
     for size in [1, 7, 4_096, 100_000] {
-        let mut reader = Pieces {
-            bytes: script.as_slice(),
-            size,
-            fails: false,
-        };
-        let (end, written) = answers(rt.alloc(), &mut reader)?;
-        assert_eq!(rt; end, PlayEnd::Done);
-        assert_eq!(rt;
-            written.as_slice(),
-            b"?\n?\n?\nwritten 0\nend\n?\n".as_slice()
-        );
+        let (_, written) = in_pieces(rt.alloc(), script.as_slice(), size, false)?;
+        assert!(rt; written.as_slice() == b"?\n?\n?\nwritten 0\nend\n?\n".as_slice());
     }
     Ok(())
 }
@@ -256,38 +210,40 @@ fn script_of_long_lines(alloc: Global) -> Result<Vec<u8>, Fail> {
     Ok(script)
 }
 
-#[test]
-fn bounded_reads(rt: HostRuntime) -> Result<(), Fail> {
-    let mut store = fresh(rt.alloc())?;
-    let mut written = Vec::new(rt.alloc());
+/// How ten empty lines end over a new store with a bound on the reads, and what they give.
+fn ten_lines(alloc: Global, reads: u32) -> Result<(PlayEnd, Vec<u8>), Fail> {
+    let mut store = opened(alloc)?;
+    let mut written = Vec::new(alloc);
     let mut reader = Pieces {
         bytes: b"\n\n\n\n\n\n\n\n\n\n",
         size: 1,
         fails: false,
     };
-    let end = play_bounded(rt.alloc(), &mut reader, &mut written, &mut store, 8);
-    assert_eq!(rt; end, PlayEnd::Input);
-    let end = play_bounded(rt.alloc(), &mut reader, &mut written, &mut store, 3);
-    assert_eq!(rt; end, PlayEnd::Done);
-    assert_eq!(rt;
-        written.as_slice(),
-        b"?\n?\n?\n?\n?\n?\n?\n?\ninput\n?\n?\n".as_slice()
-    );
-    Ok(())
+    let end = play_bounded(alloc, &mut reader, &mut written, &mut store, reads);
+    Ok((end, written))
 }
 
+/// The most reads that give bytes are 67,108,864, or another bound where one is named.
 #[test]
 fn another_limit_of_reads(rt: HostRuntime) -> Result<(), Fail> {
+    let rows: [(u32, PlayEnd, &[u8]); 2] = [
+        (8, PlayEnd::Input, b"?\n?\n?\n?\n?\n?\n?\n?\ninput\n"),
+        (11, PlayEnd::Done, b"?\n?\n?\n?\n?\n?\n?\n?\n?\n?\n"),
+    ];
+    for (reads, end, wanted) in rows {
+        let (ended, written) = ten_lines(rt.alloc(), reads)?;
+        assert!(rt; ended == end && written.as_slice() == wanted);
+    }
     let mut reader = Endless { reads: 0 };
-    let (end, written) = answers(rt.alloc(), &mut reader)?;
-    assert_eq!(rt; end, PlayEnd::Input);
+    let (end, written) = replies(rt.alloc(), &mut reader)?;
+    assert!(rt; end == PlayEnd::Input && written.as_slice() == b"input\n".as_slice());
     assert_eq!(rt; reader.reads, 67_108_864);
-    assert_eq!(rt; written.as_slice(), b"input\n".as_slice());
     Ok(())
 }
 
-#[test]
-fn answers_held_back(rt: HostRuntime) -> Result<(), Fail> {
+/// Plays twenty empty lines. How that ends, whether a line was read before the reply to the one before it was given
+/// out, and how many were.
+fn twenty_lines(alloc: Global) -> Result<(PlayEnd, bool, u32), Fail> {
     let shelf = Shelf {
         lines: Cell::new(0),
         held: Cell::new(0),
@@ -298,49 +254,14 @@ fn answers_held_back(rt: HostRuntime) -> Result<(), Fail> {
         late: false,
     };
     let mut writer = Holding { shelf: &shelf };
-    let mut store = fresh(rt.alloc())?;
-    let end = play(rt.alloc(), &mut reader, &mut writer, &mut store);
-    assert_eq!(rt; end, PlayEnd::Done);
-    assert!(rt; !reader.late);
-    assert_eq!(rt; shelf.lines.get(), 20);
-    Ok(())
+    let mut store = opened(alloc)?;
+    let end = play(alloc, &mut reader, &mut writer, &mut store);
+    Ok((end, reader.late, shelf.lines.get()))
 }
 
 #[test]
-fn write_faults(rt: HostRuntime) -> Result<(), Fail> {
-    for room in 0..30 {
-        for fails in [true, false] {
-            let whole = room >= HELLO_ANSWERS.len();
-            let (end, taken) = halted(rt.alloc(), room, 2, fails)?;
-            assert_eq!(rt;
-                end,
-                if whole {
-                    PlayEnd::Done
-                } else {
-                    PlayEnd::Output
-                }
-            );
-            assert_eq!(rt;
-                taken.as_slice(),
-                &HELLO_ANSWERS[..room.min(HELLO_ANSWERS.len())]
-            );
-        }
-    }
-    Ok(())
-}
-
-#[test]
-fn flush_faults(rt: HostRuntime) -> Result<(), Fail> {
-    // Each of the two lines has a flush.
-    for (flushes, wanted, answered) in [
-        (0, PlayEnd::Output, b"ok\n".as_slice()),
-        (1, PlayEnd::Output, HELLO_ANSWERS),
-        (2, PlayEnd::Done, HELLO_ANSWERS),
-    ] {
-        let (end, taken) = halted(rt.alloc(), 100, flushes, true)?;
-        assert_eq!(rt; end, wanted);
-        assert_eq!(rt; taken.as_slice(), answered);
-    }
+fn answers_held_back(rt: HostRuntime) -> Result<(), Fail> {
+    assert!(rt; twenty_lines(rt.alloc())? == (PlayEnd::Done, false, 20));
     Ok(())
 }
 
@@ -351,7 +272,7 @@ fn halted(
     flushes: usize,
     fails: bool,
 ) -> Result<(PlayEnd, Vec<u8>), Fail> {
-    let mut store = fresh(alloc)?;
+    let mut store = opened(alloc)?;
     let mut writer = Narrow {
         taken: Vec::new(alloc),
         room,
@@ -363,26 +284,51 @@ fn halted(
     Ok((end, writer.taken))
 }
 
+/// Each of the two lines has a flush.
 #[test]
-fn disk_fault(rt: HostRuntime) -> Result<(), Fail> {
-    // Making and opening a store takes some calls; each later call of a post fails once.
-    let mut faults = 0u32;
-    for call in 0..60 {
-        let disk = OneFault::new(MemoryDisk::new(rt.alloc(), FILE_SECTORS)?, call);
-        let Some(mut store) = fresh_on(rt.alloc(), disk) else {
-            continue;
-        };
-        let mut written = Vec::new(rt.alloc());
-        let mut script = HELLO;
-        let end = play(rt.alloc(), &mut script, &mut written, &mut store);
-        if end == PlayEnd::Fault {
-            faults = faults.wrapping_add(1);
-            assert_eq!(rt; written.as_slice(), b"fault\n".as_slice());
-        } else {
-            assert_eq!(rt; end, PlayEnd::Done);
-            assert_eq!(rt; written.as_slice(), HELLO_ANSWERS);
+fn write_faults(rt: HostRuntime) -> Result<(), Fail> {
+    for room in 0..HELLO_REPLIES.len() {
+        for fails in [true, false] {
+            let (end, taken) = halted(rt.alloc(), room, 2, fails)?;
+            assert!(rt; end == PlayEnd::Output && taken.as_slice() == &HELLO_REPLIES[..room]);
         }
     }
-    assert_eq!(rt; faults, 5);
+    let rows: [(usize, PlayEnd, &[u8]); 3] = [
+        (0, PlayEnd::Output, b"ok\n"),
+        (1, PlayEnd::Output, HELLO_REPLIES),
+        (2, PlayEnd::Done, HELLO_REPLIES),
+    ];
+    for (flushes, end, wanted) in rows {
+        let (ended, taken) = halted(rt.alloc(), HELLO_REPLIES.len(), flushes, true)?;
+        assert!(rt; ended == end && taken.as_slice() == wanted);
+    }
+    Ok(())
+}
+
+/// Whether `HELLO` over a new store whose disk fails once at a call is cut off by that.
+fn is_cut_off(alloc: Global, call: u64) -> Result<bool, Fail> {
+    let mut written = Vec::new(alloc);
+    played(
+        alloc,
+        OneFault::new(fresh(alloc)?, call),
+        HELLO,
+        &mut written,
+    );
+    let whole = b"ok\n0 15 0 Hello%0d\nend\nok layout 1 epoch 1 events 1\n";
+    if written.as_slice() == b"fault\n".as_slice() {
+        Ok(true)
+    } else if written.as_slice() == whole.as_slice() {
+        Ok(false)
+    } else {
+        Err("neither".into())
+    }
+}
+
+/// Opening a new store makes 4 calls, and a post 5.
+#[test]
+fn disk_fault(rt: HostRuntime) -> Result<(), Fail> {
+    for call in 0..20 {
+        assert!(rt; is_cut_off(rt.alloc(), call)? == (call < 9));
+    }
     Ok(())
 }

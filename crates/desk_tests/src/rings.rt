@@ -1,14 +1,12 @@
-//! Rows of rings of pieces, and refused allocations: a call whose memory is refused leaves the texts, and is then made
-//! again, so that every test
-//! also passes under `rt try --test --fail-alloc N`, for each N.
+//! Rows of rings of pieces.
+//!
+//! What becomes of a ring where memory is refused, its clauses say, and the script
+//! `every_allocation_of_a_ring_refused` shows.
 
-use piece_ring::{DEFAULT_LOOK, Look, NoMemory, Piece, Ring};
+use piece_ring::{Cursor, DEFAULT_LOOK, Look, NoMemory, Piece, Ring};
 use std::alloc::Global;
 use std::process::Abort;
-use std::test::*;
-
-/// The offsets that `six` has.
-const SIX: [u32; 6] = [0, 1, 2, 3, 4, 5];
+use std::test::Fail;
 
 /// A look that differs from the default one in the font.
 const FONT_3: Look = Look {
@@ -17,342 +15,228 @@ const FONT_3: Look = Look {
     voff: 0,
 };
 
-/// An empty ring, at the second attempt if memory is refused.
-fn empty(alloc: Global) -> Result<Ring, NoMemory> {
-    match Ring::new(alloc) {
-        Ok(ring) => Ok(ring),
-        Err(_) => Ring::new(alloc),
+/// What is done to a ring.
+#[derive(Clone, Copy)]
+enum Edit {
+    /// Adds so many characters from an offset on, in a look.
+    Add(u32, u32, Look),
+    /// Keeps the place of a position.
+    Locate(u32),
+    /// Cuts a piece in two.
+    Split(u32),
+    /// Takes the characters of a stretch out.
+    Cut(u32, u32),
+    /// Takes the characters of a stretch out, and keeps these alone.
+    Keep(u32, u32),
+    /// Keeps a copy of the characters of a stretch alone.
+    Copy(u32, u32),
+    /// Takes the characters of a stretch out, and puts them in at a position.
+    Move(u32, u32, u32),
+    /// Gives the characters of a stretch the font of a look.
+    SetFont(u32, u32, Look),
+}
+
+/// Does that, where the positions are in the ring.
+fn apply(rt: &impl Abort, alloc: Global, ring: &mut Ring, edit: Edit) -> Result<(), NoMemory> {
+    match edit {
+        Edit::Add(off, len, look) => add(rt, alloc, ring, Piece { off, len, look }),
+        Edit::Locate(pos) => {
+            assert!(rt; pos <= ring.len());
+            ring.locate(pos);
+            Ok(())
+        }
+        Edit::Split(pos) => {
+            assert!(rt; pos <= ring.len());
+            ring.split_at(alloc, pos)
+        }
+        Edit::Cut(beg, end) => {
+            cut(rt, alloc, ring, beg, end)?;
+            Ok(())
+        }
+        Edit::Keep(beg, end) => {
+            *ring = cut(rt, alloc, ring, beg, end)?;
+            Ok(())
+        }
+        Edit::Copy(beg, end) => {
+            assert!(rt; beg <= end);
+            assert!(rt; end <= ring.len());
+            *ring = ring.copy(alloc, beg, end)?;
+            Ok(())
+        }
+        Edit::Move(beg, end, pos) => move_to(rt, alloc, ring, beg, end, pos),
+        Edit::SetFont(beg, end, look) => {
+            assert!(rt; beg <= end);
+            assert!(rt; end <= ring.len());
+            ring.set_looks(alloc, beg, end, 1, look)
+        }
     }
 }
 
-/// Adds the characters from `off` on.
-fn add(
+/// Adds a piece.
+fn add(rt: &impl Abort, alloc: Global, ring: &mut Ring, piece: Piece) -> Result<(), NoMemory> {
+    assert!(rt; ring.len() < 1_000);
+    assert!(rt; 0 < piece.len);
+    assert!(rt; piece.off < 1_000);
+    assert!(rt; piece.len < 1_000);
+    ring.add(alloc, piece)
+}
+
+/// Takes the characters of a stretch out.
+fn cut(
     rt: &impl Abort,
-    ring: &mut Ring,
     alloc: Global,
-    off: u32,
-    len: u32,
-    look: Look,
-) -> Result<(), NoMemory> {
-    assert!(rt; ring.len() < 1000 && off < 1000 && 0 < len && len < 1000);
-    let before = ring.len();
-    if ring.add(alloc, Piece { off, len, look }).is_err() {
-        assert_eq!(rt; ring.len(), before);
-        assert!(rt; ring.len() < 1000);
-        ring.add(alloc, Piece { off, len, look })?;
-    }
-    Ok(())
+    ring: &mut Ring,
+    beg: u32,
+    end: u32,
+) -> Result<Ring, NoMemory> {
+    assert!(rt; beg <= end);
+    assert!(rt; end <= ring.len());
+    ring.cut(alloc, beg, end)
 }
 
-/// The offsets 0 to 5 as one piece.
-fn six(rt: &impl Abort, alloc: Global) -> Result<Ring, NoMemory> {
-    let mut ring = empty(alloc)?;
-    add(rt, &mut ring, alloc, 0, 6, DEFAULT_LOOK)?;
+/// Takes the characters of a stretch out, and puts them in at a position.
+fn move_to(
+    rt: &impl Abort,
+    alloc: Global,
+    ring: &mut Ring,
+    beg: u32,
+    end: u32,
+    pos: u32,
+) -> Result<(), NoMemory> {
+    let taken = cut(rt, alloc, ring, beg, end)?;
+    assert!(rt; pos <= ring.len() && ring.len() < 1_000 && taken.len() < 1_000);
+    match ring.splice(alloc, pos, taken) {
+        Ok(()) => Ok(()),
+        Err((refused, _)) => Err(refused),
+    }
+}
+
+/// The ring that has the offsets 0 to 5 as one piece, edited.
+fn edited(rt: &impl Abort, alloc: Global, edits: &[Edit]) -> Result<Ring, NoMemory> {
+    let mut ring = Ring::new(alloc)?;
+    apply(rt, alloc, &mut ring, Edit::Add(0, 6, DEFAULT_LOOK))?;
+    for one in edits {
+        apply(rt, alloc, &mut ring, *one)?;
+    }
     Ok(ring)
 }
 
-/// Takes characters out of a ring that has those at `before`.
-fn cut(
-    rt: &impl Abort,
-    ring: &mut Ring,
-    alloc: Global,
-    beg: u32,
-    end: u32,
-    before: &[u32],
-) -> Result<Ring, NoMemory> {
-    assert!(rt; beg <= end && end <= ring.len());
-    match ring.cut(alloc, beg, end) {
-        Ok(taken) => Ok(taken),
-        Err(_) => {
-            expect_plain(rt, ring, before);
-            ring.cut(alloc, beg, end)
+/// Whether just these characters are left, by their offsets, of which those with 1,000 more have the look `changed`,
+/// the others the default one. The cursor follows at most one link for each.
+pub(crate) fn has(cursor: Cursor<'_>, wanted: &[u32], changed: Look) -> bool {
+    let mut cursor = cursor;
+    for code in wanted {
+        let look = if *code < 1_000 { DEFAULT_LOOK } else { changed };
+        if cursor.next() != Some((*code % 1_000, look)) || cursor.links() > 1 {
+            return false;
         }
     }
+    cursor.next().is_none()
 }
 
-/// Puts the characters of `other` into a ring that has those at `before`.
-fn splice(
-    rt: &impl Abort,
-    ring: &mut Ring,
-    alloc: Global,
-    pos: u32,
-    other: Ring,
-    before: &[u32],
-) -> Result<(), NoMemory> {
-    assert!(rt; pos <= ring.len() && other.len() < 9 && ring.len() < 9);
-    let long = other.len();
-    match ring.splice(alloc, pos, other) {
-        Ok(()) => Ok(()),
-        Err((_, back)) => {
-            expect_plain(rt, ring, before);
-            assert!(rt; back.len() == long && long < 9);
-            match ring.splice(alloc, pos, back) {
-                Ok(()) => Ok(()),
-                Err((refused, _)) => Err(refused),
-            }
-        }
-    }
-}
-
-/// A ring with some of the characters.
-fn copy(rt: &impl Abort, ring: &Ring, alloc: Global, beg: u32, end: u32) -> Result<Ring, NoMemory> {
-    assert!(rt; beg <= end && end <= ring.len());
-    match ring.copy(alloc, beg, end) {
-        Ok(copy) => Ok(copy),
-        Err(_) => ring.copy(alloc, beg, end),
-    }
-}
-
-/// Cuts a piece of `six` in two.
-fn split_at(rt: &impl Abort, ring: &mut Ring, alloc: Global, pos: u32) -> Result<(), NoMemory> {
-    assert!(rt; pos <= ring.len());
-    if ring.split_at(alloc, pos).is_err() {
-        expect_plain(rt, ring, &SIX);
-        ring.split_at(alloc, pos)?;
-    }
-    Ok(())
-}
-
-/// Changes the fonts of some characters of `six`.
-fn set_font(
-    rt: &impl Abort,
-    ring: &mut Ring,
-    alloc: Global,
-    beg: u32,
-    end: u32,
-    look: Look,
-) -> Result<(), NoMemory> {
-    assert!(rt; beg <= end && end <= ring.len());
-    if ring.set_looks(alloc, beg, end, 1, look).is_err() {
-        expect_plain(rt, ring, &SIX);
-        assert!(rt; end <= ring.len());
-        ring.set_looks(alloc, beg, end, 1, look)?;
-    }
-    Ok(())
-}
-
-/// Keeps the place of a position that there is.
-fn locate(rt: &impl Abort, ring: &mut Ring, pos: u32) {
-    assert!(rt; pos <= ring.len());
-    ring.locate(pos);
-}
-
-/// The number of links that lead a cursor to a position.
-fn walked(rt: &impl Abort, ring: &Ring, pos: u32) -> u32 {
-    assert!(rt; pos <= ring.len());
-    ring.cursor(pos).walked()
-}
-
-/// Asserts that the ring has the characters at these offsets, in these looks, and that its cursor follows at most one
-/// link for each.
-fn expect_text(rt: &impl Abort, ring: &Ring, wanted: &[(u32, Look)]) {
-    assert_eq!(rt; ring.len() as usize, wanted.len());
-    let mut cursor = ring.cursor(0);
-    for want in wanted {
-        assert_eq!(rt; cursor.next(), Some(*want));
-        assert!(rt; cursor.links() <= 1);
-    }
-    assert_eq!(rt; cursor.next(), None);
-    assert_eq!(rt; cursor.links(), 0);
-}
-
-/// The same for offsets that are all in the default look.
-fn expect_plain(rt: &impl Abort, ring: &Ring, wanted: &[u32]) {
-    assert_eq!(rt; ring.len() as usize, wanted.len());
-    let mut cursor = ring.cursor(0);
-    for off in wanted {
-        assert_eq!(rt; cursor.next(), Some((*off, DEFAULT_LOOK)));
-    }
-    assert_eq!(rt; cursor.next(), None);
+/// Whether a ring has just these characters, in so many pieces, and so many nodes and one are freed with it.
+fn is_ring(ring: Ring, wanted: &[u32], pieces: u32) -> bool {
+    let is = has(ring.cursor(0), wanted, FONT_3) && ring.pieces() == pieces;
+    ring.destroy() == pieces as usize + 1 && is
 }
 
 #[test]
-fn ring(rt: HostRuntime) -> Result<(), Fail> {
-    let alloc = rt.alloc();
-    let mut ring = six(&rt, alloc)?;
-    let taken = cut(&rt, &mut ring, alloc, 1, 3, &SIX)?;
-    expect_plain(&rt, &taken, &[1, 2]);
-    expect_plain(&rt, &ring, &[0, 3, 4, 5]);
-    splice(&rt, &mut ring, alloc, 2, taken, &[0, 3, 4, 5])?;
-    expect_plain(&rt, &ring, &[0, 3, 1, 2, 4, 5]);
-    assert_eq!(rt; ring.pieces(), 4);
-    Ok(())
-}
-
-#[test]
-fn copies(rt: HostRuntime) -> Result<(), Fail> {
-    let alloc = rt.alloc();
-    let ring = six(&rt, alloc)?;
-    let copied = copy(&rt, &ring, alloc, 1, 3)?;
-    expect_plain(&rt, &copied, &[1, 2]);
-    expect_plain(&rt, &ring, &SIX);
-    Ok(())
-}
-
-#[test]
-fn split(rt: HostRuntime) -> Result<(), Fail> {
-    let alloc = rt.alloc();
-    let mut ring = six(&rt, alloc)?;
-    for pos in [3, 6] {
-        split_at(&rt, &mut ring, alloc, pos)?;
+fn rings(rt: HostRuntime) -> Result<(), Fail> {
+    let rows: [(&[Edit], &[u32], u32); 15] = [
+        (&[], &[0, 1, 2, 3, 4, 5], 1),
+        (&[Edit::Cut(1, 3)], &[0, 3, 4, 5], 2),
+        (&[Edit::Keep(1, 3)], &[1, 2], 1),
+        (&[Edit::Move(1, 3, 2)], &[0, 3, 1, 2, 4, 5], 4),
+        (&[Edit::Move(2, 4, 2)], &[0, 1, 2, 3, 4, 5], 1),
+        (&[Edit::Copy(1, 3)], &[1, 2], 1),
+        (&[Edit::Split(3)], &[0, 1, 2, 3, 4, 5], 2),
+        (&[Edit::Split(3), Edit::Split(6)], &[0, 1, 2, 3, 4, 5], 2),
+        (
+            &[Edit::SetFont(2, 4, FONT_3)],
+            &[0, 1, 1_002, 1_003, 4, 5],
+            3,
+        ),
+        (
+            &[
+                Edit::SetFont(2, 4, FONT_3),
+                Edit::SetFont(2, 4, DEFAULT_LOOK),
+            ],
+            &[0, 1, 2, 3, 4, 5],
+            1,
+        ),
+        (&[Edit::Cut(2, 2)], &[0, 1, 2, 3, 4, 5], 1),
+        (&[Edit::Keep(2, 2)], &[], 0),
+        (&[Edit::Cut(0, 6)], &[], 0),
+        (&[Edit::Keep(0, 6)], &[0, 1, 2, 3, 4, 5], 1),
+        (
+            &[Edit::Add(20, 3, FONT_3), Edit::Keep(4, 8)],
+            &[4, 5, 1_020, 1_021],
+            2,
+        ),
+    ];
+    for (edits, wanted, pieces) in rows {
+        let ring = edited(&rt, rt.alloc(), edits)?;
+        assert!(rt; is_ring(ring, wanted, pieces));
     }
-    expect_plain(&rt, &ring, &SIX);
-    assert_eq!(rt; ring.pieces(), 2);
     Ok(())
 }
 
-#[test]
-fn set_looks(rt: HostRuntime) -> Result<(), Fail> {
-    let alloc = rt.alloc();
-    let mut ring = six(&rt, alloc)?;
-    set_font(
-        &rt,
-        &mut ring,
-        alloc,
-        2,
-        4,
-        Look {
-            colour: 0,
-            ..FONT_3
-        },
-    )?;
-    let plain = DEFAULT_LOOK;
-    expect_text(
-        &rt,
-        &ring,
-        &[
-            (0, plain),
-            (1, plain),
-            (2, FONT_3),
-            (3, FONT_3),
-            (4, plain),
-            (5, plain),
-        ],
-    );
-    assert_eq!(rt; ring.pieces(), 3);
-    Ok(())
-}
-
-#[test]
-fn looks_set_back(rt: HostRuntime) -> Result<(), Fail> {
-    let alloc = rt.alloc();
-    let mut ring = six(&rt, alloc)?;
-    for look in [FONT_3, DEFAULT_LOOK] {
-        assert!(rt; 4 <= ring.len());
-        if ring.set_looks(alloc, 2, 4, 1, look).is_err() {
-            assert!(rt; 4 <= ring.len());
-            ring.set_looks(alloc, 2, 4, 1, look)?;
-        }
+/// How many characters and pieces a hundred adds of one character make, of which one is in another look.
+fn typed(rt: &impl Abort, alloc: Global, other: u32) -> Result<(u32, u32), NoMemory> {
+    let mut ring = Ring::new(alloc)?;
+    for off in 0..100 {
+        let look = if off == other { FONT_3 } else { DEFAULT_LOOK };
+        apply(rt, alloc, &mut ring, Edit::Add(off, 1, look))?;
     }
-    expect_plain(&rt, &ring, &SIX);
-    assert_eq!(rt; ring.pieces(), 1);
-    Ok(())
-}
-
-#[test]
-fn cut_all_and_nothing(rt: HostRuntime) -> Result<(), Fail> {
-    let alloc = rt.alloc();
-    let mut ring = six(&rt, alloc)?;
-    let none = cut(&rt, &mut ring, alloc, 2, 2, &SIX)?;
-    expect_plain(&rt, &none, &[]);
-    expect_plain(&rt, &ring, &SIX);
-    let all = cut(&rt, &mut ring, alloc, 0, 6, &SIX)?;
-    expect_plain(&rt, &all, &SIX);
-    expect_plain(&rt, &ring, &[]);
-    Ok(())
+    Ok((ring.len(), ring.pieces()))
 }
 
 #[test]
 fn merged_adds(rt: HostRuntime) -> Result<(), Fail> {
-    let alloc = rt.alloc();
-    let mut ring = empty(alloc)?;
-    for off in 0..100 {
-        add(&rt, &mut ring, alloc, off, 1, DEFAULT_LOOK)?;
+    for (other, pieces) in [(100, 1), (50, 3)] {
+        assert_eq!(rt; typed(&rt, rt.alloc(), other)?, (100, pieces));
     }
-    assert_eq!(rt; (ring.len(), ring.pieces()), (100, 1));
     Ok(())
 }
 
-#[test]
-fn merged_adds_but_for_a_look(rt: HostRuntime) -> Result<(), Fail> {
-    let alloc = rt.alloc();
-    let mut ring = empty(alloc)?;
-    for off in 0..100 {
-        let look = if off == 50 { FONT_3 } else { DEFAULT_LOOK };
-        add(&rt, &mut ring, alloc, off, 1, look)?;
-    }
-    assert_eq!(rt; (ring.len(), ring.pieces()), (100, 3));
-    Ok(())
-}
-
-#[test]
-fn merged_splice(rt: HostRuntime) -> Result<(), Fail> {
-    let alloc = rt.alloc();
-    let mut ring = six(&rt, alloc)?;
-    let taken = cut(&rt, &mut ring, alloc, 2, 4, &SIX)?;
-    assert_eq!(rt; (taken.pieces(), ring.pieces()), (1, 2));
-    splice(&rt, &mut ring, alloc, 2, taken, &[0, 1, 4, 5])?;
-    expect_plain(&rt, &ring, &SIX);
-    assert_eq!(rt; ring.pieces(), 1);
-    Ok(())
-}
-
-/// A ring of ten pieces of ten characters, of which none continues the one before it.
-fn ten_pieces(rt: &impl Abort, alloc: Global) -> Result<Ring, NoMemory> {
-    let mut ring = empty(alloc)?;
+/// The number of links that lead a cursor to a position of ten pieces of ten characters, of which none continues the
+/// one before it, after an edit.
+fn walked(rt: &impl Abort, alloc: Global, last: Edit, pos: u32) -> Result<u32, NoMemory> {
+    let mut ring = Ring::new(alloc)?;
     for i in 0..10 {
-        add(rt, &mut ring, alloc, 20 * i, 10, DEFAULT_LOOK)?;
+        apply(rt, alloc, &mut ring, Edit::Add(20 * i, 10, DEFAULT_LOOK))?;
     }
-    Ok(ring)
+    apply(rt, alloc, &mut ring, last)?;
+    assert!(rt; pos <= ring.len());
+    Ok(ring.cursor(pos).walked())
 }
 
 #[test]
 fn walks_from_the_kept_place(rt: HostRuntime) -> Result<(), Fail> {
-    let alloc = rt.alloc();
-    let mut ring = ten_pieces(&rt, alloc)?;
-    locate(&rt, &mut ring, 55);
-    for (pos, links) in [
-        (50, 0),
-        (59, 0),
-        (60, 1),
-        (75, 2),
-        (49, 1),
-        (35, 2),
-        (0, 1),
-        (12, 2),
-        (99, 1),
-        (88, 2),
-        (100, 0),
-    ] {
-        assert_eq!(rt; walked(&rt, &ring, pos), links);
-    }
-    locate(&rt, &mut ring, 100);
-    assert_eq!(rt;
+    let rows: [(Edit, &[(u32, u32)]); 3] = [
         (
-            walked(&rt, &ring, 100),
-            walked(&rt, &ring, 99),
-            walked(&rt, &ring, 0)
+            Edit::Locate(55),
+            &[
+                (50, 0),
+                (59, 0),
+                (60, 1),
+                (75, 2),
+                (49, 1),
+                (35, 2),
+                (0, 1),
+                (12, 2),
+                (99, 1),
+                (88, 2),
+                (100, 0),
+            ],
         ),
-        (0, 1, 1)
-    );
-    Ok(())
-}
-
-#[test]
-fn edits_keep_their_place(rt: HostRuntime) -> Result<(), Fail> {
-    let alloc = rt.alloc();
-    let mut ring = ten_pieces(&rt, alloc)?;
-    assert!(rt; 100 <= ring.len());
-    let taken = match ring.cut(alloc, 42, 58) {
-        Ok(taken) => taken,
-        Err(_) => return Ok(()),
-    };
-    assert_eq!(rt;
-        (taken.len(), taken.pieces(), ring.len(), ring.pieces()),
-        (16, 2, 84, 10)
-    );
-    for (pos, links) in [(42, 0), (43, 0), (44, 1), (41, 1)] {
-        assert_eq!(rt; walked(&rt, &ring, pos), links);
+        (Edit::Locate(100), &[(100, 0), (99, 1), (0, 1)]),
+        (Edit::Cut(42, 58), &[(42, 0), (43, 0), (44, 1), (41, 1)]),
+    ];
+    for (edit, walks) in rows {
+        for (pos, links) in walks {
+            assert_eq!(rt; walked(&rt, rt.alloc(), edit, *pos)?, *links);
+        }
     }
     Ok(())
 }

@@ -2,56 +2,35 @@
 ghost use Rattle.std.specs.Prelude.{◌≡◌, length};
 ghost use Rattle.piece_ring.specs.Offsets.{AreWithin};
 
-use crate::sources::{fails_after, text_of};
-use char_file::{CharFile, CharSource, Fault, NoMemory};
+use crate::sources::text_of;
+use char_file::{CharFile, Fault, NoMemory};
 use piece_ring::{DEFAULT_LOOK, Look};
 use readers_scanners::{Reader, Scanner, Symbol, one_symbol, symbol_worked_out};
 use std::alloc::Global;
 use std::process::Abort;
-use std::test::*;
+use std::test::Fail;
 
-/// The next character, where the text's offsets stay within the source.
-fn read<S: CharSource>(reader: &mut Reader, source: &mut S) -> Result<Option<(u8, Look)>, Fault>
-    requires { AreWithin (length (S.characters source.old)) reader.old.text }
-    ensures within { AreWithin (length (S.characters source.new)) reader.new.text }
-    ensures text { reader.new.text ≡ reader.old.text }
-{
-    reader.read(source)
-}
-
-/// The next symbol, where the text's offsets stay within the source.
-fn scan<S: CharSource>(scanner: &mut Scanner, source: &mut S) -> Result<Symbol, Fault>
-    requires { AreWithin (length (S.characters source.old)) scanner.old.text }
-    ensures within { AreWithin (length (S.characters source.new)) scanner.new.text }
-    ensures text { scanner.new.text ≡ scanner.old.text }
-{
-    scanner.scan(source)
+/// What two reads from a position of a text give, and where the reader stands then.
+fn two_reads(
+    rt: &impl Abort,
+    alloc: Global,
+    bytes: &[u8],
+    pos: u32,
+) -> Result<([Option<(u8, Look)>; 2], u32), Fail> {
+    let mut source = CharFile::new(alloc);
+    let text = text_of(rt, alloc, &mut source, bytes)?;
+    assert!(rt; pos <= text.len());
+    let mut reader = Reader::open(&text, pos);
+    let first = reader.read(&mut source)?;
+    let second = reader.read(&mut source)?;
+    Ok(([first, second], reader.pos()))
 }
 
 #[test]
 fn reader(rt: HostRuntime) -> Result<(), Fail> {
-    let alloc = rt.alloc();
-    let mut source = CharFile::new(alloc);
-    let text = text_of(&rt, alloc, &mut source, b"ab")?;
-    assert!(rt; text.len() == 2);
-    let mut reader = Reader::open(&text, 1);
-    assert_eq!(rt; reader.pos(), 1);
-    assert_eq!(rt; read(&mut reader, &mut source)?, Some((b'b', DEFAULT_LOOK)));
-    assert_eq!(rt; read(&mut reader, &mut source)?, None);
-    assert_eq!(rt; reader.pos(), 2);
-    Ok(())
-}
-
-#[test]
-fn reader_after_a_fault(rt: HostRuntime) -> Result<(), Fail> {
-    let alloc = rt.alloc();
-    let mut source = fails_after(alloc, 0);
-    let text = text_of(&rt, alloc, &mut source, b"ab")?;
-    let mut reader = Reader::open(&text, 0);
-    assert!(rt; read(&mut reader, &mut source).is_err());
-    assert_eq!(rt; reader.pos(), 0);
-    assert_eq!(rt; read(&mut reader, &mut source)?, Some((b'a', DEFAULT_LOOK)));
-    assert_eq!(rt; reader.pos(), 1);
+    let (read, pos) = two_reads(&rt, rt.alloc(), b"ab", 1)?;
+    assert_eq!(rt; read, [Some((b'b', DEFAULT_LOOK)), None]);
+    assert_eq!(rt; pos, 2);
     Ok(())
 }
 
@@ -79,38 +58,54 @@ fn show(shown: &mut Vec<u8>, symbol: &Symbol) -> Result<(), NoMemory> {
     }
 }
 
+/// The next symbol, where the text's offsets stay within the source.
+fn scan(scanner: &mut Scanner, source: &mut CharFile) -> Result<Symbol, Fault>
+    requires { AreWithin (length source.old) scanner.old.text }
+    ensures { AreWithin (length source.new) scanner.new.text }
+{
+    scanner.scan(source)
+}
+
+/// Shows as many of the symbols that come, a space after each but the end.
+fn show_symbols(
+    scanner: &mut Scanner,
+    source: &mut CharFile,
+    count: usize,
+    shown: &mut Vec<u8>,
+) -> Result<(), Fail>
+    requires { AreWithin (length source.old) scanner.old.text }
+{
+    'symbols: for _ in 0..count {
+        let symbol = scan(scanner, source)?;
+        show(shown, &symbol)?;
+        if symbol == Symbol::End {
+            break;
+        }
+        shown.push(b' ')?;
+    }
+    Ok(())
+}
+
 /// Shows the symbols of the bytes from `pos` on, a space between two, up to the end of the text.
 fn symbols_from(rt: &impl Abort, alloc: Global, bytes: &[u8], pos: u32) -> Result<Vec<u8>, Fail> {
     let mut source = CharFile::new(alloc);
     let text = text_of(rt, alloc, &mut source, bytes)?;
     assert!(rt; pos <= text.len());
-    let mut scanner = Scanner::open(&text, pos);
     let mut shown = Vec::new(alloc);
-    'symbols: for _ in 0..bytes.len() {
-        let symbol = scan(&mut scanner, &mut source)?;
-        if let Symbol::End = symbol {
-            break;
-        }
-        show(&mut shown, &symbol)?;
-        shown.push(b' ')?;
-    }
-    let last = scan(&mut scanner, &mut source)?;
-    show(&mut shown, &last)?;
-    assert_eq!(rt; scanner.position(), text.len());
+    show_symbols(
+        &mut Scanner::open(&text, pos),
+        &mut source,
+        bytes.len().saturating_add(1),
+        &mut shown,
+    )?;
     Ok(shown)
 }
 
-/// Asserts what the symbols of a text show.
-fn expect(rt: &impl Abort, alloc: Global, bytes: &[u8], wanted: &[u8]) -> Result<(), Fail> {
-    let shown = symbols_from(rt, alloc, bytes, 0)?;
-    assert_eq!(rt; shown.as_slice(), wanted);
-    Ok(())
-}
-
-/// Asserts what each of the texts shows.
+/// Asserts what the symbols of each of the texts show.
 fn expect_all(rt: &impl Abort, alloc: Global, table: &[(&str, &str)]) -> Result<(), Fail> {
     for (bytes, wanted) in table {
-        expect(rt, alloc, bytes.as_bytes(), wanted.as_bytes())?;
+        let shown = symbols_from(rt, alloc, bytes.as_bytes(), 0)?;
+        assert_eq!(rt; shown.as_slice(), wanted.as_bytes());
     }
     Ok(())
 }
@@ -278,36 +273,5 @@ fn from_a_position(rt: HostRuntime) -> Result<(), Fail> {
         let shown = symbols_from(&rt, rt.alloc(), bytes.as_bytes(), pos)?;
         assert_eq!(rt; shown.as_slice(), wanted.as_bytes());
     }
-    Ok(())
-}
-
-#[test]
-fn positions(rt: HostRuntime) -> Result<(), Fail> {
-    let alloc = rt.alloc();
-    let mut source = CharFile::new(alloc);
-    let text = text_of(&rt, alloc, &mut source, b" ab -7\"c\"")?;
-    let mut scanner = Scanner::open(&text, 0);
-    assert_eq!(rt; scanner.position(), 0);
-    assert!(rt; scan(&mut scanner, &mut source).is_ok());
-    assert_eq!(rt; scanner.position(), 3);
-    assert!(rt; scan(&mut scanner, &mut source).is_ok());
-    assert_eq!(rt; scanner.position(), 6);
-    assert!(rt; scan(&mut scanner, &mut source).is_ok());
-    assert_eq!(rt; scanner.position(), 9);
-    assert!(rt; scan(&mut scanner, &mut source).is_ok());
-    assert_eq!(rt; scanner.position(), 9);
-    Ok(())
-}
-
-#[test]
-fn scanner_after_a_fault(rt: HostRuntime) -> Result<(), Fail> {
-    let alloc = rt.alloc();
-    let mut source = fails_after(alloc, 0);
-    let text = text_of(&rt, alloc, &mut source, b"7")?;
-    let mut scanner = Scanner::open(&text, 0);
-    assert!(rt; scan(&mut scanner, &mut source).is_err());
-    let mut scanner = Scanner::open(&text, 0);
-    assert_eq!(rt; scan(&mut scanner, &mut source)?, Symbol::Int(7));
-    assert_eq!(rt; scan(&mut scanner, &mut source)?, Symbol::End);
     Ok(())
 }

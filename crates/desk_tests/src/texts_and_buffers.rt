@@ -1,9 +1,11 @@
 //! Rows of texts and buffers, and each call once.
+ghost use Rattle.std.specs.Prelude.{◌≤◌, length};
+ghost use Rattle.piece_ring.specs.Flat.{flat};
 
-use piece_ring::Ring;
+use crate::rings::has;
 use std::alloc::Global;
 use std::process::Abort;
-use std::test::*;
+use std::test::Fail;
 use text_core::{Buffer, DEFAULT_LOOK, Look, NoMemory, Piece, Text};
 
 /// A look that differs from the default one in every field.
@@ -20,239 +22,201 @@ const COLOURED: Look = Look {
     voff: 0,
 };
 
-/// A buffer with the characters from `off` on, in the default look.
-fn buffer_of(rt: &impl Abort, alloc: Global, off: u32, len: u32) -> Result<Buffer, NoMemory> {
-    assert!(rt; off < 100 && 0 < len && len < 100);
-    let mut buffer = Buffer::new(alloc)?;
-    let look = DEFAULT_LOOK;
-    buffer.add(alloc, Piece { off, len, look })?;
-    Ok(buffer)
+/// What is done to a text and a buffer.
+#[derive(Clone, Copy)]
+enum Edit {
+    /// Adds so many characters from an offset on to the buffer.
+    Add(u32, u32),
+    /// Puts a character before those of the buffer.
+    CopyTo(u32),
+    /// Takes the ring out of the buffer, and adds it again.
+    TakeAndAppend,
+    /// Leaves the buffer empty.
+    Clear,
+    /// Has the characters of a stretch of the text in the buffer too.
+    Save(u32, u32),
+    /// Takes the characters of a stretch of the text into the buffer.
+    Delete(u32, u32),
+    /// Puts the buffer's characters into the text.
+    Insert(u32),
+    /// Puts the buffer's characters in at the end of the text.
+    Append,
+    /// Gives a stretch of the text the fields of `CHANGED` that a selector names.
+    ChangeLooks(u32, u32, u8),
 }
 
-/// A text of them.
-fn text_of(rt: &impl Abort, alloc: Global, off: u32, len: u32) -> Result<Text, NoMemory> {
-    assert!(rt; off < 100 && len < 100);
-    Text::of_run(alloc, off, len, DEFAULT_LOOK)
-}
-
-/// Puts a buffer's characters in at the end of a text.
-fn append(
+/// Does that, where the positions are in the text.
+fn apply(
     rt: &impl Abort,
+    alloc: Global,
     text: &mut Text,
-    alloc: Global,
     buffer: &mut Buffer,
+    edit: Edit,
 ) -> Result<(), NoMemory> {
-    assert!(rt; text.len() < 100 && buffer.len() < 100);
-    text.append(alloc, buffer)
+    assert!(rt; text.len() < 100);
+    assert!(rt; buffer.len() < 100);
+    match edit {
+        Edit::Add(off, len) => {
+            assert!(rt; off < 100 && 0 < len && len < 100);
+            let look = DEFAULT_LOOK;
+            buffer.add(alloc, Piece { off, len, look })
+        }
+        Edit::CopyTo(off) => {
+            *buffer = copied_to(rt, alloc, off, buffer)?;
+            Ok(())
+        }
+        Edit::TakeAndAppend => {
+            let ring = buffer.take(alloc)?;
+            assert!(rt; buffer.len() < 100 && ring.len() < 100);
+            buffer.append(alloc, ring)
+        }
+        Edit::Clear => {
+            buffer.clear();
+            Ok(())
+        }
+        Edit::Save(beg, end) => {
+            assert!(rt; beg <= end && beg <= text.len());
+            *buffer = saved(alloc, text, beg, end)?;
+            Ok(())
+        }
+        Edit::Delete(beg, end) => {
+            assert!(rt; beg <= end && beg <= text.len());
+            text.delete(alloc, beg, end, buffer)
+        }
+        Edit::Insert(pos) => {
+            assert!(rt; pos <= text.len());
+            text.insert(alloc, pos, buffer)
+        }
+        Edit::Append => text.append(alloc, buffer),
+        Edit::ChangeLooks(beg, end, sel) => {
+            assert!(rt; beg <= end && beg <= text.len());
+            text.change_looks(alloc, beg, end, sel, CHANGED)
+        }
+    }
 }
 
-/// Puts a buffer's characters into a text.
-fn insert(
+/// A buffer with one character, and after it those of another.
+fn copied_to(
     rt: &impl Abort,
-    text: &mut Text,
     alloc: Global,
-    pos: u32,
-    buffer: &mut Buffer,
-) -> Result<(), NoMemory> {
-    assert!(rt; pos <= text.len() && text.len() < 100 && buffer.len() < 100);
-    text.insert(alloc, pos, buffer)
-}
-
-/// Takes characters out of a text, into a buffer.
-fn delete(
-    rt: &impl Abort,
-    text: &mut Text,
-    alloc: Global,
-    beg: u32,
-    end: u32,
-    buffer: &mut Buffer,
-) -> Result<(), NoMemory> {
-    assert!(rt; beg <= end && beg <= text.len());
-    text.delete(alloc, beg, end, buffer)
-}
-
-/// The characters from `beg` up to before `end`, in a buffer of their own.
-fn saved(
-    rt: &impl Abort,
-    text: &Text,
-    alloc: Global,
-    beg: u32,
-    end: u32,
+    off: u32,
+    buffer: &Buffer,
 ) -> Result<Buffer, NoMemory> {
-    assert!(rt; beg <= end && beg <= text.len());
+    assert!(rt; off < 100);
+    assert!(rt; buffer.len() < 100);
+    let mut other = Buffer::new(alloc)?;
+    let look = DEFAULT_LOOK;
+    other.add(alloc, Piece { off, len: 1, look })?;
+    buffer.copy_to(alloc, &mut other)?;
+    Ok(other)
+}
+
+/// The characters of a stretch, in a buffer of their own.
+fn saved(alloc: Global, text: &Text, beg: u32, end: u32) -> Result<Buffer, NoMemory>
+    requires order { beg ≤ end }
+    requires within { beg ≤ length (flat text.now) }
+{
     let mut buffer = Buffer::new(alloc)?;
     text.save(alloc, beg, end, &mut buffer)?;
     Ok(buffer)
 }
 
-/// Changes looks to `CHANGED` in the fields of the selector.
-fn change_looks(
+/// The text of the offsets 0 to 5 and an empty buffer, edited.
+fn edited(rt: &impl Abort, alloc: Global, edits: &[Edit]) -> Result<(Text, Buffer), NoMemory> {
+    let mut text = Text::of_run(alloc, 0, 6, DEFAULT_LOOK)?;
+    let mut buffer = Buffer::new(alloc)?;
+    for one in edits {
+        apply(rt, alloc, &mut text, &mut buffer, *one)?;
+    }
+    Ok((text, buffer))
+}
+
+/// Whether the text of the offsets 0 to 5 and an empty buffer have these offsets after edits, with 1,000 more where the
+/// colour is changed, and the text so many pieces.
+fn becomes(
     rt: &impl Abort,
-    text: &mut Text,
     alloc: Global,
-    beg: u32,
-    end: u32,
-    sel: u8,
-) -> Result<(), NoMemory> {
-    assert!(rt; beg <= end && beg <= text.len());
-    text.change_looks(alloc, beg, end, sel, CHANGED)
-}
-
-/// The look at a position that there is.
-fn look_at(rt: &impl Abort, text: &Text, pos: u32) -> Look {
-    assert!(rt; pos <= text.len());
-    text.attributes(pos)
-}
-
-/// Asserts that the text has the characters at these offsets, in these looks.
-fn expect_text(rt: &impl Abort, text: &Text, wanted: &[(u32, Look)]) {
-    assert_eq!(rt; text.len() as usize, wanted.len());
-    let mut cursor = text.cursor(0);
-    for want in wanted {
-        assert_eq!(rt; cursor.next(), Some(*want));
-    }
-    assert_eq!(rt; cursor.next(), None);
-}
-
-/// The same for offsets that are all in the default look.
-fn expect_plain(rt: &impl Abort, text: &Text, wanted: &[u32]) {
-    assert_eq!(rt; text.len() as usize, wanted.len());
-    let mut cursor = text.cursor(0);
-    for off in wanted {
-        assert_eq!(rt; cursor.next(), Some((*off, DEFAULT_LOOK)));
-    }
-    assert_eq!(rt; cursor.next(), None);
-}
-
-/// Asserts that the buffer has the characters at these offsets, in the default look.
-fn expect_buffer(rt: &impl Abort, buffer: &Buffer, wanted: &[u32]) {
-    assert_eq!(rt; buffer.len() as usize, wanted.len());
-    let mut cursor = buffer.cursor(0);
-    for off in wanted {
-        assert_eq!(rt; cursor.next(), Some((*off, DEFAULT_LOOK)));
-    }
-    assert_eq!(rt; cursor.next(), None);
+    edits: &[Edit],
+    wanted: [&[u32]; 2],
+    pieces: u32,
+) -> Result<bool, NoMemory> {
+    let (text, buffer) = edited(rt, alloc, edits)?;
+    let is_text = has(text.cursor(0), wanted[0], COLOURED) && text.pieces() == pieces;
+    Ok(is_text && has(buffer.cursor(0), wanted[1], COLOURED))
 }
 
 #[test]
 fn text_operations(rt: HostRuntime) -> Result<(), Fail> {
-    let alloc = rt.alloc();
-    let mut text = text_of(&rt, alloc, 0, 6)?;
-    let saved = saved(&rt, &text, alloc, 1, 5)?;
-    expect_buffer(&rt, &saved, &[1, 2, 3, 4]);
-    change_looks(&rt, &mut text, alloc, 2, 4, 2)?;
-    let plain = DEFAULT_LOOK;
-    expect_text(
-        &rt,
-        &text,
-        &[
-            (0, plain),
-            (1, plain),
-            (2, COLOURED),
-            (3, COLOURED),
-            (4, plain),
-            (5, plain),
-        ],
-    );
-    expect_buffer(&rt, &saved, &[1, 2, 3, 4]);
-    assert_eq!(rt; (text.pieces(), saved.pieces()), (3, 1));
-    Ok(())
-}
-
-#[test]
-fn a_text_taken_out_and_put_back(rt: HostRuntime) -> Result<(), Fail> {
-    let alloc = rt.alloc();
-    let (mut text, mut buffer) = (text_of(&rt, alloc, 0, 6)?, buffer_of(&rt, alloc, 50, 1)?);
-    delete(&rt, &mut text, alloc, 0, 99, &mut buffer)?;
-    expect_plain(&rt, &text, &[]);
-    expect_buffer(&rt, &buffer, &[0, 1, 2, 3, 4, 5]);
-    assert!(rt; insert(&rt, &mut text, alloc, 0, &mut buffer).is_ok());
-    expect_plain(&rt, &text, &[0, 1, 2, 3, 4, 5]);
-    assert_eq!(rt; buffer.len(), 0);
-    assert!(rt; delete(&rt, &mut text, alloc, 6, 99, &mut buffer).is_ok());
-    assert_eq!(rt; text.len(), 6);
-    Ok(())
-}
-
-#[test]
-fn selectors_without_a_field(rt: HostRuntime) -> Result<(), Fail> {
-    let alloc = rt.alloc();
-    let mut text = text_of(&rt, alloc, 0, 3)?;
-    for sel in [0, 8] {
-        change_looks(&rt, &mut text, alloc, 0, 99, sel)?;
+    let six: &[u32] = &[0, 1, 2, 3, 4, 5];
+    let rows: [(&[Edit], [&[u32]; 2], u32); 8] = [
+        (
+            &[Edit::Save(1, 5), Edit::ChangeLooks(2, 4, 2)],
+            [&[0, 1, 1_002, 1_003, 4, 5], &[1, 2, 3, 4]],
+            3,
+        ),
+        (&[Edit::Add(50, 1), Edit::Delete(0, 99)], [&[], six], 0),
+        (&[Edit::Delete(0, 99), Edit::Insert(0)], [six, &[]], 1),
+        (&[Edit::Delete(6, 99)], [six, &[]], 1),
+        (&[Edit::ChangeLooks(0, 99, 0)], [six, &[]], 1),
+        (&[Edit::ChangeLooks(0, 99, 8)], [six, &[]], 1),
+        (
+            &[Edit::ChangeLooks(4, 99, 2)],
+            [&[0, 1, 2, 3, 1_004, 1_005], &[]],
+            2,
+        ),
+        (
+            &[
+                Edit::Add(50, 1),
+                Edit::Insert(3),
+                Edit::Add(51, 1),
+                Edit::Insert(4),
+            ],
+            [&[0, 1, 2, 50, 51, 3, 4, 5], &[]],
+            3,
+        ),
+    ];
+    for (edits, wanted, pieces) in rows {
+        assert!(rt; becomes(&rt, rt.alloc(), edits, wanted, pieces)?);
     }
-    expect_plain(&rt, &text, &[0, 1, 2]);
     Ok(())
+}
+
+#[test]
+fn buffers(rt: HostRuntime) -> Result<(), Fail> {
+    let rows: [(&[Edit], &[u32]); 5] = [
+        (&[Edit::Add(0, 2)], &[0, 1]),
+        (&[Edit::Add(0, 2), Edit::CopyTo(2)], &[2, 0, 1]),
+        (
+            &[Edit::Add(4, 3), Edit::TakeAndAppend, Edit::Add(9, 1)],
+            &[4, 5, 6, 9],
+        ),
+        (&[Edit::Add(4, 3), Edit::Clear, Edit::Clear], &[]),
+        (&[Edit::Add(9, 1), Edit::Append], &[]),
+    ];
+    for (edits, wanted) in rows {
+        let (_, buffer) = edited(&rt, rt.alloc(), edits)?;
+        assert!(rt; has(buffer.cursor(0), wanted, COLOURED));
+    }
+    Ok(())
+}
+
+/// The look at a position of the text of the offsets 0 to 5, edited.
+fn look_at(rt: &impl Abort, alloc: Global, last: Edit, pos: u32) -> Result<Look, NoMemory> {
+    let (text, _) = edited(rt, alloc, &[last])?;
+    assert!(rt; pos <= text.len());
+    Ok(text.attributes(pos))
 }
 
 #[test]
 fn looks_at_positions(rt: HostRuntime) -> Result<(), Fail> {
-    let alloc = rt.alloc();
-    let mut text = text_of(&rt, alloc, 0, 3)?;
-    change_looks(&rt, &mut text, alloc, 2, 99, 2)?;
-    for (pos, look) in [(1, DEFAULT_LOOK), (2, COLOURED), (3, COLOURED)] {
-        assert_eq!(rt; look_at(&rt, &text, pos), look);
+    let change = Edit::ChangeLooks(2, 99, 2);
+    for (edit, pos, look) in [
+        (change, 1, DEFAULT_LOOK),
+        (change, 2, COLOURED),
+        (change, 6, COLOURED),
+        (Edit::Delete(0, 99), 0, DEFAULT_LOOK),
+    ] {
+        assert_eq!(rt; look_at(&rt, rt.alloc(), edit, pos)?, look);
     }
-    assert_eq!(rt; look_at(&rt, &Text::new(alloc)?, 0), DEFAULT_LOOK);
-    Ok(())
-}
-
-#[test]
-fn buffers_copied(rt: HostRuntime) -> Result<(), Fail> {
-    let alloc = rt.alloc();
-    let (first, mut other) = (buffer_of(&rt, alloc, 0, 2)?, buffer_of(&rt, alloc, 2, 1)?);
-    assert!(rt; first.len() < 50 && other.len() < 50);
-    first.copy_to(alloc, &mut other)?;
-    expect_buffer(&rt, &other, &[2, 0, 1]);
-    expect_buffer(&rt, &first, &[0, 1]);
-    Ok(())
-}
-
-#[test]
-fn buffers_put_in(rt: HostRuntime) -> Result<(), Fail> {
-    let alloc = rt.alloc();
-    let (mut text, mut buffer) = (text_of(&rt, alloc, 9, 1)?, buffer_of(&rt, alloc, 2, 1)?);
-    append(&rt, &mut text, alloc, &mut buffer)?;
-    expect_plain(&rt, &text, &[9, 2]);
-    expect_buffer(&rt, &buffer, &[]);
-    Ok(())
-}
-
-/// Adds a ring's characters to a buffer.
-fn append_ring(
-    rt: &impl Abort,
-    buffer: &mut Buffer,
-    alloc: Global,
-    ring: Ring,
-) -> Result<(), NoMemory> {
-    assert!(rt; buffer.len() < 100 && ring.len() < 100);
-    buffer.append(alloc, ring)
-}
-
-#[test]
-fn rings_come_and_go(rt: HostRuntime) -> Result<(), Fail> {
-    let alloc = rt.alloc();
-    let (mut buffer, mut other) = (buffer_of(&rt, alloc, 4, 3)?, buffer_of(&rt, alloc, 9, 1)?);
-    let ring = other.take(alloc)?;
-    assert!(rt; append_ring(&rt, &mut buffer, alloc, ring).is_ok());
-    expect_buffer(&rt, &buffer, &[4, 5, 6, 9]);
-    expect_buffer(&rt, &other, &[]);
-    buffer.clear();
-    buffer.clear();
-    expect_buffer(&rt, &buffer, &[]);
-    Ok(())
-}
-
-#[test]
-fn typing_in_a_text(rt: HostRuntime) -> Result<(), Fail> {
-    let alloc = rt.alloc();
-    let mut text = text_of(&rt, alloc, 0, 6)?;
-    assert!(rt; 3 <= text.len());
-    text.locate(3);
-    for typed in 50..60 {
-        let mut buffer = buffer_of(&rt, alloc, typed, 1)?;
-        insert(&rt, &mut text, alloc, typed - 47, &mut buffer)?;
-    }
-    assert_eq!(rt; (text.len(), text.pieces()), (16, 3));
     Ok(())
 }

@@ -29,70 +29,111 @@ fn rows(rt: &impl Abort, tracks: &Tracks, viewer: u8) -> (u8, u8) {
     (place.bottom, place.top)
 }
 
+/// What is done to a viewer of the user track, and the row that it is given where it takes one.
+#[derive(Clone, Copy)]
+enum Move {
+    Open(u8, u8),
+    Change(u8, u8),
+    Close(u8),
+}
+
+/// Does that. The viewer that is gone with it, or 0.
+fn made(rt: &impl Abort, tracks: &mut Tracks, one: Move) -> u8 {
+    match one {
+        Move::Open(viewer, y) => open(rt, tracks, viewer, y).map_or(0, |gone| gone.0),
+        Move::Change(viewer, y) => {
+            change(rt, tracks, viewer, y);
+            0
+        }
+        Move::Close(viewer) => {
+            close(rt, tracks, viewer);
+            0
+        }
+    }
+}
+
+/// Makes moves from an empty display on, and asserts of each which viewer is gone then, and of one viewer from which
+/// row to which it stands.
+fn expect_moves(rt: &impl Abort, moves: &[(Move, u8, u8, (u8, u8))]) {
+    let mut tracks = Tracks::new();
+    for (one, gone, viewer, place) in moves {
+        assert_eq!(rt; made(rt, &mut tracks, *one), *gone);
+        assert_eq!(rt; rows(rt, &tracks, *viewer), *place);
+    }
+}
+
 #[test]
 fn track_open(rt: HostRuntime) {
-    let mut tracks = Tracks::new();
-    assert_eq!(rt; open(&rt, &mut tracks, 1, 0), None);
-    assert_eq!(rt; rows(&rt, &tracks, 1), (0, 1));
-    assert_eq!(rt; open(&rt, &mut tracks, 2, 0), Some(ViewerId(1)));
-    assert!(rt; !tracks.contains(ViewerId(1)));
-    assert_eq!(rt; open(&rt, &mut tracks, 3, 20), None);
-    assert_eq!(rt; rows(&rt, &tracks, 3), (1, 20));
-    assert_eq!(rt; open(&rt, &mut tracks, 4, 19), None);
-    assert_eq!(rt; rows(&rt, &tracks, 4), (1, 19));
-    assert_eq!(rt; rows(&rt, &tracks, 3), (19, 20));
-    assert_eq!(rt; open(&rt, &mut tracks, 5, 20), Some(ViewerId(3)));
-    assert_eq!(rt; open(&rt, &mut tracks, 6, 40), None);
-    assert_eq!(rt; rows(&rt, &tracks, 6), (20, 32));
-    assert_eq!(rt; open(&rt, &mut tracks, 7, 32), Some(ViewerId(6)));
+    expect_moves(
+        &rt,
+        &[
+            (Move::Open(1, 0), 0, 1, (0, 1)),
+            (Move::Open(2, 0), 1, 2, (0, 1)),
+            (Move::Open(3, 20), 0, 3, (1, 20)),
+            (Move::Open(4, 19), 0, 4, (1, 19)),
+            (Move::Change(3, 20), 0, 3, (19, 20)),
+            (Move::Open(5, 20), 3, 5, (19, 20)),
+            (Move::Open(6, 40), 0, 6, (20, 32)),
+            (Move::Open(7, 32), 6, 7, (20, 32)),
+        ],
+    );
 }
 
 #[test]
 fn track_change(rt: HostRuntime) {
+    expect_moves(
+        &rt,
+        &[
+            (Move::Open(2, 0), 0, 2, (0, 1)),
+            (Move::Open(4, 19), 0, 4, (1, 19)),
+            (Move::Open(5, 20), 0, 5, (19, 20)),
+            (Move::Open(7, 32), 0, 7, (20, 32)),
+            (Move::Change(4, 25), 0, 4, (1, 19)),
+            (Move::Change(5, 25), 0, 5, (19, 25)),
+            (Move::Change(5, 25), 0, 7, (25, 32)),
+            (Move::Change(4, 1), 0, 4, (1, 19)),
+            (Move::Change(4, 2), 0, 4, (1, 2)),
+            (Move::Change(4, 2), 0, 5, (2, 25)),
+            (Move::Close(2), 0, 4, (0, 2)),
+            (Move::Close(5), 0, 7, (2, 32)),
+            (Move::Close(7), 0, 4, (0, 2)),
+        ],
+    );
+}
+
+/// Where a viewer would be opened after these moves, with no marker.
+fn allocated(rt: &impl Abort, moves: &[Move], track: Track) -> (u8, u8) {
     let mut tracks = Tracks::new();
-    for (viewer, y) in [(2, 0), (4, 19), (5, 20), (7, 32)] {
-        assert_eq!(rt; open(&rt, &mut tracks, viewer, y), None);
+    for one in moves {
+        made(rt, &mut tracks, *one);
     }
-    change(&rt, &mut tracks, 4, 25);
-    assert_eq!(rt; rows(&rt, &tracks, 4), (1, 19));
-    change(&rt, &mut tracks, 5, 25);
-    assert_eq!(rt; rows(&rt, &tracks, 5), (19, 25));
-    assert_eq!(rt; rows(&rt, &tracks, 7), (25, 32));
-    change(&rt, &mut tracks, 4, 1);
-    assert_eq!(rt; rows(&rt, &tracks, 4), (1, 19));
-    change(&rt, &mut tracks, 4, 2);
-    assert_eq!(rt; rows(&rt, &tracks, 4), (1, 2));
-    assert_eq!(rt; rows(&rt, &tracks, 5), (2, 25));
-    close(&rt, &mut tracks, 2);
-    assert_eq!(rt; rows(&rt, &tracks, 4), (0, 2));
-    close(&rt, &mut tracks, 5);
-    assert_eq!(rt; rows(&rt, &tracks, 7), (2, 32));
-    close(&rt, &mut tracks, 7);
-    assert_eq!(rt; tracks.at(0, 2), None);
-    assert_eq!(rt; tracks.at(0, 1), Some(ViewerId(4)));
+    tracks.allocate(track, None)
 }
 
 #[test]
 fn allocate(rt: HostRuntime) {
-    let mut tracks = Tracks::new();
-    assert_eq!(rt; tracks.allocate(Track::User, None), (0, 32));
+    let tracks = Tracks::new();
     assert_eq!(rt; tracks.allocate(Track::User, Some((60, 10))), (60, 11));
-    assert_eq!(rt; open(&rt, &mut tracks, 1, 29), None);
-    assert_eq!(rt; tracks.allocate(Track::User, None), (0, 14));
-    change(&rt, &mut tracks, 1, 28);
-    assert_eq!(rt; tracks.allocate(Track::User, None), (0, 32));
-    assert_eq!(rt; tracks.allocate(Track::System, None), (50, 32));
+    let low = Move::Open(1, 29);
+    let rows: [(&[Move], Track, (u8, u8)); 4] = [
+        (&[], Track::User, (0, 32)),
+        (&[low], Track::User, (0, 14)),
+        (&[low, Move::Change(1, 28)], Track::User, (0, 32)),
+        (&[low], Track::System, (50, 32)),
+    ];
+    for (moves, track, wanted) in rows {
+        assert_eq!(rt; allocated(&rt, moves, track), wanted);
+    }
 }
 
 #[test]
 fn two_tracks(rt: HostRuntime) {
     let mut tracks = Tracks::new();
-    assert_eq!(rt; open(&rt, &mut tracks, 1, 10), None);
+    open(&rt, &mut tracks, 1, 10);
     assert!(rt; !tracks.contains(ViewerId(2)));
-    assert_eq!(rt; tracks.open(ViewerId(2), 79, 5), None);
-    assert_eq!(rt; tracks.at(49, 4), Some(ViewerId(1)));
-    assert_eq!(rt; tracks.at(50, 4), Some(ViewerId(2)));
-    assert_eq!(rt; tracks.at(50, 5), None);
+    tracks.open(ViewerId(2), 79, 5);
+    let seen = [tracks.at(49, 4), tracks.at(50, 4), tracks.at(50, 5)];
+    assert!(rt; seen == [Some(ViewerId(1)), Some(ViewerId(2)), None]);
     assert!(rt; tracks.contains(ViewerId(2)));
     assert_eq!(rt; tracks.place_of(ViewerId(2)).x, 50);
 }
