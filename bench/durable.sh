@@ -18,7 +18,7 @@ took() {
     "$@"
     echo $(($(date +%s%N) - begun))
 }
-posts() { "$program" play "$folder/desk" < "$folder/script" > "$folder/answers"; }
+posts() { "$program" play "$folder/desk" < "$folder/script" > "$folder/replies"; }
 bare() { "$folder/bare" "$folder/plain"; }
 report() { awk -v what="$1" -v n="$((256 * rounds))" -v play="$2" -v loop="$3" 'BEGIN {
     printf "%s: play %.0f events/s, bare loop %.0f events/s, ratio %.2f\n", what, n * 1e9 / play, n * 1e9 / loop, loop / play }'; }
@@ -35,7 +35,7 @@ for round in $(seq "$rounds"); do
     done
     used_play=$((used_play + $(took posts)))
     used_loop=$((used_loop + $(took bare)))
-    [ "$(grep -c '^ok$' "$folder/answers")" = 256 ]
+    [ "$(grep -c '^ok$' "$folder/replies")" = 256 ]
 done
 report 'a new store' "$new_play" "$new_loop"
 report 'a used store' "$used_play" "$used_loop"

@@ -1,10 +1,10 @@
-# Each allocation of a run of hello.in is refused in turn, over a store in memory and over one in a file. The answers are the same, or the
-# first of them and `memory` with status 5; and a store in a file then shows just the events that were answered `ok`. A disk in memory
+# Each allocation of a run of hello.in is refused in turn, over a store in memory and over one in a file. The replies are the same, or the
+# first of them and `memory` with status 5; and a store in a file then shows just the events whose reply was `ok`. A disk in memory
 # that can't record a write fails as a disk does: then the word is `fault`, and the status 4.
 cc -shared -fPIC -o refuse.so "$TESTS/refuse_allocation.c" || exit 1
 "$OBERON" < "$TESTS/scripts/hello.in" > whole
 
-# The answers in `got` and `said`, after status $1, are the whole ones, or the first of their lines and the word of that status.
+# The replies in `got` and `said`, after status $1, are the whole ones, or the first of their lines and the word of that status.
 right() {
     case $1 in
         0) cmp -s got whole; return ;;
@@ -36,7 +36,7 @@ for order in memory file; do
             words=(play desk.disk)
         fi
         play $number "${words[@]}"
-        right $? || echo "$order: another answer with allocation $number refused"
+        right $? || echo "$order: other replies with allocation $number refused"
         if [ $order = file ]; then
             printf 'list\n' | "$OBERON" play desk.disk > shown
             if grep -q '^ok$' got; then echo 'file A.Text 6'; fi > listed
