@@ -26,7 +26,7 @@ pub enum Order<'a> {
 pub enum Refusal {
     /// They aren't of the program's language, or a word isn't UTF-8.
     Usage,
-    /// A growth found no memory.
+    /// An allocation found no memory.
     Memory,
 }
 
@@ -46,17 +46,22 @@ pub fn words(rt: &HostRuntime) -> Result<Vec<String>, Refusal> {
     }
 }
 
-/// What the words ask for: nothing behind the program's name, or one of the commands and a path.
+/// What the words ask for: nothing after the program's name, or one of the commands and a path.
 pub fn order_of<'a>(alloc: Global, words: &'a [String]) -> Result<Order<'a>, Refusal> {
     let matches = match command(alloc)?.try_get_matches_from(words) {
         Ok(matches) => matches,
         Err(error) if error.kind() == ParseErrorKind::OutOfMemory => return Err(Refusal::Memory),
         Err(_) => return Err(Refusal::Usage),
     };
-    let Some((name, given)) = matches.subcommand() else {
-        return Ok(Order::PlayInMemory);
-    };
-    match (name, given.get_str("path")) {
+    match matches.subcommand() {
+        None => Ok(Order::PlayInMemory),
+        Some((name, given)) => order_named(name, given.get_str("path")),
+    }
+}
+
+/// The order of a command and its path.
+fn order_named<'a>(name: &str, path: Option<&'a str>) -> Result<Order<'a>, Refusal> {
+    match (name, path) {
         ("format", Some(path)) => Ok(Order::Format(path)),
         ("play", Some(path)) => Ok(Order::Play(path)),
         ("screen", Some(path)) => Ok(Order::Screen(path)),
@@ -67,17 +72,22 @@ pub fn order_of<'a>(alloc: Global, words: &'a [String]) -> Result<Order<'a>, Ref
 
 /// The program as the command line has it: four commands.
 fn command<'a>(alloc: Global) -> Result<Command<'a>, AllocError> {
-    Command::new(alloc, "oberon")
-        .subcommand(over_a_path(alloc, "format")?)?
-        .subcommand(over_a_path(alloc, "play")?)?
-        .subcommand(over_a_path(alloc, "screen")?)?
-        .subcommand(over_a_path(alloc, "check")?)
+    let program = Command::new(alloc, "oberon");
+    let program = with_command(alloc, program, "format")?;
+    let program = with_command(alloc, program, "play")?;
+    let program = with_command(alloc, program, "screen")?;
+    with_command(alloc, program, "check")
 }
 
-/// A command over one path.
-fn over_a_path<'a>(alloc: Global, name: &'a str) -> Result<Command<'a>, AllocError> {
+/// The same with a command more, over one path.
+fn with_command<'a>(
+    alloc: Global,
+    program: Command<'a>,
+    name: &'a str,
+) -> Result<Command<'a>, AllocError> {
     let path = Arg::new(alloc, "path")
         .required(true)
         .action(ArgAction::Set);
-    Command::new(alloc, name).arg(path)
+    let command = Command::new(alloc, name).arg(path)?;
+    program.subcommand(command)
 }

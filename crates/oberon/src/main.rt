@@ -2,6 +2,8 @@
 //! rest is the library's.
 #![tactic(auto)]
 
+ghost use Rattle.std.specs.Prelude.{◌≡◌, IfOk, false};
+
 mod arguments;
 mod host;
 
@@ -59,8 +61,23 @@ fn decline(rt: &HostRuntime, refusal: Refusal) -> u8 {
 /// Plays the script on standard input over a new store in memory.
 fn play_in_memory(rt: &HostRuntime) -> Result<u8, Error> {
     let disk = MemoryDisk::new(rt.alloc(), FILE_SECTORS)?;
+    play_over(rt, formatted(disk)?)
+}
+
+/// The disk with a new store.
+fn formatted<D: Disk + Drop>(disk: D) -> Result<D, Error> {
     match Store::format(disk) {
-        Ok(disk) => play_over(rt, disk),
+        Ok(disk) => Ok(disk),
+        Err((error, _disk)) => Err(error),
+    }
+}
+
+/// The store on a disk.
+fn opened<D: Disk + Drop>(rt: &HostRuntime, disk: D) -> Result<Store<D>, Error>
+    ensures { IfOk result (λ store. store.must_reopen ≡ false) }
+{
+    match Store::open(rt.alloc(), disk) {
+        Ok(store) => Ok(store),
         Err((error, _disk)) => Err(error),
     }
 }
@@ -68,10 +85,12 @@ fn play_in_memory(rt: &HostRuntime) -> Result<u8, Error> {
 /// Makes a new store in the file, and says so when the store and the file's name are durable.
 fn format_file(rt: &HostRuntime, path: &str) -> Result<u8, Error> {
     let _lock = lock_or_make(rt, path)?;
-    let disk = FileDisk::create(rt, path)?;
-    if let Err((error, _disk)) = Store::format(disk) {
-        return Err(error);
-    }
+    make_store(rt, path)
+}
+
+/// The same, while the file is locked.
+fn make_store(rt: &HostRuntime, path: &str) -> Result<u8, Error> {
+    close(formatted(FileDisk::create(rt, path)?)?);
     sync_folder(rt, path)?;
     match send(&mut rt.stdout(), b"ok\n") {
         Ok(()) => Ok(0),
@@ -79,19 +98,36 @@ fn format_file(rt: &HostRuntime, path: &str) -> Result<u8, Error> {
     }
 }
 
+/// Lets go of a disk.
+fn close(_disk: FileDisk) {}
+
 /// Plays the script on standard input over the store in the file.
 fn play_file(rt: &HostRuntime, path: &str) -> Result<u8, Error> {
     let _lock = lock_alone(rt, path)?;
+    play_path(rt, path)
+}
+
+/// The same, while the file is locked.
+fn play_path(rt: &HostRuntime, path: &str) -> Result<u8, Error> {
     play_over(rt, FileDisk::open(rt, path)?)
+}
+
+/// Plays the script on standard input over the store on a disk.
+fn play_over<D: Disk + Drop>(rt: &HostRuntime, disk: D) -> Result<u8, Error> {
+    let mut store = opened(rt, disk)?;
+    Ok(status(&play(rt.alloc(), &mut rt.stdin(), &mut rt.stdout(), &mut store)))
 }
 
 /// Prints the screen of the store in the file.
 fn print_file(rt: &HostRuntime, path: &str) -> Result<u8, Error> {
     let _lock = lock_shared(rt, path)?;
-    match Store::open(rt.alloc(), FileDisk::open(rt, path)?) {
-        Ok(mut store) => print_screen(rt, &mut store),
-        Err((error, _disk)) => Err(error),
-    }
+    print_path(rt, path)
+}
+
+/// The same, while the file is locked.
+fn print_path(rt: &HostRuntime, path: &str) -> Result<u8, Error> {
+    let mut store = opened(rt, FileDisk::open(rt, path)?)?;
+    print_screen(rt, &mut store)
 }
 
 /// Prints the screen of a store on standard output.
@@ -107,21 +143,11 @@ fn print_screen<D: Disk>(rt: &HostRuntime, store: &mut Store<D>) -> Result<u8, E
 /// Says of the store in the file that it can be used.
 fn check_file(rt: &HostRuntime, path: &str) -> Result<u8, Error> {
     let _lock = lock_shared(rt, path)?;
-    match Store::open(rt.alloc(), FileDisk::open(rt, path)?) {
-        Ok(store) => Ok(status(&check(&mut rt.stdout(), &store))),
-        Err((error, _disk)) => Err(error),
-    }
+    check_path(rt, path)
 }
 
-/// Plays the script on standard input over the store on a disk.
-fn play_over<D: Disk + Drop>(rt: &HostRuntime, disk: D) -> Result<u8, Error> {
-    match Store::open(rt.alloc(), disk) {
-        Ok(mut store) => Ok(status(&play(
-            rt.alloc(),
-            &mut rt.stdin(),
-            &mut rt.stdout(),
-            &mut store,
-        ))),
-        Err((error, _disk)) => Err(error),
-    }
+/// The same, while the file is locked.
+fn check_path(rt: &HostRuntime, path: &str) -> Result<u8, Error> {
+    let store = opened(rt, FileDisk::open(rt, path)?)?;
+    Ok(status(&check(&mut rt.stdout(), &store)))
 }
