@@ -1,1 +1,6 @@
 pub mod Texts
+pub mod StepWords
+pub mod PairSteps
+pub mod SharedSteps
+pub mod ScrolledSteps
+pub mod WideSteps

@@ -183,6 +183,38 @@ byte_part = record { takes = from; again = λ n rest fits. rw (lt-ltb n 256 fits
         subst (λ (y : ℕ × List ℕ). Takes byte (λ n. n < 2 ^ 8) (b ∷ bs) y.0 y.1)
         (some_is {A = ℕ × List ℕ} (b, bs) (x, rest) e1) (record { fits = ltb-true b 256 small; parts = refl })
 
+-- a value that is written as its number in one byte, where a test tells which numbers there are
+pub numbered : {A : Type 0} (number : A → ℕ) (find : ℕ → Option A) → ((a : A) → number a < 2 ^ 8)
+    → ((a : A) → find (number a) ≡ Some a)
+    → ((n : ℕ) (a : A) → find n ≡ Some a → n ≡ number a)
+    → IsPart (λ a. byte (number a)) (λ a. Unit {0}) (λ bytes. byte_at bytes >>= λ n. find n.0 >>= λ a. Some (a, n.1))
+numbered {A} number find small again named = record { takes = from; again = back }
+  where
+    from : (bytes : List ℕ) (x : A) (rest : List ℕ)
+        → (byte_at bytes >>= λ n. find n.0 >>= λ a. given {A = A × List ℕ} (a, n.1)) ≡ Some (x, rest)
+        → Takes (λ a. byte (number a)) (λ a. Unit {0}) bytes x rest
+    from bytes x rest e =
+        let (n, n_is, e1) =
+        bind_some (byte_at bytes) (λ n. find n.0 >>= λ a. given {A = A × List ℕ} (a, n.1)) (x, rest) e in
+        let (a, a_is, e2) = bind_some (find n.0) (λ a. given {A = A × List ℕ} (a, n.1)) (x, rest) e1 in
+        let first = byte_part.takes bytes n.0 n.1 n_is in
+        let here : Takes (λ a. byte (number a)) (λ a. Unit {0}) bytes a n.1 = record {
+          fits = tt;
+          parts = first.parts ∙ ap (λ m. byte m ++ n.1) (named n.0 a a_is);
+        } in
+        subst (λ (y : A × List ℕ). Takes (λ a. byte (number a)) (λ a. Unit {0}) bytes y.0 y.1)
+        (some_is {A = A × List ℕ} (a, n.1) (x, rest) e2) here
+
+    back : (x : A) (rest : List ℕ) → Unit {0}
+        → (byte_at (byte (number x) ++ rest) >>= λ n. find n.0 >>= λ a. given {A = A × List ℕ} (a, n.1)) ≡ Some (
+          x,
+          rest,
+        )
+    back x rest fits =
+        ap (λ r. r >>= λ n. find n.0 >>= λ a. given {A = A × List ℕ} (a, n.1))
+        (byte_part.again (number x) rest (small x))
+        ∙ ap (λ r. r >>= λ a. given {A = A × List ℕ} (a, rest)) (again x)
+
 two_bytes : (a b c d : ℕ) → a ≡ c → b ≡ d → a ∷ b ∷ [] ≡ c ∷ d ∷ []
 two_bytes a b c d e f = cc
 

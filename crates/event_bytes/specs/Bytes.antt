@@ -43,3 +43,7 @@ is_name bs = nat_le (length bs) 31 && (begins is_letter bs && list_all is_name_b
 -- what one event can put into a file: 0 to 900 bytes of a text
 abbrev pub is_file_bytes : List ℕ → Bool
 is_file_bytes bs = nat_le (length bs) 900 && list_all is_text_byte bs
+
+-- what one event can type: 1 to 900 bytes of a text
+abbrev pub is_typed_bytes : List ℕ → Bool
+is_typed_bytes bs = nat_le 1 (length bs) && is_file_bytes bs

@@ -1,4 +1,5 @@
 pub mod Bytes
+pub mod Keys
 pub mod Parts
-pub mod Spelling
 pub mod Reading
+pub mod Spelling

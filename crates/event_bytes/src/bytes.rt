@@ -1,13 +1,14 @@
-//! What an event can put into a file.
+//! What an event can put into a file, and what it can type.
 ghost use Rattle.std.specs.Prelude.{◌≡◌, Some, None, IsTrue, if◌then◌else◌};
 ghost use Rattle.std.specs.List.{list_all};
 ghost use Rattle.event_bytes.specs.Bytes.{is_text_byte as text_byte, is_file_bytes as file_bytes};
+ghost use Rattle.event_bytes.specs.Bytes.{is_typed_bytes as typed_bytes};
 
 use crate::kinds::is_text_byte;
 use arrayvec::ArrayVec;
 use std::marker::Model;
 
-/// The most bytes that one event puts into a file.
+/// The most bytes that one event puts into a file or types.
 const MOST: usize = 900;
 
 /// The bytes that one event puts into a file, by this profile's rule: 0 to 900, each a tabulator (9), a carriage
@@ -48,6 +49,49 @@ impl FileBytes {
     pub fn as_bytes(&self) -> &[u8]
         ensures value { result.now ≡ self.now }
         ensures valid { IsTrue (file_bytes self.now) }
+    {
+        self.bytes.as_slice()
+    }
+}
+
+/// The bytes that one event types: 1 to 900, each a tabulator (9), a carriage return (13) or one from the space to the
+/// tilde (32 to 126).
+///
+/// A clause sees the list of them.
+#[derive(Debug, PartialEq, Eq, Drop)]
+pub struct TypedBytes {
+    bytes: ArrayVec<u8, MOST>,
+}
+
+impl Model for TypedBytes {
+    ghost use Rattle.std.specs.Prelude.{ℕ, List, IsTrue};
+    ghost use Rattle.event_bytes.specs.Bytes.{is_typed_bytes};
+
+    ghost Value = { List ℕ };
+
+    ghost view = { λ t. t.bytes.items };
+
+    ghost invariant = { λ t. IsTrue (is_typed_bytes t.bytes.items) };
+
+    ghost inverse = { λ bytes. record { bytes = record { items = bytes } } };
+}
+
+impl TypedBytes {
+    /// These bytes. None exactly where there is none of them, one of them can't be typed, or they are more than 900.
+    pub fn new(bytes: &[u8]) -> Option<TypedBytes>
+        ensures { result ≡ (if typed_bytes bytes.now then Some bytes.now else None) }
+    {
+        if bytes.is_empty() || !is_file_bytes(bytes) {
+            return None;
+        }
+        let bytes = ArrayVec::try_from(bytes).ok()?;
+        Some(TypedBytes { bytes })
+    }
+
+    /// The bytes, 1 to 900.
+    pub fn as_bytes(&self) -> &[u8]
+        ensures value { result.now ≡ self.now }
+        ensures valid { IsTrue (typed_bytes self.now) }
     {
         self.bytes.as_slice()
     }

@@ -3,10 +3,13 @@ ghost use Rattle.std.specs.Prelude.{◌≡◌, ◌≤◌, length, Some, IfSome};
 ghost use Rattle.std.specs.Option.{option_map};
 ghost use Rattle.event_bytes.specs.Parts.{value_and_rest, byte_at, word_at, bytes_at, counted_at};
 ghost use Rattle.event_bytes.specs.Spelling.{spelling, Begins};
-ghost use Rattle.event_bytes.specs.Reading.{name_at, file_bytes_at, file_at, body_at, event_at};
+ghost use Rattle.event_bytes.specs.Reading.{name_at, file_bytes_at, typed_bytes_at, file_at, key_at, keys_at, cell_at};
+ghost use Rattle.event_bytes.specs.Reading.{drag_at, typed_body_at, key_body_at, mark_body_at, point_body_at};
+ghost use Rattle.event_bytes.specs.Reading.{file_body_at, body_at, event_at};
 
-use crate::bytes::FileBytes;
-use crate::event::{Event, FILE};
+use crate::bytes::{FileBytes, TypedBytes};
+use crate::event::{Cell, Drag, Event, FILE, KEY, MARK, POINT, TYPED};
+use crate::keys::{Key, Keys};
 use crate::name::Name;
 
 impl Event {
@@ -38,13 +41,128 @@ fn event_from(bytes: &[u8]) -> Option<(Event, &[u8])>
 fn body_from(number: u8, bytes: &[u8]) -> Option<(Event, &[u8])>
     ensures { value_and_rest result ≡ body_at number bytes.now }
 {
-    match number {
-        FILE => {
-            let ((name, bytes), rest) = file_from(bytes)?;
-            Some((Event::File { name, bytes }, rest))
-        }
-        _ => None,
+    if number == TYPED {
+        typed_from(bytes)
+    } else if number == KEY {
+        key_event_from(bytes)
+    } else if number == MARK {
+        mark_from(bytes)
+    } else if number == POINT {
+        point_from(bytes)
+    } else if number == FILE {
+        file_event_from(bytes)
+    } else {
+        None
     }
+}
+
+/// What is typed, and the rest.
+#[tactic(auto, unfolding(crate::specs::Reading::typed_body_at))]
+fn typed_from(bytes: &[u8]) -> Option<(Event, &[u8])>
+    ensures { value_and_rest result ≡ typed_body_at bytes.now }
+{
+    let (bytes, rest) = typed_bytes_from(bytes)?;
+    Some((Event::Typed(bytes), rest))
+}
+
+/// The event of a key of the keyboard, and the rest.
+#[tactic(auto, unfolding(crate::specs::Reading::key_body_at))]
+fn key_event_from(bytes: &[u8]) -> Option<(Event, &[u8])>
+    ensures { value_and_rest result ≡ key_body_at bytes.now }
+{
+    let (key, rest) = key_from(bytes)?;
+    Some((Event::Key(key), rest))
+}
+
+/// The event that sets the marker, and the rest.
+#[tactic(auto, unfolding(crate::specs::Reading::mark_body_at))]
+fn mark_from(bytes: &[u8]) -> Option<(Event, &[u8])>
+    ensures { value_and_rest result ≡ mark_body_at bytes.now }
+{
+    let (cell, rest) = cell_from(bytes)?;
+    let Cell { x, y } = cell;
+    Some((Event::Mark { x, y }, rest))
+}
+
+/// The event of the mouse, and the rest.
+#[tactic(auto, unfolding(crate::specs::Reading::point_body_at))]
+fn point_from(bytes: &[u8]) -> Option<(Event, &[u8])>
+    ensures { value_and_rest result ≡ point_body_at bytes.now }
+{
+    let (drag, rest) = drag_from(bytes)?;
+    let event = Event::Point {
+        keys: drag.keys,
+        x0: drag.pressed.x,
+        y0: drag.pressed.y,
+        x1: drag.released.x,
+        y1: drag.released.y,
+    };
+    Some((event, rest))
+}
+
+/// The event that fills a file, and the rest.
+#[tactic(auto, unfolding(crate::specs::Reading::file_body_at))]
+fn file_event_from(bytes: &[u8]) -> Option<(Event, &[u8])>
+    ensures { value_and_rest result ≡ file_body_at bytes.now }
+{
+    let ((name, bytes), rest) = file_from(bytes)?;
+    Some((Event::File { name, bytes }, rest))
+}
+
+/// A key of the keyboard, and the rest.
+#[tactic(auto, unfolding(crate::specs::Reading::key_at))]
+fn key_from(bytes: &[u8]) -> Option<(Key, &[u8])>
+    ensures { value_and_rest result ≡ key_at bytes.now }
+{
+    let (number, rest) = byte_from(bytes)?;
+    let key = Key::from_number(number)?;
+    Some((key, rest))
+}
+
+/// Keys of the mouse, and the rest.
+#[tactic(auto, unfolding(crate::specs::Reading::keys_at))]
+fn keys_from(bytes: &[u8]) -> Option<(Keys, &[u8])>
+    ensures { value_and_rest result ≡ keys_at bytes.now }
+{
+    let (number, rest) = byte_from(bytes)?;
+    let keys = Keys::from_number(number)?;
+    Some((keys, rest))
+}
+
+/// A column and a row, and the rest.
+#[tactic(auto, unfolding(crate::specs::Reading::cell_at))]
+fn cell_from(bytes: &[u8]) -> Option<(Cell, &[u8])>
+    ensures { value_and_rest result ≡ cell_at bytes.now }
+{
+    let (x, rest) = byte_from(bytes)?;
+    let (y, rest) = byte_from(rest)?;
+    Some((Cell { x, y }, rest))
+}
+
+/// Keys of the mouse with the cells where they were pressed and released, and the rest.
+#[tactic(auto, unfolding(crate::specs::Reading::drag_at))]
+fn drag_from(bytes: &[u8]) -> Option<(Drag, &[u8])>
+    ensures { value_and_rest result ≡ drag_at bytes.now }
+{
+    let (keys, rest) = keys_from(bytes)?;
+    let (pressed, rest) = cell_from(rest)?;
+    let (released, rest) = cell_from(rest)?;
+    let drag = Drag {
+        keys,
+        pressed,
+        released,
+    };
+    Some((drag, rest))
+}
+
+/// Bytes that are typed, after their number in two bytes, and the rest.
+#[tactic(auto, unfolding(crate::specs::Reading::typed_bytes_at, crate::specs::Parts::counted_at))]
+fn typed_bytes_from(bytes: &[u8]) -> Option<(TypedBytes, &[u8])>
+    ensures { value_and_rest result ≡ typed_bytes_at bytes.now }
+{
+    let (len, rest) = word_from(bytes)?;
+    let (bytes, rest) = bytes_from(len as usize, rest)?;
+    Some((TypedBytes::new(bytes)?, rest))
 }
 
 /// The name and the bytes of a file, and the rest.

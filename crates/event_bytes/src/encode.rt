@@ -4,7 +4,7 @@ ghost use Rattle.arrayvec.specs.ArrayVec.{array_vec_len};
 ghost use Rattle.event_bytes.specs.Parts.{byte, word, counted};
 ghost use Rattle.event_bytes.specs.Spelling.{IsEvent, spelling};
 
-use crate::event::{Event, FILE};
+use crate::event::{Event, FILE, KEY, MARK, POINT, TYPED};
 use arrayvec::ArrayVec;
 
 /// As much of a spelling as is written; the longest has 935 bytes.
@@ -20,6 +20,21 @@ impl Event {
     {
         let mut written = Written::new();
         match self {
+            Event::Typed(bytes) => {
+                written.push(TYPED);
+                put_long(&mut written, bytes.as_bytes());
+            }
+            Event::Key(key) => put(&mut written, &[KEY, key.number()]),
+            Event::Mark { x, y } => put(&mut written, &[MARK, *x, *y]),
+            Event::Point {
+                keys,
+                x0,
+                y0,
+                x1,
+                y1,
+            } => {
+                put(&mut written, &[POINT, keys.number(), *x0, *y0, *x1, *y1]);
+            }
             Event::File { name, bytes } => {
                 written.push(FILE);
                 put_name(&mut written, name.as_bytes());

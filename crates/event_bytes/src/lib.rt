@@ -8,12 +8,14 @@ mod bytes;
 mod decode;
 mod encode;
 mod event;
+mod keys;
 mod kinds;
 mod laws;
 mod name;
 
-pub use bytes::FileBytes;
+pub use bytes::{FileBytes, TypedBytes};
 pub use event::Event;
+pub use keys::{Key, Keys};
 pub use kinds::{CARRIAGE_RETURN, TABULATOR, is_digit, is_letter, is_name_byte, is_text_byte};
 pub use laws::{at_most_one_begins, spelling_fits};
 pub use name::Name;

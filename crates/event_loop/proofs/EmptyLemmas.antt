@@ -1,6 +1,8 @@
 -- The empty desktop.
 use Rattle.std.proofs.Common.{◌≡◌, ℕ, zero, suc, List, [], ◌∷◌, None, refl, sym, ap, subst, ◌∙◌, arith}
-use Rattle.viewer_tracks.specs.Columns.{no_viewers}
+use Rattle.viewer_tracks.specs.Columns.{Columns, no_viewers}
+use Rattle.event_loop_laws.specs.declared.viewer.Viewer.{Viewer}
+use Rattle.event_loop_laws.specs.declared.viewer.Selection.{Selection}
 use Rattle.piece_ring.specs.declared.piece.Piece.{Piece}
 use Rattle.piece_ring.specs.Flat.{flat}
 use Rattle.piece_ring.specs.Look.{default_look}
@@ -13,21 +15,24 @@ use Rattle.event_loop_laws.specs.Seen.{seen, seen_table}
 use Rattle.event_loop_laws.specs.Sound.{IsSound, IsOver, AllWithin}
 use Rattle.event_loop_laws.specs.StepLaws.{empty_sound}
 
-module _ (texts : Texts (List Piece)) (files : Files (List Piece)) (text : List Piece)
-    (texts_is : texts ≡ (0, text) ∷ []) (none : files ≡ []) (is : flat text ≡ []) where
+module _ (texts : Texts (List Piece)) (viewers : List (ℕ × Viewer)) (columns : Columns) (selections : List Selection)
+    (files : Files (List Piece)) (copied deleted : List Piece) (pattern : List ℕ) (text : List Piece)
+    (texts_is : texts ≡ (0, text) ∷ []) (is : flat text ≡ []) (no_viewers_is : viewers ≡ [])
+    (columns_is : columns ≡ no_viewers) (no_selections : selections ≡ []) (none : files ≡ [])
+    (no_copied : flat copied ≡ []) (no_deleted : flat deleted ≡ []) (no_pattern : pattern ≡ []) where
   abbrev new_desktop : KeptDesktop
   new_desktop = record {
     texts = texts;
-    viewers = [];
-    columns = no_viewers;
+    viewers = viewers;
+    columns = columns;
     caret = None;
-    selections = [];
+    selections = selections;
     marker = None;
     kept = None;
     files = files;
-    copied = [];
-    deleted = [];
-    pattern = [];
+    copied = copied;
+    deleted = deleted;
+    pattern = pattern;
     look = default_look;
     written = 0;
   }
@@ -36,14 +41,20 @@ module _ (texts : Texts (List Piece)) (files : Files (List Piece)) (text : List 
   unfolding seen empty_desktop
   empty_seen characters = λ k. record (seen characters new_desktop) {
     texts = (ap (seen_table characters) texts_is ∙ ap (λ (t : Text ℕ). (0, contents characters t) ∷ []) is) k;
+    viewers = no_viewers_is k;
+    columns = columns_is k;
+    selections = no_selections k;
     files = (ap (seen_table characters) none) k;
+    copied = (ap (contents characters) no_copied) k;
+    deleted = (ap (contents characters) no_deleted) k;
+    pattern = no_pattern k;
   }
 
-  nothing : AreWithin 0 (flat text)
-  nothing = subst (AreWithin 0) (sym is) (λ i d low. absurd (omega (arith, low)))
+  nothing : (text : List Piece) → flat text ≡ [] → AreWithin 0 (flat text)
+  nothing text is = subst (AreWithin 0) (sym is) (λ i d low. absurd (omega (arith, low)))
 
   one : AllWithin {K = ℕ} 0 ((0, text) ∷ [])
-  one zero d low = nothing
+  one zero d low = nothing text is
   one (suc i) d low = absurd (omega (arith, low))
 
   no_files : AllWithin {K = List ℕ} 0 []
@@ -53,10 +64,12 @@ module _ (texts : Texts (List Piece)) (files : Files (List Piece)) (text : List 
   empty_over = record {
     counted = refl;
     whole = record {
-      texts = subst (AllWithin 0) (sym texts_is) one;
-      files = subst (AllWithin 0) (sym none) no_files;
-      copied = λ i d low. absurd (omega (arith, low));
-      deleted = λ i d low. absurd (omega (arith, low));
+      within = record {
+        texts = subst (AllWithin 0) (sym texts_is) one;
+        files = subst (AllWithin 0) (sym none) no_files;
+        copied = nothing copied no_copied;
+        deleted = nothing deleted no_deleted;
+      };
       sound = λ characters. subst IsSound (sym (empty_seen characters)) empty_sound;
     };
   }

@@ -1,3 +1,14 @@
+pub mod HeldLemmas
 pub mod EmptyLemmas
+pub mod GoneLemmas
 pub mod ListLemmas
 pub mod StopLemmas
+pub mod ViewerLemmas
+pub mod TextLemmas
+pub mod ViewLemmas
+pub mod OpeningLemmas
+pub mod PositionLemmas
+pub mod ReadLemmas
+pub mod GestureLemmas
+pub mod BarLemmas
+pub mod MarkLemmas

@@ -1,6 +1,8 @@
-//! What a desktop keeps, and a method for each row of events.
+//! What a desktop keeps, and a method for each kind of event.
 //!
-//! A method goes in this order: refusals, the limits, what may want memory, characters that are added, the change.
+//! The methods of rows stand in the modules beside this one, and go in this order: refusals, the limits, what may want
+//! memory, characters that are added, the change. Each promises the same: what is `settled` of its row, where the
+//! characters were told truly, and of the desktop, the reply and the source what holds whatever was told.
 ghost use Rattle.std.specs.Prelude.{◌≡◌, ◌+◌, ◌<◌, ◌≤◌, ◌^◌, ℕ, List, [], length, IfOk, IsErrOf, IsTrue};
 ghost use Rattle.sector_disk.specs.Faults.{FailsAs};
 ghost use Rattle.piece_ring.specs.Text.{Text as AText};
@@ -17,19 +19,47 @@ ghost use Rattle.event_loop.specs.Stops.{IsStop};
 use crate::files::{Files, has_room, length_of, put};
 use crate::held::{lengths, within_limits};
 use crate::stop::{NoMemory, Stop};
+use crate::viewers::Viewers;
+use arrayvec::ArrayVec;
 use char_file::CharSource;
 use event_bytes::{Event, FileBytes, Name};
-use event_loop_laws::{Reply, codes};
-use piece_ring::DEFAULT_LOOK;
+use event_loop_laws::{Caret, Kept, MOST_PATTERN, Reply, Selection, codes};
+use piece_ring::{DEFAULT_LOOK, Look};
 use std::alloc::Global;
 use std::collections::BTreeMap;
-use text_core::Text;
+use std::vec::Vec;
+use text_core::{Buffer, Text};
+use viewer_tracks::Tracks;
 
-/// Texts by number, of which text 0 is the log, files by name, and how many characters were ever written.
+const PATTERN: usize = MOST_PATTERN as usize;
+
+/// What a desktop keeps. `specs/Desktop.antt` of `event_loop_laws` says what its parts are.
 #[derive(Drop)]
 pub struct Desk {
+    /// Texts by number, of which text 0 is the log.
     pub texts: BTreeMap<u16, Text>,
+    /// Viewers by rising ids, the one that was closed last among them.
+    pub viewers: Viewers,
+    /// Where they stand on the display.
+    pub tracks: Tracks,
+    /// The caret, if a viewer has it.
+    pub caret: Option<Caret>,
+    /// One in each viewer at most, from the oldest to the newest.
+    pub selections: Vec<Selection>,
+    /// The cell of the marker, as column and row, if it is set.
+    pub marker: Option<(u8, u8)>,
+    /// The viewer that was closed last, if there is one.
+    pub kept: Option<Kept>,
     pub files: Files,
+    /// What was copied last.
+    pub copied: Buffer,
+    /// What was deleted last.
+    pub deleted: Buffer,
+    /// The bytes for which a text was searched last.
+    pub pattern: ArrayVec<u8, PATTERN>,
+    /// The look in which characters are typed.
+    pub look: Look,
+    /// How many characters were ever written.
     pub written: u32,
 }
 
@@ -40,9 +70,21 @@ pub fn empty_desk(alloc: Global) -> Result<Desk, NoMemory>
 {
     let mut texts = BTreeMap::new(alloc);
     texts.insert(0, Text::new(alloc)?)?;
+    let copied = Buffer::new(alloc)?;
+    let deleted = Buffer::new(alloc)?;
     Ok(Desk {
         texts,
+        viewers: Vec::new(alloc),
+        tracks: Tracks::new(),
+        caret: None,
+        selections: Vec::new(alloc),
+        marker: None,
+        kept: None,
         files: BTreeMap::new(alloc),
+        copied,
+        deleted,
+        pattern: ArrayVec::new(),
+        look: DEFAULT_LOOK,
         written: 0,
     })
 }
@@ -65,6 +107,10 @@ impl Desk {
         ensures faults { FailsAs Stop.Fault IsStop result (S.failures source.old) (S.failures source.new) }
     {
         match event {
+            Event::Typed(bytes) => self.type_bytes(alloc, bytes, source),
+            Event::Key(key) => self.press(alloc, *key, source),
+            Event::Mark { x, y } => self.mark(*x, *y, source),
+            Event::Point { keys, x0, y0, x1, y1 } => self.point(alloc, *keys, (*x0, *y0), (*x1, *y1), source),
             Event::File { name, bytes } => self.put_file(alloc, name, bytes, source),
         }
     }
@@ -114,11 +160,11 @@ impl Desk {
     }
 
     /// How many characters the desktop holds.
-    fn held(&self) -> usize
+    pub fn held(&self) -> usize
         requires { IsKeptWhole (kept self.now) }
         ensures held { (characters : List ℕ) → result ≡ held (seen characters (kept self.now)) }
         ensures few { result ≤ most_held }
     {
-        lengths(&self.texts) + lengths(&self.files)
+        lengths(&self.texts) + lengths(&self.files) + self.copied.len() as usize + self.deleted.len() as usize
     }
 }

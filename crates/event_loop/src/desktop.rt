@@ -21,13 +21,13 @@ use crate::stop::{NoMemory, Stop};
 use char_file::CharSource;
 use event_bytes::{Event, Name};
 use event_loop_laws::{Entry, Reply};
-use screen_cells::{Screen, all_filler_without_viewers};
+use screen_cells::Screen;
 use std::alloc::Global;
 use std::marker::Model;
 use text_core::Text;
-use viewer_tracks::Tracks;
+use viewer_tracks::Track;
 
-/// A desktop: texts by number, files by name, and how many characters were ever written.
+/// A desktop: texts by number, the viewers that show them, files by name, and how many characters were ever written.
 ///
 /// A clause sees it as it is kept (`KeptDesktop` in `specs/Desktop.antt` of `event_loop_laws`), each text as pieces
 /// that name characters. These stand in a source, among which the desktop is `seen`. Each call that makes or reads
@@ -95,7 +95,8 @@ impl Desktop {
         file_of(&self.desk.files, name)
     }
 
-    /// An entry for each file, by rising names, and at last one for how many characters were ever written.
+    /// An entry for each file, by rising names; one for each viewer of the user track and then of the system track,
+    /// from the bottom up; and at last one for how many characters were ever written.
     ///
     /// NoMemory where an allocation is refused; Fault where a character could not be read. The desktop stays, whatever
     /// is returned.
@@ -107,13 +108,16 @@ impl Desktop {
         ensures reads { OnlyReads S.characters S.failures S.honest S.same_ground source.old source.new }
         ensures faults { FailsAs Stop.Fault IsStop result (S.failures source.old) (S.failures source.new) }
     {
-        let _ = source;
         let mut entries = entries(alloc, &self.desk.files)?;
+        self.desk
+            .list_track(alloc, Track::User, &mut entries, source)?;
+        self.desk
+            .list_track(alloc, Track::System, &mut entries, source)?;
         entries.push(Entry::Written(self.desk.written))?;
         Ok(entries)
     }
 
-    /// Paints what the desktop shows: all filler, since no event opens a viewer or sets the marker yet.
+    /// Paints what the desktop shows: its viewers, with the caret and what is selected, and the marker.
     ///
     /// NoMemory where an allocation is refused; Fault where a character could not be read, and the screen may then show
     /// anything. The desktop stays, whatever is returned.
@@ -130,11 +134,7 @@ impl Desktop {
         ensures reads { OnlyReads S.characters S.failures S.honest S.same_ground source.old source.new }
         ensures faults { FailsAs Stop.Fault IsStop result (S.failures source.old) (S.failures source.new) }
     {
-        let _ = alloc;
-        // Where there is no viewer all is filler.
-        all_filler_without_viewers();
-        screen.paint(&Tracks::new(), &[], None, source)?;
-        Ok(())
+        self.desk.paint(alloc, source, screen)
     }
 
     /// How many characters were ever written, at most 4,194,304.

@@ -7,11 +7,24 @@
 //! reads them is handed. The calls promise what the definitions say of the desktop as it is seen among its characters.
 #![tactic(auto)]
 
+mod bars;
 mod desk;
 mod desktop;
+mod edits;
 mod files;
+mod gestures;
 mod held;
+mod keys;
+mod marks;
+mod menus;
+mod openings;
+mod places;
 mod stop;
+mod stretches;
+mod tables;
+mod texts;
+mod viewers;
+mod views;
 
 pub use desktop::Desktop;
 pub use event_loop_laws::{Entry, Reply, codes};

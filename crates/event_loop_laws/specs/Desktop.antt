@@ -1,37 +1,16 @@
 -- The desktop: texts by number, of which text 0 is the log; viewers on the display, each with a menu and a main text;
--- what is marked in
--- them; and files by name. T is the type of a text.
+-- what is marked in them; and files by name. T is the type of a text.
 use Rattle.std.specs.Prelude.{ℕ, ◌+◌, List, [], ◌∷◌, length, Option, None}
 use Rattle.piece_ring.specs.declared.piece.Look.{Look}
 use Rattle.piece_ring.specs.declared.piece.Piece.{Piece}
 use Rattle.piece_ring.specs.Look.{default_look}
 use Rattle.piece_ring.specs.Text.{Text}
-use Rattle.viewer_tracks.specs.declared.display.Track.{Track}
 use Rattle.viewer_tracks.specs.Columns.{Columns, no_viewers}
+use Rattle.event_loop_laws.specs.declared.viewer.Viewer.{Viewer}
+use Rattle.event_loop_laws.specs.declared.viewer.Caret.{Caret}
+use Rattle.event_loop_laws.specs.declared.viewer.Selection.{Selection}
+use Rattle.event_loop_laws.specs.declared.viewer.Kept.{Kept}
 use Rattle.event_loop_laws.specs.Tables.{Texts, Files, named, with_values, lengths}
-
--- the numbers of the texts that a viewer shows, and the position in the main one from which it shows it
-pub record Viewer : Type 0 where
-  pub menu : ℕ
-  pub main : ℕ
-  pub org : ℕ
-
--- a place between two characters of a viewer's main text
-pub record Caret : Type 0 where
-  pub viewer : ℕ
-  pub position : ℕ
-
--- the characters of a viewer's main text from `beg` up to before `end`
-pub record Selection : Type 0 where
-  pub viewer : ℕ
-  pub beg : ℕ
-  pub end : ℕ
-
--- the viewer that was closed last, with the column in which it stood and the row of its top
-pub record Kept : Type 0 where
-  pub viewer : ℕ
-  pub track : Track
-  pub top : ℕ
 
 pub record DesktopOf (T : Type 0) : Type 0 where
   -- by rising numbers

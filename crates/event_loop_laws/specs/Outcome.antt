@@ -3,14 +3,15 @@ use Rattle.std.specs.Prelude.{◌≡◌, ◌↔◌, ◌≤◌, ⊤, ℕ, List, [
 use Rattle.sector_disk.specs.Faults.{OneOf}
 use Rattle.event_loop_laws.specs.declared.reply.Reply.{Reply}
 use Rattle.event_loop_laws.specs.declared.reply.Reply.TheVariants.{Done, No}
-use Rattle.event_loop_laws.specs.Limits.{full, too_many_files}
+use Rattle.event_loop_laws.specs.Limits.{no_caret, no_selection, no_command, no_file, full, too_many_files}
+use Rattle.event_loop_laws.specs.Limits.{outside}
 use Rattle.event_loop_laws.specs.Desktop.{Desktop, KeptDesktop}
 use Rattle.event_loop_laws.specs.Seen.{seen}
 use Rattle.event_loop_laws.specs.Sound.{IsOver}
 
 -- the codes that there are
 abbrev pub codes : List ℕ
-codes = full ∷ too_many_files ∷ []
+codes = no_caret ∷ no_selection ∷ no_command ∷ no_file ∷ full ∷ too_many_files ∷ outside ∷ []
 
 -- Done, or a refusal with one of the codes
 abbrev pub IsReply : Reply → Type 0

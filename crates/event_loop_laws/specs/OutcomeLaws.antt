@@ -1,5 +1,5 @@
 -- Laws of outcomes: what a row owes where it refuses, and where the event is done.
-use Rattle.std.specs.Prelude.{◌≡◌, ℕ, ◌+◌, IsTrue, true, List, ◌++◌, length}
+use Rattle.std.specs.Prelude.{◌≡◌, ◌≤◌, ℕ, ◌+◌, IsTrue, true, List, ◌++◌, length}
 use Rattle.std.proofs.Common.{refl, sym, ap, subst, ◌∙◌, length-append, arith}
 use Rattle.std.proofs.lemmas.List.{length-map}
 use Rattle.sector_disk.specs.Faults.{OneOf}
@@ -19,10 +19,11 @@ use Rattle.event_loop_laws.specs.Tables.{Files, name_cmp, put}
 use Rattle.event_loop_laws.specs.TableLaws.{insert_seen, length_seen_text, longer, put_within}
 use Rattle.event_loop_laws.specs.Desktop.{Desktop, KeptDesktop}
 use Rattle.event_loop_laws.specs.Seen.{seen, seen_text, seen_table}
-use Rattle.event_loop_laws.specs.SeenLaws.{seen_longer, plain_read}
-use Rattle.event_loop_laws.specs.Step.{plain, has_room, filed, fits, step}
+use Rattle.event_loop_laws.specs.SeenLaws.{seen_longer, within_counted, new_read}
+use Rattle.event_loop_laws.specs.Change.{in_look, plain}
+use Rattle.event_loop_laws.specs.Step.{has_room, filed, fits, step}
 use Rattle.event_loop_laws.specs.StepLaws.{file_done, filed_sound}
-use Rattle.event_loop_laws.specs.Sound.{IsSound, AllWithin, IsOver}
+use Rattle.event_loop_laws.specs.Sound.{IsSound, AllWithin, IsWithin, IsOver}
 use Rattle.event_loop_laws.specs.Outcome.{codes, IsAnswered}
 
 pub refused : (H : Type 0) (old : List ℕ) (d : KeptDesktop) (outcome : Desktop × Reply) (code : ℕ) → IsOver old d
@@ -43,8 +44,23 @@ acted H old new d after outcome over is = record {
   refusal = λ c same. absurd (cc same);
 }
 
-pub length_plain : (bytes : List ℕ) → length (plain bytes) ≡ length bytes
-length_plain bytes = length-map {B = ℕ × Look} bytes (λ (b : ℕ). (b, default_look))
+pub length_in_look : (look : Look) (bytes : List ℕ) → length (in_look look bytes) ≡ length bytes
+length_in_look look bytes = length-map {B = ℕ × Look} bytes (λ (b : ℕ). (b, look))
+
+-- each character of a desktop is one of more
+pub within_longer : (n m : ℕ) (d : KeptDesktop) → n ≤ m → IsWithin n d → IsWithin m d
+within_longer n m d low within = record {
+  texts = longer n m d.texts low within.texts;
+  files = longer n m d.files low within.files;
+  copied = AreWithin-longer n m (flat d.copied) low within.copied;
+  deleted = AreWithin-longer n m (flat d.deleted) low within.deleted;
+}
+
+-- a desktop over its characters is seen so among these and more
+pub seen_grown : (old bytes new : List ℕ) (d : KeptDesktop) → IsOver old d → new ≡ old ++ bytes → seen new d
+    ≡ seen old d
+seen_grown old bytes new d over grown =
+    ap (λ (l : List ℕ). seen l d) grown ∙ seen_longer old bytes d (within_counted old d over)
 
 -- ---- a file
 
@@ -73,18 +89,22 @@ module _ (H : Type 0) (old bytes new : List ℕ) (d : KeptDesktop) (name : List 
     unfolding seen
     room_seen = room
 
+    more : IsWithin (d.written + length bytes) d
+    more = within_longer d.written (d.written + length bytes) d (omega arith) over.whole.within
+
     file_over : IsOver new with_file
     file_over = record {
       counted = ap length grown ∙ length-append old bytes ∙ ap (λ n. n + length bytes) over.counted;
       whole = record {
-        texts = longer d.written (d.written + length bytes) d.texts (omega arith) over.whole.texts;
-        files = subst (AllWithin (d.written + length bytes)) (sym put_is)
-            (put_within d.written (d.written + length bytes) d.files name text (omega arith) over.whole.files
-            (subst (AreWithin (d.written + length bytes)) (sym is)
-            (run-AreWithin (d.written + length bytes) d.written (length bytes) default_look (omega arith))));
-        copied = AreWithin-longer d.written (d.written + length bytes) (flat d.copied) (omega arith) over.whole.copied;
-        deleted = AreWithin-longer d.written (d.written + length bytes) (flat d.deleted)
-            (omega arith) over.whole.deleted;
+        within = record {
+          texts = more.texts;
+          copied = more.copied;
+          deleted = more.deleted;
+          files = subst (AllWithin (d.written + length bytes)) (sym put_is)
+              (put_within d.written (d.written + length bytes) d.files name text (omega arith) over.whole.within.files
+              (subst (AreWithin (d.written + length bytes)) (sym is)
+              (run-AreWithin (d.written + length bytes) d.written (length bytes) default_look (omega arith))));
+        };
         sound = λ characters. subst IsSound (sym (file_read characters))
             (filed_sound (seen characters d) name (seen_text characters text) (over.whole.sound characters) valid
             (room_seen characters) (fit characters _ (long characters)));
@@ -95,12 +115,13 @@ module _ (H : Type 0) (old bytes new : List ℕ) (d : KeptDesktop) (name : List 
     file_exact =
         (λ k. (file_read new k, Done))
         ∙ (λ k. (
-          filed ((ap (λ (l : List ℕ). seen l d) grown ∙ seen_longer old bytes d over) k) name
+          filed (seen_grown old bytes new d over grown k) name
               ((ap (λ (l : List ℕ). seen_text l text) grown ∙ ap (contents (old ++ bytes)) is
-              ∙ plain_read old bytes d over) k),
+              ∙ new_read old bytes d.written default_look over.counted) k),
           Done,
         ))
-        ∙ file_done (seen old d) name bytes (room_seen old) (fit old (plain bytes) (length_plain bytes))
+        ∙ file_done (seen old d) name bytes (over.whole.sound old).shown (room_seen old)
+        (fit old (plain bytes) (length_in_look default_look bytes))
 
     pub file_answered : IsAnswered H old new d with_file (step (seen old d) (File name bytes)) Done
     file_answered = acted H old new d with_file (step (seen old d) (File name bytes)) file_over (λ h. file_exact)

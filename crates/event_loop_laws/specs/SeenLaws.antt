@@ -8,7 +8,7 @@ use Rattle.std.proofs.lemmas.Map.Views.{IfSome-lookup_from_All}
 use Rattle.std.proofs.lemmas.List.{get_or_append_left}
 use Rattle.std.proofs.Math.Seq.{get_or-append_seam}
 use Rattle.piece_ring.specs.declared.piece.Piece.{Piece}
-use Rattle.piece_ring.specs.Look.{default_look}
+use Rattle.piece_ring.specs.declared.piece.Look.{Look}
 use Rattle.piece_ring.specs.Flat.{flat, run}
 use Rattle.piece_ring.specs.Offsets.{AreWithin}
 use Rattle.piece_ring.specs.Text.{Text}
@@ -16,8 +16,8 @@ use Rattle.readers_scanners.specs.Reading.{contents}
 use Rattle.event_loop_laws.specs.Desktop.{KeptDesktop, file_of}
 use Rattle.event_loop_laws.specs.Tables.{name_cmp}
 use Rattle.event_loop_laws.specs.Seen.{seen_text, seen_table, seen}
-use Rattle.event_loop_laws.specs.Step.{plain}
-use Rattle.event_loop_laws.specs.Sound.{AllWithin, IsOver}
+use Rattle.event_loop_laws.specs.Change.{in_look}
+use Rattle.event_loop_laws.specs.Sound.{AllWithin, IsWithin, IsOver}
 
 pub contents_longer : (first more : List ℕ) (text : Text ℕ) → AreWithin (length first) text
     → contents (first ++ more) text ≡ contents first text
@@ -33,47 +33,37 @@ table_longer first more (e ∷ es) within = λ k.
     (e.0, contents_longer first more (flat e.1) (within 0 e.1 (omega arith)) k) ∷ table_longer first more es
     (λ i d low. within (suc i) d (omega (arith, low))) k
 
--- a desktop over its characters is seen as before among more of them
-pub seen_longer : (first more : List ℕ) (d : KeptDesktop) → IsOver first d → seen (first ++ more) d ≡ seen first d
+-- a desktop is seen as before among more characters
+pub seen_longer : (first more : List ℕ) (d : KeptDesktop) → IsWithin (length first) d
+    → seen (first ++ more) d ≡ seen first d
 unfolding seen
-seen_longer first more d over =
-    let all = sym over.counted in
-    let texts = subst (λ n. AllWithin n d.texts) all over.whole.texts in
-    let files = subst (λ n. AllWithin n d.files) all over.whole.files in
-    let copied = subst (λ n. AreWithin n (flat d.copied)) all over.whole.copied in
-    let deleted = subst (λ n. AreWithin n (flat d.deleted)) all over.whole.deleted in
-    λ k. record {
-      texts = table_longer first more d.texts texts k;
-      viewers = d.viewers;
-      columns = d.columns;
-      caret = d.caret;
-      selections = d.selections;
-      marker = d.marker;
-      kept = d.kept;
-      files = table_longer first more d.files files k;
-      copied = contents_longer first more (flat d.copied) copied k;
-      deleted = contents_longer first more (flat d.deleted) deleted k;
-      pattern = d.pattern;
-      look = d.look;
-      written = d.written;
-    }
+seen_longer first more d within = λ k. record (seen first d) {
+  texts = table_longer first more d.texts within.texts k;
+  files = table_longer first more d.files within.files k;
+  copied = contents_longer first more (flat d.copied) within.copied k;
+  deleted = contents_longer first more (flat d.deleted) within.deleted k;
+}
 
-read_new : (first bytes : List ℕ) (n : ℕ) → length first ≡ n
-    → contents (first ++ bytes) (run n (length bytes) default_look) ≡ plain bytes
-read_new first [] n long = refl
-read_new first (b ∷ bytes) n long =
+-- each character of a desktop that is over its characters is one of them
+pub within_counted : (characters : List ℕ) (d : KeptDesktop) → IsOver characters d → IsWithin (length characters) d
+within_counted characters d over = subst (λ n. IsWithin n d) (sym over.counted) over.whole.within
+
+read_new : (first bytes : List ℕ) (n : ℕ) (look : Look) → length first ≡ n
+    → contents (first ++ bytes) (run n (length bytes) look) ≡ in_look look bytes
+read_new first [] n look long = refl
+read_new first (b ∷ bytes) n look long =
     let here : slice_index (first ++ b ∷ bytes) n
     ≡ b = subst (λ i. slice_index (first ++ b ∷ bytes) i ≡ b) long (get_or-append_seam first b bytes 0) in
-    let rest = read_new (first ++ b ∷ []) bytes (suc n)
+    let rest = read_new (first ++ b ∷ []) bytes (suc n) look
     (let grown = length-append first (b ∷ []) in omega (arith, grown, long)) in
-    λ k. (here k, default_look) ∷ subst
-    (λ (l : List ℕ). contents l (run (suc n) (length bytes) default_look) ≡ plain bytes)
+    λ k. (here k, look) ∷ subst
+    (λ (l : List ℕ). contents l (run (suc n) (length bytes) look) ≡ in_look look bytes)
     (append_assoc first (b ∷ []) bytes) rest k
 
 -- new characters read as the bytes of which they were made
-pub plain_read : (first bytes : List ℕ) (d : KeptDesktop) → IsOver first d
-    → contents (first ++ bytes) (run d.written (length bytes) default_look) ≡ plain bytes
-plain_read first bytes d over = read_new first bytes d.written over.counted
+pub new_read : (first bytes : List ℕ) (n : ℕ) (look : Look) → length first ≡ n
+    → contents (first ++ bytes) (run n (length bytes) look) ≡ in_look look bytes
+new_read first bytes n look long = read_new first bytes n look long
 
 -- ---- a file that is found
 
@@ -101,7 +91,7 @@ pub found_over : {B : Type 0} (now : B → List Piece) (found : Option B) (d : K
     → IfSome found (λ b. AreWithin (length characters) (flat (now b)))
 unfolding file_of
 found_over now found d characters name is over =
-    let all = subst (λ n. AllWithin n d.files) (sym over.counted) over.whole.files in
+    let all = (within_counted characters d over).files in
     of_found now (λ pieces. AreWithin (length characters) (flat pieces)) found
     (subst (λ (o : Option (List Piece)). IfSome o (λ pieces. AreWithin (length characters) (flat pieces))) (sym is)
     (IfSome-lookup_from_All (λ pieces. AreWithin (length characters) (flat pieces))

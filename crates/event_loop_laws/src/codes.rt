@@ -6,3 +6,18 @@ pub const FULL: u8 = 6;
 
 /// There is no file of that name, and there are 256 files.
 pub const TOO_MANY_FILES: u8 = 8;
+
+/// No viewer has the caret.
+pub const NO_CARET: u8 = 1;
+
+/// Nothing is selected, or the stretch is empty.
+pub const NO_SELECTION: u8 = 2;
+
+/// The word that was clicked is no command.
+pub const NO_COMMAND: u8 = 4;
+
+/// There is no file of that name.
+pub const NO_FILE: u8 = 5;
+
+/// A point lies outside the display.
+pub const OUTSIDE: u8 = 9;

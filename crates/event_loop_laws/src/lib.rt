@@ -6,13 +6,17 @@
 //! `specs/Outcome.antt` what a call promises that does an event. The crate `event_loop` has the code.
 #![tactic(auto)]
 
+mod area;
 pub mod codes;
 mod entry;
 mod laws;
 mod limits;
 mod reply;
+mod viewer;
 
-pub use entry::Entry;
+pub use area::Area;
+pub use entry::{Entry, MenuName};
 pub use laws::{empty_is_sound, more_change_nothing, steps_of_more};
-pub use limits::{MOST_FILES, MOST_HELD, MOST_WRITTEN};
+pub use limits::{MOST_FILES, MOST_HELD, MOST_PATTERN, MOST_WRITTEN};
 pub use reply::Reply;
+pub use viewer::{Caret, Kept, Selection, Viewer};

@@ -10,3 +10,6 @@ pub const MOST_HELD: u32 = 262_144;
 
 /// How many files there may be.
 pub const MOST_FILES: u32 = 256;
+
+/// How many bytes the pattern has at most for which texts are searched.
+pub const MOST_PATTERN: u32 = 31;

@@ -1,6 +1,6 @@
 -- Decimal digits of numbers of 32 bits.
 use Rattle.std.proofs.Common.{◌≡◌, ℕ, ◌+◌, ◌/◌, ◌%◌, ◌^◌, ◌<◌, ◌≤◌, List, [], ◌∷◌, ◌++◌, length, sym, ap, ◌∙◌, subst}
-use Rattle.std.proofs.Common.{arith, add_comm}
+use Rattle.std.proofs.Common.{arith}
 use Rattle.std.specs.Fmt.{decimal}
 use Rattle.std.proofs.lemmas.Fmt.{decimal_digit, decimal_step, length-decimal-le}
 
@@ -17,3 +17,5 @@ front_fits n front fits is =
     let small : n / 10 < 10 ^ 9 = omega (arith, fits) in
     subst (λ (l : List ℕ). length l ≤ 9) (sym is) (length-decimal-le 9 (n / 10) (omega arith) small
     (omega (arith, fits)))
+
+pub ruleset digit_steps = (one_digit, last_digit, front_fits)

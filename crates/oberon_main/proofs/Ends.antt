@@ -1,7 +1,7 @@
 -- How a script ends where the store refuses.
-use Rattle.std.proofs.Common.{◌≡◌, ◌⊎◌, ℕ, ◌<◌, Result, Ok, Err, IfOk, IfErr, ◌≢◌, [], ◌∷◌, inl, inr, refl, sym, ap}
+use Rattle.std.proofs.Common.{◌≡◌, ◌⊎◌, ℕ, ◌<◌, Result, Ok, Err, IfOk, IfErr, ◌≢◌, inl, inr, refl, sym, ap}
 use Rattle.std.proofs.Common.{◌∙◌, subst}
-use Rattle.sector_disk.specs.Faults.{FailsAs, OneOf}
+use Rattle.sector_disk.specs.Faults.{FailsAs}
 use Rattle.desk_journal.specs.declared.error.Error.{Error}
 use Rattle.desk_journal.specs.declared.error.Error.TheVariants.{NoMemory, Fault, MustReopen, NotAStore, Damaged}
 use Rattle.desk_journal.specs.declared.error.Error.TheVariants.{TooSmall, JournalFull}

@@ -1,12 +1,13 @@
 pub mod Decimals
 pub mod Ends
+pub mod Escapes
 pub mod Feeds
+pub mod FirstSpace
 pub mod Gathering
 pub mod LongLines
-pub mod Percent
+pub mod Numbers
 pub mod Played
 pub mod Sessions
 pub mod Splitting
 pub mod Stretches
 pub mod Taking
-pub mod Words

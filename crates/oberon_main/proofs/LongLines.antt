@@ -3,8 +3,8 @@ use Rattle.std.proofs.Common.{◌≡◌, ℕ, ◌<◌, List, length}
 use Rattle.std.specs.List.{list_all}
 use Rattle.std.specs.Prelude.{unwrap_or}
 use Rattle.std.proofs.lemmas.Bool.{lt-leb, and_left, cond-false}
-use Rattle.oberon_main.specs.Request.{longest_line, is_printable, is_readable, request_of, command_of, word, argument}
-use Rattle.oberon_main.specs.declared.request.Request.{Request}
+use Rattle.oberon_main.specs.Request.{longest_line, is_printable, is_readable, request_of, command_of}
+use Rattle.oberon_main.specs.Words.{word, argument}
 use Rattle.oberon_main.specs.declared.request.Request.TheVariants.{Malformed}
 
 pub long_malformed : (line : List ℕ) → longest_line < length line → request_of line ≡ Malformed

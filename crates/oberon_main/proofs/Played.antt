@@ -1,5 +1,5 @@
 -- Playing the lines of a script, one after another.
-use Rattle.std.proofs.Common.{◌≡◌, ◌≢◌, ℕ, List, [], ◌∷◌, ◌++◌, Option, None, Some, IfSome, ◌+◌, ◌<◌, ◌≤◌, Result, Err}
+use Rattle.std.proofs.Common.{◌≡◌, ◌≢◌, ℕ, List, [], ◌∷◌, ◌++◌, Option, None, Some, IfSome, ◌+◌, ◌≤◌, Result, Err}
 use Rattle.std.proofs.Common.{length, length-append, arith, refl, sym, ap, ◌∙◌, subst, append_assoc, append-nil, ◌⊎◌}
 use Rattle.std.proofs.Common.{inl, inr}
 use Rattle.std.specs.List.{AllByRecursion, flat_map}
@@ -17,7 +17,7 @@ use Rattle.oberon_main.specs.Request.{request_of}
 use Rattle.screen_cells.specs.Sent.{AppendsFront}
 use Rattle.oberon_main.specs.Session.{Session, answer, after, out, after_all}
 use Rattle.oberon_main.specs.Play.{IsPlayed, IsStopped, IsCutOff, TextOf, IsTold, IsHalted, EndsAs, CountsEnd}
-use Rattle.oberon_main.specs.Play.{CountsPlay, last_word, IsAnswered, LineEndsAs, IsLastAnswered, IsLastStopped}
+use Rattle.oberon_main.specs.Play.{CountsPlay, last_word, IsAnswered, LineEndsAs}
 use Rattle.oberon_main.specs.Play.{RestEndsAs}
 use Rattle.oberon_main.proofs.Splitting.{some_split}
 

@@ -1,5 +1,5 @@
 -- A writer that takes a text in several writes.
-use Rattle.std.proofs.Common.{◌≡◌, ℕ, List, [], ◌∷◌, ◌++◌, Option, take, drop, refl, sym, ap, ◌∙◌, subst, append_assoc}
+use Rattle.std.proofs.Common.{◌≡◌, ℕ, List, [], ◌++◌, Option, take, refl, sym, ap, ◌∙◌, subst, append_assoc}
 use Rattle.std.proofs.Common.{append-nil, take-append-drop, length, arith}
 use Rattle.std.specs.List.{between}
 use Rattle.std.proofs.lemmas.Slice.{between_to_end}

@@ -9,7 +9,7 @@ use Rattle.piece_ring.specs.Text.{Text}
 use Rattle.event_loop_laws.specs.declared.reply.Reply.{Reply}
 use Rattle.event_loop_laws.specs.declared.reply.Reply.TheVariants.{Done, No}
 use Rattle.event_loop_laws.specs.declared.entry.Entry.{Entry}
-use Rattle.event_loop_laws.specs.declared.entry.Entry.TheVariants.{File, Written}
+use Rattle.event_loop_laws.specs.declared.entry.Entry.TheVariants.{File, Viewer, Written}
 use Rattle.oberon_main.specs.Script.{ended}
 use Rattle.oberon_main.specs.Request.{is_printable}
 
@@ -66,6 +66,8 @@ show_lines (Some text) = text_lines text
 
 abbrev pub entry_line : Entry → List ℕ
 entry_line (File name len) = ended (codes "file " ++ name ++ 32 ∷ decimal len)
+entry_line (Viewer x bottom top name len) = ended (codes "viewer " ++ decimal x ++ 32 ∷ decimal bottom
+    ++ 32 ∷ decimal top ++ 32 ∷ shown name ++ 32 ∷ decimal len)
 entry_line (Written n) = ended (codes "written " ++ decimal n)
 
 abbrev pub list_lines : List Entry → List ℕ

@@ -1,5 +1,7 @@
 pub mod Script
 pub mod Reading
+pub mod Words
+pub mod Percent
 pub mod Request
 pub mod Answer
 pub mod Stretch

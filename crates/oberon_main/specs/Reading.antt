@@ -1,5 +1,5 @@
 -- How lines come from a reader.
-use Rattle.std.specs.Prelude.{◌≡◌, ℕ, ◌+◌, ◌*◌, ◌<◌, ◌≤◌, List, [], ◌∷◌, ◌++◌, length, true, false, Option}
+use Rattle.std.specs.Prelude.{◌≡◌, ℕ, ◌+◌, ◌*◌, ◌<◌, ◌≤◌, List, [], ◌++◌, length, true, false, Option}
 use Rattle.std.specs.Io.KnownBytes.{Consumes}
 use Rattle.oberon_main.specs.Request.{longest_line}
 use Rattle.oberon_main.specs.Script.{ended, IsLine}

@@ -1,5 +1,5 @@
 //! The bytes of an answer.
-ghost use Rattle.std.specs.Prelude.{◌≡◌, ◌+◌, ◌<◌, ◌≤◌, ◌++◌, length, position, IfOk, IfSome, OnOk};
+ghost use Rattle.std.specs.Prelude.{◌≡◌, ◌+◌, ◌<◌, ◌≤◌, [], ◌∷◌, ◌++◌, length, position, IfOk, IfSome, OnOk, codes};
 ghost use Rattle.std.specs.Fmt.{decimal, signed_decimal};
 ghost use Rattle.arrayvec.specs.ArrayVec.{array_vec_len};
 ghost use Rattle.oberon_main.specs.Script.{ended};
@@ -53,15 +53,23 @@ pub fn numbered_line(word: &[u8], number: u32) -> ShortLine
     requires { length word.now < 50 }
     ensures { result.items ≡ ended (word.now ++ decimal number) }
 {
-    let mut text = ArrayVec::<u8, 60>::new();
+    short_line(numbered(word, number).as_slice())
+}
+
+/// A word with its space, and a number.
+fn numbered(word: &[u8], number: u32) -> ArrayVec<u8, 60>
+    requires { length word.now < 50 }
+    ensures { result.items ≡ word.now ++ decimal number }
+{
+    let mut text = ArrayVec::new();
     text.try_extend_from_slice(word).unwrap();
     text.try_extend_from_slice(decimal_digits(number).as_slice())
         .unwrap();
-    short_line(text.as_slice())
+    text
 }
 
 /// The number in decimal digits, without leading zeros.
-#[tactic(auto, using(crate::proofs::Decimals::one_digit, crate::proofs::Decimals::last_digit, crate::proofs::Decimals::front_fits,))]
+#[tactic(auto, using(crate::proofs::Decimals::digit_steps))]
 pub fn decimal_digits(number: u32) -> Digits
     ensures { result.items ≡ decimal number }
 {
@@ -130,11 +138,18 @@ fn is_same(a: Look, b: Look) -> bool
 fn push_look(text: &mut Vec<u8>, look: Look) -> Result<(), AllocError>
     ensures { OnOk result (text.new.items ≡ text.old.items ++ look_words look) }
 {
-    text.extend_from_slice(decimal_digits(look.font as u32).as_slice())?;
-    text.push(b' ')?;
-    text.extend_from_slice(decimal_digits(look.colour as u32).as_slice())?;
-    text.push(b' ')?;
+    push_number(text, look.font as u32)?;
+    push_number(text, look.colour as u32)?;
     push_signed(text, look.voff)?;
+    text.push(b' ')?;
+    Ok(())
+}
+
+/// Adds a number and a space after it.
+fn push_number(text: &mut Vec<u8>, number: u32) -> Result<(), AllocError>
+    ensures { OnOk result (text.new.items ≡ text.old.items ++ (decimal number ++ 32 ∷ [])) }
+{
+    text.extend_from_slice(decimal_digits(number).as_slice())?;
     text.push(b' ')?;
     Ok(())
 }
@@ -156,6 +171,16 @@ fn push_shown(text: &mut Vec<u8>, characters: &[(u8, Look)]) -> Result<(), Alloc
 {
     for character in characters {
         text.extend_from_slice(shown_bytes(character.0).as_slice())?;
+    }
+    Ok(())
+}
+
+/// Adds bytes as a script spells them.
+fn push_spelled(text: &mut Vec<u8>, bytes: &[u8]) -> Result<(), AllocError>
+    ensures { OnOk result (text.new.items ≡ text.old.items ++ shown bytes.now) }
+{
+    for byte in bytes {
+        text.extend_from_slice(shown_bytes(*byte).as_slice())?;
     }
     Ok(())
 }
@@ -204,18 +229,51 @@ fn push_entry(text: &mut Vec<u8>, entry: &Entry) -> Result<(), AllocError>
     ensures { OnOk result (text.new.items ≡ text.old.items ++ entry_line entry.now) }
 {
     match entry {
-        Entry::File { name, len } => {
-            text.extend_from_slice(b"file ")?;
-            text.extend_from_slice(name.as_bytes())?;
-            text.push(b' ')?;
-            text.extend_from_slice(decimal_digits(*len).as_slice())?;
-        }
-        Entry::Written(number) => {
-            text.extend_from_slice(b"written ")?;
-            text.extend_from_slice(decimal_digits(*number).as_slice())?;
-        }
+        Entry::File { name, len } => push_file(text, name.as_bytes(), *len)?,
+        Entry::Viewer {
+            x,
+            bottom,
+            top,
+            name,
+            len,
+        } => push_viewer(text, *x, *bottom, *top, name.as_bytes(), *len)?,
+        Entry::Written(number) => text.extend_from_slice(numbered(
+            b"written ",
+            *number,
+        ).as_slice())?,
     }
     text.push(b'\n')?;
+    Ok(())
+}
+
+/// Adds what is said of a file: its name and its length.
+fn push_file(text: &mut Vec<u8>, name: &[u8], len: u32) -> Result<(), AllocError>
+    ensures { OnOk result (text.new.items ≡ text.old.items ++ (codes "file " ++ name.now ++ 32 ∷ decimal len)) }
+{
+    text.extend_from_slice(b"file ")?;
+    text.extend_from_slice(name)?;
+    text.extend_from_slice(numbered(b" ", len).as_slice())?;
+    Ok(())
+}
+
+/// Adds what is said of a viewer: its column, its rows, the name in its menu and the length of its text.
+fn push_viewer(
+    text: &mut Vec<u8>,
+    x: u8,
+    bottom: u8,
+    top: u8,
+    name: &[u8],
+    len: u32,
+) -> Result<(), AllocError>
+    ensures { OnOk result (text.new.items ≡ text.old.items ++ (codes "viewer " ++ decimal x ++ 32 ∷ decimal bottom
+        ++ 32 ∷ decimal top ++ 32 ∷ shown name.now ++ 32 ∷ decimal len)) }
+{
+    text.extend_from_slice(b"viewer ")?;
+    push_number(text, x as u32)?;
+    push_number(text, bottom as u32)?;
+    push_number(text, top as u32)?;
+    push_spelled(text, name)?;
+    text.extend_from_slice(numbered(b" ", len).as_slice())?;
     Ok(())
 }
 

@@ -310,3 +310,22 @@ seen_stands u s k c None x y sound whole at is = tt
 seen_stands u s k c (Some v) x y sound whole at is =
     subst (λ (d : Columns). StandsAt d v.0 x y) whole
     (seen_placed (columns u s) v.0 x y sound (sym (is ∙ ap (λ (k : Track). viewer_at (shown (columns u s) k) y) at)))
+
+-- for `viewer_in`: a viewer that has a place in a track is placed
+counted_at : (v : ℕ) (t : List Entry) (i : ℕ) → Some v ≡ viewer_of t i → 0 < times_in v t
+counted_at v [] i is = absurd cc
+counted_at v (e ∷ t) zero is =
+    let same : e.viewer ≡ v = cc in
+    let one : one_if e.viewer v ≡ 1 = ap (λ b. cond b 1 0) (eq-eqb e.viewer v same) in
+    omega (arith, one, times_in-cons v e t)
+counted_at v (e ∷ t) (suc i) is = omega (arith, counted_at v t i is, times_in-cons v e t)
+
+pub nth_placed : (u s : List Entry) (k : Track) (c : Columns) (found : Option ViewerId) (i : ℕ) → columns u s ≡ c
+    → number_of found ≡ viewer_of (shown (columns u s) k) i → IfSome found (λ v. IsPlaced v.0 c)
+nth_placed u s k c None i whole is = tt
+nth_placed u s User c (Some v) i whole is =
+    let some = counted_at v.0 u i is in
+    subst (λ (d : Columns). IsPlaced v.0 d) whole (omega arith)
+nth_placed u s System c (Some v) i whole is =
+    let some = counted_at v.0 s i is in
+    subst (λ (d : Columns). IsPlaced v.0 d) whole (omega arith)

@@ -32,7 +32,7 @@ impl Track {
     }
 
     /// Its leftmost column of characters.
-    pub(crate) fn left(self) -> u8
+    pub fn left(self) -> u8
         ensures { result ≡ left_of self }
     {
         match self {

@@ -3,7 +3,7 @@
 //! it ends; clauses speak of the viewers with their heights.
 ghost use Rattle.std.specs.Prelude.{◌≡◌, ◌+◌, ◌/◌, ◌<◌, ◌≤◌, ◌↔◌, length, nat_le};
 ghost use Rattle.std.specs.List.{position_or_len};
-ghost use Rattle.viewer_tracks.specs.Viewers.{bottom_of, top_of, entry_of, times_in, viewer_at, number_of};
+ghost use Rattle.viewer_tracks.specs.Viewers.{bottom_of, top_of, entry_of, times_in, viewer_of, viewer_at, number_of};
 ghost use Rattle.viewer_tracks.specs.Edits.{open_entry, open_top, takes_place, change_top};
 ghost use Rattle.viewer_tracks.specs.Room.{tallest, greatest_height};
 ghost use Rattle.viewer_tracks.specs.Edges.{entries_from, Rises};
@@ -61,14 +61,21 @@ pub fn top(edges: &[Edge], index: usize) -> u8
     edges[index].top
 }
 
+/// The viewer of an edge. None past the last one.
+pub fn viewer_of(edges: &[Edge], index: usize) -> Option<ViewerId>
+    ensures { number_of result ≡ viewer_of (entries_from 0 edges.now) index }
+{
+    let edge = edges.get(index)?;
+    Some(edge.viewer)
+}
+
 /// The viewer that has the row `y`.
 pub fn viewer_at(edges: &[Edge], y: u8) -> Option<ViewerId>
     requires rising { Rises 0 edges.now }
     requires in_display { y < ROWS }
     ensures { number_of result ≡ viewer_at (entries_from 0 edges.now) y }
 {
-    let edge = edges.get(reaching(edges, y + 1))?;
-    Some(edge.viewer)
+    viewer_of(edges, reaching(edges, y + 1))
 }
 
 /// The row at half the height of the tallest viewer, the lowest of several.

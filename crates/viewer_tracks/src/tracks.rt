@@ -2,7 +2,7 @@
 ghost use Rattle.std.specs.Prelude.{◌≡◌, ◌<◌, ◌≤◌, ◌↔◌, IsTrue, IfSome};
 ghost use Rattle.std.specs.Option.{ForSome};
 ghost use Rattle.viewer_tracks.specs.Display.{left_of};
-ghost use Rattle.viewer_tracks.specs.Viewers.{number_of};
+ghost use Rattle.viewer_tracks.specs.Viewers.{number_of, viewer_of};
 
 use crate::display::{COLUMNS, ROWS, Track};
 use crate::viewer_id::ViewerId;
@@ -42,7 +42,7 @@ pub struct Place {
 
 impl Tracks {
     ghost use Rattle.viewer_tracks.specs.Columns.{Columns, IsColumns, IsPlaced, no_viewers, track_of, placed_bottom};
-    ghost use Rattle.viewer_tracks.specs.Columns.{placed_top, StandsAt, seen_at, allocated};
+    ghost use Rattle.viewer_tracks.specs.Columns.{placed_top, StandsAt, shown, seen_at, allocated};
     ghost use Rattle.viewer_tracks.specs.Columns.{after_open, replaced_at, after_change, after_close};
 
     /// Two tracks that are all filler.
@@ -78,6 +78,17 @@ impl Tracks {
         match Track::at(x) {
             Track::User => self.user.open(viewer, y),
             Track::System => self.system.open(viewer, y),
+        }
+    }
+
+    /// The viewer whose whole place one takes that opens in the track of column `x`, up to row `y`.
+    pub fn replaced(&self, x: u8, y: u8) -> Option<ViewerId>
+        requires { x < COLUMNS }
+        ensures { number_of result ≡ replaced_at self.now x y }
+    {
+        match Track::at(x) {
+            Track::User => self.user.replaced(y),
+            Track::System => self.system.replaced(y),
         }
     }
 
@@ -143,6 +154,17 @@ impl Tracks {
             x: track.left(),
             bottom: rows.start,
             top: rows.end,
+        }
+    }
+
+    /// The viewer of that place in a track, counted from 0 at the bottom. None past the topmost.
+    pub fn viewer_in(&self, track: Track, index: u8) -> Option<ViewerId>
+        ensures viewer { number_of result ≡ viewer_of (shown self.now track) index }
+        ensures placed { IfSome result (λ v. IsPlaced v.0 self.now) }
+    {
+        match track {
+            Track::User => self.user.nth(index),
+            Track::System => self.system.nth(index),
         }
     }
 

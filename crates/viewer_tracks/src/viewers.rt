@@ -1,6 +1,6 @@
 //! The viewers of one track. A clause sees them as the list of viewers with their heights, bottom up.
 ghost use Rattle.std.specs.Prelude.{◌≡◌, ◌<◌, ◌≤◌, ◌↔◌, [], IsTrue};
-ghost use Rattle.viewer_tracks.specs.Viewers.{times_in, entry_of, bottom_of, top_of, viewer_at, number_of};
+ghost use Rattle.viewer_tracks.specs.Viewers.{times_in, entry_of, bottom_of, top_of, viewer_of, viewer_at, number_of};
 ghost use Rattle.viewer_tracks.specs.Edits.{opened, replaced, changed, closed};
 ghost use Rattle.viewer_tracks.specs.Room.{free_row};
 
@@ -70,6 +70,20 @@ impl Viewers {
         None
     }
 
+    /// The viewer whose whole place one takes that opens at row `y`.
+    #[tactic(auto, using(crate::proofs::Opening::opening_steps))]
+    pub fn replaced(&self, y: u8) -> Option<ViewerId>
+        ensures { number_of result ≡ replaced self.now y }
+    {
+        let edges = self.edges.as_slice();
+        let index = edges::open_entry(edges, y);
+        let top = edges::open_top(edges, y);
+        if edges::takes_place(edges, index, top) {
+            return Some(edges[index].viewer);
+        }
+        None
+    }
+
     /// Moves the top of a viewer to row `y`, or as near to it as may be.
     #[tactic(auto, using(crate::proofs::Moving::changing_steps))]
     pub fn change(&mut self, viewer: ViewerId, y: u8)
@@ -93,6 +107,13 @@ impl Viewers {
     {
         let index = edges::index_of(self.edges.as_slice(), viewer);
         self.edges.remove(index);
+    }
+
+    /// The viewer of that place, counted from 0 at the bottom. None past the topmost.
+    pub fn nth(&self, index: u8) -> Option<ViewerId>
+        ensures { number_of result ≡ viewer_of self.now index }
+    {
+        edges::viewer_of(self.edges.as_slice(), usize::from(index))
     }
 
     /// The viewer that has the row `y`.

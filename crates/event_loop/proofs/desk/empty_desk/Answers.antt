@@ -7,14 +7,18 @@ use Rattle.event_loop.proofs.desk.empty_desk.Goals as goal
 
 pub returns-clause-seen : goal.returns-clause-seen
 returns-clause-seen c =
-    empty_seen c.insert.new.self.entries c.new-2.result.entries c.in_ok-new.field-0
+    empty_seen c.insert.new.self.entries c.new-4.result.items c.new-5.result c.new-6.result.items
+    c.new-7.result.entries c.in_ok-copied.copied c.in_ok-deleted.deleted c.new-8.result.items c.in_ok-new.field-0
     (c.in_ok-insert.ensures.entries
     ∙ ap (λ (es : List (ℕ × List Piece)). insert_entry nat_cmp es 0 c.in_ok-new.field-0) c.new-texts.ensures.empty)
-    c.new-2.ensures.empty c.in_ok-new.ensures
+    c.in_ok-new.ensures c.new-4.ensures.items c.new-5.ensures.empty c.new-6.ensures.items c.new-7.ensures.empty
+    c.in_ok-copied.ensures c.in_ok-deleted.ensures c.new-8.ensures
 
 pub returns-clause-over : goal.returns-clause-over
 returns-clause-over c =
-    empty_over c.insert.new.self.entries c.new-2.result.entries c.in_ok-new.field-0
+    empty_over c.insert.new.self.entries c.new-4.result.items c.new-5.result c.new-6.result.items
+    c.new-7.result.entries c.in_ok-copied.copied c.in_ok-deleted.deleted c.new-8.result.items c.in_ok-new.field-0
     (c.in_ok-insert.ensures.entries
     ∙ ap (λ (es : List (ℕ × List Piece)). insert_entry nat_cmp es 0 c.in_ok-new.field-0) c.new-texts.ensures.empty)
-    c.new-2.ensures.empty c.in_ok-new.ensures
+    c.in_ok-new.ensures c.new-4.ensures.items c.new-5.ensures.empty c.new-6.ensures.items c.new-7.ensures.empty
+    c.in_ok-copied.ensures c.in_ok-deleted.ensures c.new-8.ensures

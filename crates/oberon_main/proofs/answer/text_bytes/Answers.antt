@@ -1,4 +1,4 @@
-use Rattle.std.proofs.Common.{◌≡◌, ◌<◌, ◌++◌, ◌∙◌, sym, ap, subst, arith, length, drop, length-drop, slice_get, Some}
+use Rattle.std.proofs.Common.{◌≡◌, ◌++◌, ◌∙◌, sym, ap, subst, arith, length, drop, length-drop}
 use Rattle.std.specs.List.{flat_map}
 use Rattle.piece_ring.specs.Text.{Text}
 use Rattle.oberon_main.specs.Answer.{stretches, stretch_line}

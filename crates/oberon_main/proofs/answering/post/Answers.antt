@@ -1,7 +1,6 @@
-use Rattle.std.proofs.Common.{◌≡◌, ℕ, ◌<◌, ◌≤◌, ◌∙◌, ap, sym, Err, inl, inr, refl}
+use Rattle.std.proofs.Common.{ℕ, ◌<◌, ◌≤◌, ◌∙◌, ap, sym, Err, inl, inr}
 use Rattle.std.proofs.lemmas.Bool.{cases_lt, false≢true}
 use Rattle.std.proofs.lemmas.Result.{IfOk-weaker}
-use Rattle.desk_journal.specs.declared.error.Error.TheVariants.{JournalFull}
 use Rattle.desk_journal.specs.View.{StoreView}
 use Rattle.oberon_main.specs.Opened.{session_of}
 use Rattle.oberon_main.proofs.Sessions.{full_answer, full_after, reply_answer, reply_after}

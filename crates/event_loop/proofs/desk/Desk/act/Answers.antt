@@ -1,5 +1,18 @@
-use Rattle.event_loop.proofs.StopLemmas.{never_fails}
+use Rattle.event_loop_laws.specs.Step.{step, raw}
 use Rattle.event_loop.proofs.desk.Desk.act.Goals as goal
 
-pub returns-clause-faults : goal.returns-clause-faults
-returns-clause-faults g c = never_fails c.put_file.result _ _ c.put_file.ensures.never_fault c.put_file.ensures.failures
+pub returns-in-Typed-clause-answered : goal.returns-in-Typed-clause-answered
+unfolding step raw
+returns-in-Typed-clause-answered g c = rw c.in-Typed.is c.type_bytes.ensures.answered
+
+pub returns-in-Key-clause-answered : goal.returns-in-Key-clause-answered
+unfolding step raw
+returns-in-Key-clause-answered g c = rw c.in-Key.is c.press.ensures.answered
+
+pub returns-in-Mark-clause-answered : goal.returns-in-Mark-clause-answered
+unfolding step raw
+returns-in-Mark-clause-answered g c = rw c.in-Mark.is c.mark.ensures.answered
+
+pub returns-in-Point-clause-answered : goal.returns-in-Point-clause-answered
+unfolding step raw
+returns-in-Point-clause-answered g c = rw c.in-Point.is c.point.ensures.answered

@@ -1,6 +1,8 @@
-use Rattle.std.proofs.Common.{arith, []}
+use Rattle.std.proofs.Common.{[], arith}
 use Rattle.event_loop_laws.specs.Desktop.{held}
 use Rattle.event_loop_laws.specs.Seen.{seen}
+use Rattle.event_loop.specs.Kept.{kept}
+use Rattle.event_loop.proofs.HeldLemmas.{held_is}
 use Rattle.event_loop.proofs.desk.Desk.held.Goals as goal
 
 pub lengths-requires : goal.lengths-requires
@@ -15,10 +17,21 @@ pub overflow_add-result : goal.overflow_add-result
 unfolding held seen
 overflow_add-result c = omega (arith, (c.requires.sound []).held_within, c.lengths.ensures [], c.lengths-2.ensures [])
 
-pub returns-clause-held : goal.returns-clause-held
+pub overflow_add-result-2 : goal.overflow_add-result-2
 unfolding held seen
-returns-clause-held c = λ characters. omega (arith, c.lengths.ensures characters, c.lengths-2.ensures characters)
+overflow_add-result-2 c = omega (arith, (c.requires.sound []).held_within, c.lengths.ensures [], c.lengths-2.ensures [])
+
+pub overflow_add-result-3 : goal.overflow_add-result-3
+unfolding held seen
+overflow_add-result-3 c = omega (arith, (c.requires.sound []).held_within, c.lengths.ensures [], c.lengths-2.ensures [])
+
+pub returns-clause-held : goal.returns-clause-held
+returns-clause-held c = λ characters.
+    held_is (kept c.args.self.now) characters _ _ _ _ (c.lengths.ensures characters) (c.lengths-2.ensures characters)
+    c.len.ensures c.len-2.ensures
 
 pub returns-clause-few : goal.returns-clause-few
-unfolding held seen
-returns-clause-few c = omega (arith, (c.requires.sound []).held_within, c.lengths.ensures [], c.lengths-2.ensures [])
+returns-clause-few c =
+    let is = held_is (kept c.args.self.now) [] _ _ _ _ (c.lengths.ensures []) (c.lengths-2.ensures [])
+    c.len.ensures c.len-2.ensures in
+    omega (arith, is, (c.requires.sound []).held_within)

@@ -1,12 +1,14 @@
-use Rattle.std.proofs.Common.{◌+◌, ◌∙◌, ℕ, List, length, refl, sym, ap, subst, inl, inr}
+use Rattle.std.proofs.Common.{◌+◌, ◌∙◌, ℕ, List, length, refl, sym, ap, subst, rules}
 use Rattle.event_bytes.specs.declared.event.Event.TheVariants.{File}
 use Rattle.event_loop_laws.specs.declared.reply.Reply.TheVariants.{Done}
+use Rattle.piece_ring.specs.Look.{default_look}
 use Rattle.event_loop_laws.specs.Limits.{full, too_many_files}
 use Rattle.event_loop_laws.specs.Seen.{seen}
-use Rattle.event_loop_laws.specs.Step.{plain, step}
+use Rattle.event_loop_laws.specs.Step.{step}
+use Rattle.event_loop_laws.specs.Change.{plain}
 use Rattle.event_loop_laws.specs.StepLaws.{file_no_room, file_full}
 use Rattle.event_loop_laws.specs.Outcome.{IsAnswered}
-use Rattle.event_loop_laws.specs.OutcomeLaws.{refused, length_plain, file_answered}
+use Rattle.event_loop_laws.specs.OutcomeLaws.{refused, length_in_look, file_answered}
 use Rattle.event_loop.specs.Kept.{kept}
 use Rattle.event_loop.proofs.desk.Desk.put_file.Goals as goal
 
@@ -15,8 +17,8 @@ unfolding seen
 returns-then-not-has_room-clause-answered g c =
     let old = g.S.CharSource.characters c.args.source.now in
     let d = kept c.args.self.now in
-    refused _ old d _ too_many_files c.requires (inr refl)
-    (λ h. file_no_room (seen old d) c.args.name.now c.args.bytes.now
+    refused _ old d _ too_many_files c.requires (search rules)
+    (λ h. file_no_room (seen old d) c.args.name.now c.args.bytes.now (c.requires.whole.sound old).shown
     (sym (c.has_room.ensures old) ∙ c.if-not-has_room.true))
 
 pub returns-then-not-file_fits-clause-answered : goal.returns-then-not-file_fits-clause-answered
@@ -25,10 +27,11 @@ returns-then-not-file_fits-clause-answered g c =
     let old = g.S.CharSource.characters c.args.source.now in
     let d = kept c.args.self.now in
     let bytes = c.args.bytes.now in
-    refused _ old d _ full c.requires (inl refl)
-    (λ h. file_full (seen old d) c.args.name.now bytes (sym (c.has_room.ensures old) ∙ c.if-not-has_room.false)
+    refused _ old d _ full c.requires (search rules)
+    (λ h. file_full (seen old d) c.args.name.now bytes (c.requires.whole.sound old).shown
+    (sym (c.has_room.ensures old) ∙ c.if-not-has_room.false)
     (sym (c.file_fits.ensures.fits old (plain bytes)
-    (length_plain bytes ∙ ap length (sym c.as_bytes-bytes.ensures.value))) ∙ c.if-not-file_fits.true))
+    (length_in_look default_look bytes ∙ ap length (sym c.as_bytes-bytes.ensures.value))) ∙ c.if-not-file_fits.true))
 
 pub returns-clause-answered : goal.returns-clause-answered
 unfolding seen

@@ -1,14 +1,21 @@
-use Rattle.std.proofs.Common.{◌∙◌, ap, [], ◌∷◌, ◌++◌}
-use Rattle.event_loop_laws.specs.declared.entry.Entry.TheVariants.{Written}
+use Rattle.std.proofs.Common.{◌∙◌, ◌++◌, ap}
+use Rattle.viewer_tracks.specs.declared.display.Track.TheVariants.{System}
 use Rattle.event_loop_laws.specs.Desktop.{KeptDesktop}
 use Rattle.event_loop_laws.specs.Seen.{seen}
-use Rattle.event_loop_laws.specs.Listing.{entries_of}
+use Rattle.event_loop_laws.specs.Listing.{entries_of, track_entries}
+use Rattle.event_loop.specs.Kept.{kept}
+use Rattle.event_loop.proofs.ListLemmas.{list_whole}
 use Rattle.event_loop.proofs.desktop.Desktop.list.Goals as goal
 
 pub returns-clause-entries : goal.returns-clause-entries
-unfolding entries_of seen
 returns-clause-entries g c = λ honest.
     let characters = g.S.CharSource.characters c.args.source.now in
+    let d = kept c.self.inside.desk in
+    let first = c.in_ok-list_track.ensures.reads in
+    list_whole characters d c.in_ok-entries.entries.items c.list_track.new.entries.items
+    c.list_track-2.new.entries.items c.push.new.self.items
+    (c.in_ok-entries.ensures.entries characters) (c.in_ok-list_track.ensures.entries honest)
+    (c.in_ok-list_track-2.ensures.entries (first.still honest)
+    ∙ (λ k. c.list_track.new.entries.items ++ track_entries (seen (first.same honest k) d) System))
     c.in_ok-push.ensures.items
-    ∙ ap (λ entries. entries ++ Written c.self.inside.desk.written ∷ []) (c.in_ok-entries.ensures.entries characters)
     ∙ ap (λ (d : KeptDesktop). entries_of (seen characters d)) c.self.view_is

@@ -1,4 +1,4 @@
-use Rattle.std.proofs.Common.{◌+◌, ◌≡◌, ◌≤◌, ◌∙◌, arith, refl}
+use Rattle.std.proofs.Common.{◌+◌, ◌≡◌, ◌≤◌, ◌∙◌, arith}
 use Rattle.oberon_main.specs.Reading.{most_lines}
 use Rattle.oberon_main.proofs.Gathering.{gathered_more}
 use Rattle.oberon_main.proofs.line.Script.take_line.Goals as goal

@@ -1,0 +1,178 @@
+//! Events and screens of a desktop in memory, for a script to time. The arguments are what is done, where, how many
+//! characters the one text in a viewer has before, and a number of rounds:
+//!
+//! - `type`: each round types one character.
+//! - `screen`: each round paints the screen.
+//! - `mark`: each round sets the marker.
+//!
+//! The place is `end` or `middle`, where the caret stands in the text. The number of characters written in the end is
+//! printed.
+#![tactic(auto)]
+
+use char_file::CharFile;
+use event_bytes::{Event, FileBytes, Keys, Name, TypedBytes};
+use event_loop::{Desktop, Stop};
+use screen_cells::Screen;
+use std::alloc::Global;
+use std::marker::Model;
+use std::{env, io};
+
+/// The bytes that one event types while the text is filled: 18 lines of 50 characters.
+const CHUNK: usize = 900;
+
+/// A desktop and its characters.
+#[derive(Drop)]
+struct Desk {
+    desktop: Desktop,
+    characters: CharFile,
+}
+
+impl Model for Desk {
+    ghost use Rattle.event_loop_laws.specs.Desktop.{KeptDesktop};
+    ghost use Rattle.event_loop_laws.specs.Sound.{IsOver};
+
+    ghost Value = { KeptDesktop };
+
+    ghost view = { λ desk. desk.desktop };
+
+    ghost invariant = { λ desk. IsOver desk.characters desk.desktop };
+}
+
+/// What the rounds do.
+#[derive(Clone, Copy, PartialEq, Eq)]
+enum Mode {
+    Typing,
+    Painting,
+    Marking,
+}
+
+/// The empty desktop.
+fn empty(alloc: Global) -> Result<Desk, Stop> {
+    let desktop = Desktop::empty(alloc)?;
+    let characters = CharFile::new(alloc);
+    Ok(Desk { desktop, characters })
+}
+
+/// Does the event.
+fn done(desk: Desk, alloc: Global, event: &Event) -> Result<Desk, Stop> {
+    let Desk { mut desktop, mut characters } = desk;
+    let _ = desktop.step(alloc, event, &mut characters)?;
+    Ok(Desk { desktop, characters })
+}
+
+/// Does the event so many times.
+fn done_times(desk: Desk, alloc: Global, event: &Event, times: u32) -> Result<Desk, Stop> {
+    let mut desk = desk;
+    for _ in 0..times {
+        desk = done(desk, alloc, event)?;
+    }
+    Ok(desk)
+}
+
+/// Paints the screen.
+fn painted(desk: Desk, alloc: Global, screen: &mut Screen) -> Result<Desk, Stop> {
+    let Desk { mut desktop, mut characters } = desk;
+    desktop.screen(alloc, &mut characters, screen)?;
+    Ok(Desk { desktop, characters })
+}
+
+/// Paints the screen so many times.
+fn painted_times(desk: Desk, alloc: Global, times: u32) -> Result<Desk, Stop> {
+    let mut desk = desk;
+    let mut screen = Screen::new();
+    for _ in 0..times {
+        desk = painted(desk, alloc, &mut screen)?;
+    }
+    Ok(desk)
+}
+
+/// A gesture at one cell.
+fn click(keys: Keys, x: u8, y: u8) -> Event {
+    Event::Point { keys, x0: x, y0: y, x1: x, y1: y }
+}
+
+/// Lines of 49 characters and a carriage return.
+fn lines() -> [u8; CHUNK] {
+    let mut bytes = [b'x'; CHUNK];
+    for at in 0..CHUNK {
+        if at % 50 == 49 {
+            bytes[at] = 13;
+        }
+    }
+    bytes
+}
+
+/// A text of about `size` characters in a viewer of the user track, with the caret in it.
+fn filled(alloc: Global, size: u32, middle: bool) -> Result<Desk, Stop> {
+    let mut desk = empty(alloc)?;
+    if let (Some(name), Some(bytes)) = (Name::new(b"System.Tool"), FileBytes::new(b"x")) {
+        desk = done(desk, alloc, &Event::File { name, bytes })?;
+    }
+    desk = done(desk, alloc, &click(Keys::Middle, 0, 31))?;
+    desk = done(desk, alloc, &click(Keys::Left, 1, 30))?;
+    if let Some(bytes) = TypedBytes::new(&lines()) {
+        desk = done_times(desk, alloc, &Event::Typed(bytes), size / CHUNK as u32)?;
+    }
+    if middle {
+        desk = done(desk, alloc, &click(Keys::Middle, 0, 15))?;
+        desk = done(desk, alloc, &click(Keys::Left, 10, 20))?;
+    }
+    Ok(desk)
+}
+
+/// Does the rounds, and returns how many characters were written in the end.
+fn run(alloc: Global, mode: Mode, middle: bool, size: u32, rounds: u32) -> Result<u32, Stop> {
+    let desk = filled(alloc, size, middle)?;
+    let desk = match mode {
+        Mode::Typing => match TypedBytes::new(b"y") {
+            Some(bytes) => done_times(desk, alloc, &Event::Typed(bytes), rounds)?,
+            None => desk,
+        },
+        Mode::Painting => painted_times(desk, alloc, rounds)?,
+        Mode::Marking => done_times(desk, alloc, &Event::Mark { x: 3, y: 4 }, rounds)?,
+    };
+    Ok(desk.desktop.written())
+}
+
+/// The mode that a word names.
+fn mode_of(word: Option<String>) -> Option<Mode> {
+    match word?.as_str() {
+        "type" => Some(Mode::Typing),
+        "screen" => Some(Mode::Painting),
+        "mark" => Some(Mode::Marking),
+        _ => None,
+    }
+}
+
+/// Whether a word names the middle of the text.
+fn is_middle(word: Option<String>) -> Option<bool> {
+    match word?.as_str() {
+        "end" => Some(false),
+        "middle" => Some(true),
+        _ => None,
+    }
+}
+
+/// The number that a word spells.
+fn number(word: Option<String>) -> Option<u32> {
+    word?.parse().ok()
+}
+
+fn main(rt: HostRuntime) -> io::Result<()> {
+    let mut words = env::args(&rt)?;
+    words.next();
+    let (Some(mode), Some(middle), Some(size), Some(rounds)) = (
+        mode_of(words.next()),
+        is_middle(words.next()),
+        number(words.next()),
+        number(words.next()),
+    ) else {
+        println!(rt; "usage: desk_bench type|screen|mark end|middle CHARACTERS ROUNDS")?;
+        return Ok(());
+    };
+    match run(rt.alloc(), mode, middle, size, rounds) {
+        Ok(written) => println!(rt; "{}", written)?,
+        Err(_) => println!(rt; "out of memory")?,
+    }
+    Ok(())
+}

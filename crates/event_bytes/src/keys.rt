@@ -1,0 +1,92 @@
+//! Keys of the keyboard and of the mouse.
+ghost use Rattle.std.specs.Prelude.{◌≡◌, ◌<◌, ◌^◌};
+ghost use Rattle.event_bytes.specs.Keys.{key_of, key_number, keys_of, keys_number};
+
+/// A key of the keyboard with a meaning of its own.
+#[derive(Clone, Copy, Debug, PartialEq, Eq)]
+pub enum Key {
+    /// Deletes the character before the caret.
+    Back,
+    /// Copies the newest selection.
+    Copy,
+    /// Inserts what was copied at the caret.
+    Paste,
+    /// Copies the newest selection and deletes it.
+    Cut,
+    /// Removes caret, selections and marker.
+    Escape,
+}
+
+impl Key {
+    /// The key of a number, 0 to 4 in the order above. None for a greater one.
+    pub(crate) fn from_number(number: u8) -> Option<Key>
+        ensures { result ≡ key_of number }
+    {
+        let all = [Key::Back, Key::Copy, Key::Paste, Key::Cut, Key::Escape];
+        all.get(number as usize).copied()
+    }
+
+    /// Its number, 0 to 4.
+    pub(crate) fn number(self) -> u8
+        ensures { result ≡ key_number self }
+    {
+        match self {
+            Key::Back => 0,
+            Key::Copy => 1,
+            Key::Paste => 2,
+            Key::Cut => 3,
+            Key::Escape => 4,
+        }
+    }
+}
+
+/// Keys of the mouse: the one that is pressed first, and maybe another one that is pressed while it is down.
+#[derive(Clone, Copy, Debug, PartialEq, Eq)]
+pub enum Keys {
+    Left,
+    LeftMiddle,
+    LeftRight,
+    Middle,
+    MiddleLeft,
+    MiddleRight,
+    Right,
+    RightLeft,
+    RightMiddle,
+}
+
+impl Keys {
+    /// The keys of a number, 0 to 8 in the order above. None for a greater one.
+    pub(crate) fn from_number(number: u8) -> Option<Keys>
+        ensures { result ≡ keys_of number }
+    {
+        let all = [
+            Keys::Left,
+            Keys::LeftMiddle,
+            Keys::LeftRight,
+            Keys::Middle,
+            Keys::MiddleLeft,
+            Keys::MiddleRight,
+            Keys::Right,
+            Keys::RightLeft,
+            Keys::RightMiddle,
+        ];
+        all.get(number as usize).copied()
+    }
+
+    /// Their number, 0 to 8.
+    pub(crate) fn number(self) -> u8
+        ensures { result ≡ keys_number self }
+    {
+        match self {
+            Keys::Left => 0,
+            Keys::LeftMiddle => 1,
+            Keys::LeftRight => 2,
+            Keys::Middle => 3,
+            Keys::MiddleLeft => 4,
+            Keys::MiddleRight => 5,
+            Keys::Right => 6,
+            Keys::RightLeft => 7,
+            Keys::RightMiddle => 8,
+        }
+    }
+}

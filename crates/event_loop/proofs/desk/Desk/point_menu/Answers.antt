@@ -1,0 +1,33 @@
+use Rattle.event_loop.specs.Mouse.{done_in_menu}
+use Rattle.event_loop.specs.Kept.{kept}
+use Rattle.event_loop.proofs.ReadLemmas.{rest_done}
+use Rattle.event_loop.proofs.GestureLemmas.{menu_rest, no_command_answered}
+use Rattle.event_loop.proofs.desk.Desk.point_menu.Goals as goal
+
+pub returns-in-Left-clause-answered : goal.returns-in-Left-clause-answered
+unfolding done_in_menu
+returns-in-Left-clause-answered g c =
+    rw c.in-Left.is c.resize.ensures.answered
+
+pub returns-in-LeftMiddle-clause-answered : goal.returns-in-LeftMiddle-clause-answered
+unfolding done_in_menu
+returns-in-LeftMiddle-clause-answered g c =
+    rw c.in-LeftMiddle.is c.carry.ensures.answered
+
+pub returns-in-Middle-clause-answered : goal.returns-in-Middle-clause-answered
+unfolding done_in_menu
+returns-in-Middle-clause-answered g c =
+    let s = g.S.CharSource in
+    let old = s.characters c.args.source.now in
+    let d = kept c.args.self.now in
+    rw c.in-Middle.is
+    (no_command_answered (s.honest c.args.source.now) old d c.requires.over)
+
+pub returns-in_default-clause-answered : goal.returns-in_default-clause-answered
+returns-in_default-clause-answered g c =
+    let s = g.S.CharSource in
+    let old = s.characters c.args.source.now in
+    let d = kept c.args.self.now in
+    rest_done (s.honest c.args.source.now) old d _ c.requires.over
+    (menu_rest _ c.args.keys c.args.id c.args.cell.0 c.args.cell.1 c.in_default.not-Left
+    c.in_default.not-LeftMiddle c.in_default.not-Middle)

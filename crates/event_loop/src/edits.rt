@@ -1,0 +1,161 @@
+//! Edits that several rows have: what is put in or taken out, with the caret where it was, and copies of stretches.
+ghost use Rattle.std.specs.Prelude.{◌≡◌, ◌+◌, ◌-◌, ◌<◌, ◌≤◌, ◌^◌, ◌&&◌, ℕ, List, length, nat_le, IfOk, OnOk};
+ghost use Rattle.sector_disk.specs.Faults.{FailsAs};
+ghost use Rattle.char_file.specs.Source.{OnlyReads};
+ghost use Rattle.piece_ring.specs.Flat.{flat};
+ghost use Rattle.piece_ring.specs.Offsets.{AreWithin};
+ghost use Rattle.piece_ring.specs.Text.{stretch};
+ghost use Rattle.viewer_tracks.specs.Columns.{IsPlaced};
+ghost use Rattle.event_loop_laws.specs.Limits.{most_written, most_held};
+ghost use Rattle.event_loop_laws.specs.Viewers.{viewer_or_none, newest};
+ghost use Rattle.event_loop_laws.specs.Change.{put_in, put_at_caret, cut_out};
+ghost use Rattle.event_loop_laws.specs.Seen.{seen, seen_text};
+ghost use Rattle.event_loop_laws.specs.Sound.{IsKeptWhole, IsBuilt};
+ghost use Rattle.event_loop_laws.specs.Changed.{IsChanged};
+ghost use Rattle.event_loop_laws.specs.RowLaws.{has_space};
+ghost use Rattle.event_loop_laws.specs.RowPartLaws.{kept_main};
+ghost use Rattle.event_loop.specs.Kept.{kept};
+ghost use Rattle.event_loop.specs.Stops.{IsStop};
+
+use crate::desk::Desk;
+use crate::stop::{NoMemory, Stop};
+use crate::viewers::viewer_of;
+use char_file::CharSource;
+use event_loop_laws::{Caret, MOST_HELD, MOST_WRITTEN, Selection};
+use std::alloc::Global;
+use text_core::Buffer;
+
+impl Desk {
+    /// Whether the limits on characters hold once `made` more are written, and `more` more and `fewer` fewer held.
+    pub fn fits_more(&self, made: usize, more: usize, fewer: usize) -> bool
+        requires whole { IsKeptWhole (kept self.now) }
+        requires made { made < 2 ^ 32 }
+        requires more { more < 2 ^ 32 }
+        requires fewer { fewer < 2 ^ 32 }
+        ensures { (characters : List ℕ) → result ≡ has_space (seen characters (kept self.now)) made more fewer }
+    {
+        let held = self.held();
+        is_space(self.written as usize + made, held + more, fewer)
+    }
+
+    /// The selection that was made last, if there is one.
+    pub fn newest(&self) -> Option<Selection>
+        ensures { result ≡ newest (kept self.now) }
+    {
+        self.selections.last().copied()
+    }
+
+    /// The number of a viewer's main text.
+    pub fn main_of(&self, id: u8) -> u16
+        ensures { result ≡ (viewer_or_none (kept self.now).viewers id).main }
+    {
+        match viewer_of(&self.viewers, id) {
+            Some(viewer) => viewer.main,
+            None => 0,
+        }
+    }
+
+    /// A copy of a stretch of a viewer's main text.
+    pub fn copy_of(&self, alloc: Global, selection: Selection) -> Result<Buffer, NoMemory>
+        requires order { selection.beg ≤ selection.end }
+        requires within { selection.end ≤ length (flat (kept_main (kept self.now) selection.viewer)) }
+        ensures { IfOk result (λ copy. flat copy
+            ≡ stretch selection.beg selection.end (flat (kept_main (kept self.now) selection.viewer))) }
+    {
+        let mut copy = Buffer::new(alloc)?;
+        let number = self.main_of(selection.viewer);
+        if let Some(text) = self.texts.get(&number) {
+            text.save(alloc, selection.beg, selection.end, &mut copy)?;
+        }
+        Ok(copy)
+    }
+
+    /// Puts the buffer's characters into a viewer's main text at `pos`, and the caret after them, where it is shown.
+    pub fn put_in<S: CharSource>(
+        &mut self,
+        alloc: Global,
+        id: u8,
+        pos: u32,
+        buffer: &mut Buffer,
+        source: &mut S,
+    ) -> Result<(), Stop>
+        requires built { IsBuilt (length (S.characters source.old)) (kept self.old) }
+        requires placed { IsPlaced id (kept self.old).columns }
+        requires place { pos ≤ length (flat (kept_main (kept self.old) id)) }
+        requires short { length (flat (kept_main (kept self.old) id)) + length (flat buffer.old) < 2 ^ 32 }
+        requires within { AreWithin (length (S.characters source.old)) (flat buffer.old) }
+        ensures changed { OnOk result (IsChanged (S.honest source.old) (S.characters source.old) (kept self.old)
+            (kept self.new) (put_in (seen (S.characters source.old) (kept self.old)) id pos
+            (seen_text (S.characters source.old) buffer.old)) (length (flat buffer.old)) 0) }
+        ensures reads { OnlyReads S.characters S.failures S.honest S.same_ground source.old source.new }
+        ensures faults { FailsAs Stop.Fault IsStop result (S.failures source.old) (S.failures source.new) }
+    {
+        let number = self.main_of(id);
+        let len = buffer.len();
+        self.insert(alloc, number, pos, buffer, source)?;
+        self.show_caret(id, pos + len, source)?;
+        Ok(())
+    }
+
+    /// Puts the buffer's characters in at the caret, and the caret after them, where it is shown. Where there are none
+    /// nothing changes.
+    pub fn put_at_caret<S: CharSource>(
+        &mut self,
+        alloc: Global,
+        caret: Caret,
+        buffer: &mut Buffer,
+        source: &mut S,
+    ) -> Result<(), Stop>
+        requires built { IsBuilt (length (S.characters source.old)) (kept self.old) }
+        requires placed { IsPlaced caret.viewer (kept self.old).columns }
+        requires place { caret.position ≤ length (flat (kept_main (kept self.old) caret.viewer)) }
+        requires short { length (flat (kept_main (kept self.old) caret.viewer)) + length (flat buffer.old) < 2 ^ 32 }
+        requires within { AreWithin (length (S.characters source.old)) (flat buffer.old) }
+        ensures changed { OnOk result (IsChanged (S.honest source.old) (S.characters source.old) (kept self.old)
+            (kept self.new) (put_at_caret (seen (S.characters source.old) (kept self.old))
+            (seen_text (S.characters source.old) buffer.old) caret) (length (flat buffer.old)) 0) }
+        ensures reads { OnlyReads S.characters S.failures S.honest S.same_ground source.old source.new }
+        ensures faults { FailsAs Stop.Fault IsStop result (S.failures source.old) (S.failures source.new) }
+    {
+        if buffer.len() == 0 {
+            return Ok(());
+        }
+        self.put_in(alloc, caret.viewer, caret.position, buffer, source)?;
+        Ok(())
+    }
+
+    /// Takes a viewer's stretch out, and puts the caret where it was, which is shown; the buffer has exactly these
+    /// characters then.
+    pub fn cut_out<S: CharSource>(
+        &mut self,
+        alloc: Global,
+        selection: Selection,
+        buffer: &mut Buffer,
+        source: &mut S,
+    ) -> Result<(), Stop>
+        requires built { IsBuilt (length (S.characters source.old)) (kept self.old) }
+        requires placed { IsPlaced selection.viewer (kept self.old).columns }
+        requires some { selection.beg < selection.end }
+        requires place { selection.end ≤ length (flat (kept_main (kept self.old) selection.viewer)) }
+        ensures changed { OnOk result (IsChanged (S.honest source.old) (S.characters source.old) (kept self.old)
+            (kept self.new) (cut_out (seen (S.characters source.old) (kept self.old)) selection)
+            0 (selection.end - selection.beg)) }
+        ensures taken { OnOk result (flat buffer.new
+            ≡ stretch selection.beg selection.end (flat (kept_main (kept self.old) selection.viewer))) }
+        ensures reads { OnlyReads S.characters S.failures S.honest S.same_ground source.old source.new }
+        ensures faults { FailsAs Stop.Fault IsStop result (S.failures source.old) (S.failures source.new) }
+    {
+        let number = self.main_of(selection.viewer);
+        self.delete(alloc, number, selection.beg, selection.end, buffer, source)?;
+        self.show_caret(selection.viewer, selection.beg, source)?;
+        Ok(())
+    }
+}
+
+/// Whether so many characters written, and so many held with `fewer` to go, are within the limits.
+fn is_space(written: usize, held: usize, fewer: usize) -> bool
+    requires { fewer < 2 ^ 32 }
+    ensures { result ≡ (nat_le written most_written && nat_le held (most_held + fewer)) }
+{
+    written <= MOST_WRITTEN as usize && held <= MOST_HELD as usize + fewer
+}

@@ -1,0 +1,131 @@
+//! What is marked: the marker, the caret, selections.
+ghost use Rattle.std.specs.Prelude.{◌≡◌, ◌==◌, ◌&&◌, ◌≤◌, length, IfOk, Ok};
+ghost use Rattle.sector_disk.specs.Faults.{FailsAs};
+ghost use Rattle.piece_ring.specs.Flat.{flat};
+ghost use Rattle.viewer_tracks.specs.Columns.{IsPlaced};
+ghost use Rattle.event_loop_laws.specs.Viewers.{text_in, viewer_or_none};
+ghost use Rattle.event_loop_laws.specs.Seen.{seen};
+ghost use Rattle.event_loop_laws.specs.Step.{settled};
+ghost use Rattle.event_loop_laws.specs.Sound.{IsOver, Grows};
+ghost use Rattle.event_loop_laws.specs.Outcome.{IsAnswered, IsSameSource};
+ghost use Rattle.event_loop.specs.Kept.{kept};
+ghost use Rattle.event_loop.specs.Stops.{IsStop};
+ghost use Rattle.event_loop_laws.specs.Step.{marked};
+ghost use Rattle.event_loop_laws.specs.Needs.{unless};
+ghost use Rattle.event_loop_laws.specs.Limits.{outside};
+ghost use Rattle.event_loop_laws.specs.Viewers.{with_caret, selections_outside};
+ghost use Rattle.event_loop_laws.specs.Gesture.{is_on_display, is_some_stretch, drawn_in};
+
+use crate::desk::Desk;
+use crate::stop::Stop;
+use crate::viewers::select;
+use char_file::CharSource;
+use event_loop_laws::{Caret, Reply, Selection, codes};
+use std::vec::Vec;
+use viewer_tracks::{COLUMNS, ROWS};
+
+/// Whether a cell is on the display.
+fn is_on_display(x: u8, y: u8) -> bool
+    ensures { result ≡ is_on_display x y }
+{
+    x < COLUMNS && y < ROWS
+}
+
+/// Whether both cells are, each as column and row.
+pub fn are_on_display(from: (u8, u8), to: (u8, u8)) -> bool
+    ensures { result ≡ (is_on_display from.0 from.1 && is_on_display to.0 to.1) }
+{
+    is_on_display(from.0, from.1) && is_on_display(to.0, to.1)
+}
+
+/// Whether a stretch has a character.
+fn is_some_stretch(stretch: Selection) -> bool
+    ensures { result ≡ is_some_stretch stretch }
+{
+    stretch.beg < stretch.end
+}
+
+/// No selection stands in that viewer any more.
+fn unselect(selections: &mut Vec<Selection>, id: u8)
+    ensures { selections.new.items ≡ selections_outside (λ v. v == id) selections.old.items }
+{
+    selections.retain(|s| s.viewer != id);
+}
+
+impl Desk {
+    /// Sets the marker to a cell. Refused where that is outside the display.
+    pub fn mark<S: CharSource>(
+        &mut self,
+        x: u8,
+        y: u8,
+        source: &mut S,
+    ) -> Result<Reply, Stop>
+        requires over { IsOver (S.characters source.old) (kept self.old) }
+        ensures answered { IfOk result (λ reply.
+            IsAnswered (S.honest source.old) (S.characters source.old) (S.characters source.new)
+            (kept self.old) (kept self.new) (settled (seen (S.characters source.old) (kept self.old))
+            (unless (is_on_display x y) outside
+            (Ok (marked (seen (S.characters source.old) (kept self.old)) x y)))) reply) }
+        ensures grows { S.honest source.old → Grows (S.characters source.old) (S.characters source.new) }
+        ensures source { IsSameSource S.failures S.honest S.same_ground source.old source.new }
+        ensures faults { FailsAs Stop.Fault IsStop result (S.failures source.old) (S.failures source.new) }
+    {
+        if !is_on_display(x, y) {
+            return Ok(Reply::No(codes::OUTSIDE));
+        }
+        self.marker = Some((x, y));
+        Ok(Reply::Done)
+    }
+
+    /// The caret comes to stand at `pos` in a viewer.
+    pub fn set_caret<S: CharSource>(
+        &mut self,
+        id: u8,
+        pos: u32,
+        source: &mut S,
+    ) -> Result<Reply, Stop>
+        requires placed { IsPlaced id (kept self.old).columns }
+        requires place { pos ≤ length (flat (text_in (kept self.old).texts
+            (viewer_or_none (kept self.old).viewers id).main)) }
+        requires over { IsOver (S.characters source.old) (kept self.old) }
+        ensures answered { IfOk result (λ reply.
+            IsAnswered (S.honest source.old) (S.characters source.old) (S.characters source.new)
+            (kept self.old) (kept self.new) (settled (seen (S.characters source.old) (kept self.old))
+            (Ok (with_caret (seen (S.characters source.old) (kept self.old)) id pos))) reply) }
+        ensures grows { S.honest source.old → Grows (S.characters source.old) (S.characters source.new) }
+        ensures source { IsSameSource S.failures S.honest S.same_ground source.old source.new }
+        ensures faults { FailsAs Stop.Fault IsStop result (S.failures source.old) (S.failures source.new) }
+    {
+        self.caret = Some(Caret {
+            viewer: id,
+            position: pos,
+        });
+        Ok(Reply::Done)
+    }
+
+    /// A stretch is selected; where it is empty, nothing of its viewer is.
+    pub fn select<S: CharSource>(
+        &mut self,
+        drawn: Selection,
+        source: &mut S,
+    ) -> Result<Reply, Stop>
+        requires placed { IsPlaced drawn.viewer (kept self.old).columns }
+        requires place { drawn.end ≤ length (flat (text_in (kept self.old).texts
+            (viewer_or_none (kept self.old).viewers drawn.viewer).main)) }
+        requires over { IsOver (S.characters source.old) (kept self.old) }
+        ensures answered { IfOk result (λ reply.
+            IsAnswered (S.honest source.old) (S.characters source.old) (S.characters source.new)
+            (kept self.old) (kept self.new) (settled (seen (S.characters source.old) (kept self.old))
+            (Ok (drawn_in (seen (S.characters source.old) (kept self.old)) drawn))) reply) }
+        ensures grows { S.honest source.old → Grows (S.characters source.old) (S.characters source.new) }
+        ensures source { IsSameSource S.failures S.honest S.same_ground source.old source.new }
+        ensures faults { FailsAs Stop.Fault IsStop result (S.failures source.old) (S.failures source.new) }
+    {
+        if is_some_stretch(drawn) {
+            select(&mut self.selections, drawn)?;
+            return Ok(Reply::Done);
+        }
+        unselect(&mut self.selections, drawn.viewer);
+        Ok(Reply::Done)
+    }
+}

@@ -1,0 +1,279 @@
+-- Laws of what opens: numbers that are free, how many are taken, and that a desktop with a new viewer stays shaped.
+use Rattle.std.specs.Prelude.{◌≡◌, ℕ, suc, ◌+◌, ◌*◌, ◌<◌, ◌≤◌, ◌==◌, ◌||◌, not, Bool, true, false, cond, IsTrue}
+use Rattle.std.specs.Prelude.{IsSome, is_some}
+use Rattle.std.specs.Prelude.{All, if◌then◌else◌, List, [], ◌∷◌, ◌++◌, length, filter, map, sum_by, Option, Some, None}
+use Rattle.std.specs.Prelude.{slice_index_or}
+use Rattle.std.specs.Option.{ForSome, unwrap_or}
+use Rattle.std.specs.List.{AllByRecursion, list_any, position_or_len, range_with_len}
+use Rattle.std.specs.List.Sorted.{IsStrictlySortedBy}
+use Rattle.std.specs.Map.{lookup, keys_of, values_of, remove_entry}
+use Rattle.std.specs.Ordering.{nat_cmp, match_ordering, is_eq}
+use Rattle.std.specs.declared.cmp.Ordering.TheVariants.{Less, Equal, Greater}
+use Rattle.std.specs.BTreeMap.{is_at, insert_entry}
+use Rattle.std.proofs.Common.{refl, sym, ap, subst, ◌∙◌, arith, ⊎_elim}
+use Rattle.std.proofs.Math.Dec.{eqb}
+use Rattle.std.proofs.lemmas.Bool.{eqb-true, eqb-false, eq-eqb, ne_eqb, cases_lt}
+use Rattle.std.proofs.lemmas.Bool.Decides.{nat_tests}
+use Rattle.std.proofs.lemmas.Cmp.{nat_cmp_total}
+use Rattle.std.proofs.lemmas.List.FromFn.{length-range_with_len, get_or-range_with_len}
+use Rattle.std.proofs.lemmas.List.Sums.{prefix_len-le-length, passes_at_first, fails_before_first, sum_by-cons}
+use Rattle.std.proofs.lemmas.Map.Made.{is_some-lookup}
+use Rattle.std.proofs.lemmas.Map.Steps.{le-length_from_below}
+use Rattle.event_loop_laws.specs.declared.viewer.Viewer.{Viewer}
+use Rattle.event_loop_laws.specs.declared.viewer.Caret.{Caret}
+use Rattle.event_loop_laws.specs.declared.viewer.Selection.{Selection}
+use Rattle.event_loop_laws.specs.declared.viewer.Kept.{Kept}
+use Rattle.viewer_tracks.specs.Columns.{Columns, IsColumns, IsPlaced, times_placed, times_meant}
+use Rattle.piece_ring.specs.Text.{Text}
+use Rattle.event_loop_laws.specs.Tables.{Texts, numbered, lengths}
+use Rattle.event_loop_laws.specs.TableLaws.{rising_put}
+use Rattle.event_loop_laws.specs.Desktop.{Desktop, DesktopOf, held}
+use Rattle.event_loop_laws.specs.Viewers.{viewer_in, text_in, main_length, viewer_or_none, no_viewer}
+use Rattle.event_loop_laws.specs.Opening.{least_unused, with_new}
+use Rattle.event_loop_laws.specs.Sound.{IsViewer, AreViewers, ArePlaces, AreMarks, times_there, IsShaped}
+use Rattle.event_loop_laws.specs.PlaceLaws.{any_at, at_itself, at_other, by_number, IsPlacedAnew}
+
+passed : (b : Bool) → not b ≡ true → b ≡ false
+passed true is = absurd cc
+passed false is = refl
+
+failed : (b : Bool) → not b ≡ false → b ≡ true
+failed true is = refl
+failed false is = absurd cc
+
+-- ---- the least unused number
+
+flipped : (a b : ℕ) → (a == b) ≡ eqb b a
+flipped a b = grind (arith, nat_tests)
+
+any_flipped : (n : ℕ) (ks : List ℕ) → list_any (λ k. k == n) ks ≡ list_any (eqb n) ks
+any_flipped n [] = refl
+any_flipped n (k ∷ ks) = λ i. flipped k n i || any_flipped n ks i
+
+module _ (used : List ℕ) where
+  abbrev free : ℕ → Bool
+  free n = not (list_any (λ k. k == n) used)
+
+  abbrev below : List ℕ
+  below = range_with_len 0 (length used)
+
+  pub unused_low : least_unused used ≤ length used
+  unused_low =
+      let low = prefix_len-le-length (λ n. not (free n)) below in
+      let long = length-range_with_len 0 (length used) in
+      omega (arith, low, long)
+
+  stands_at : (q : ℕ) → q < length used → slice_index_or below q 0 ≡ q
+  stands_at q low = get_or-range_with_len 0 (length used) q 0 low ∙ omega arith
+
+  used_before : (q : ℕ) → q < least_unused used → list_any (eqb q) used ≡ true
+  used_before q low =
+      let fits : q < length used = omega (arith, low, unused_low) in
+      sym (any_flipped q used)
+      ∙ failed _ (subst (λ n. free n ≡ false) (stands_at q fits) (fails_before_first free below q 0 low))
+
+  used_all : length used ≤ least_unused used → list_any (λ k. k == least_unused used) used ≡ true → ⊥
+  used_all past last =
+      let many = le-length_from_below used (least_unused used + 1) (λ q low.
+      ⊎_elim (λ less. used_before q less)
+      (λ more. let same : least_unused used ≡ q = omega (arith, low, more) in
+      subst (λ n. list_any (eqb n) used ≡ true) same (sym (any_flipped (least_unused used) used) ∙ last))
+      (cases_lt q (least_unused used))) in
+      absurd (omega (arith, many, past))
+
+  pub unused_missing : list_any (λ k. k == least_unused used) used ≡ false
+  unused_missing = ⊎_elim
+      (λ low.
+      let long = length-range_with_len 0 (length used) in
+      let inside : least_unused used < length below = omega (arith, low, long) in
+      passed _ (subst (λ n. free n ≡ true) (stands_at (least_unused used) low) (passes_at_first free below 0 inside)))
+      (λ past. by_case (list_any (λ k. k == least_unused used) used) refl past)
+      (cases_lt (least_unused used) (length used))
+    where
+      by_case : (b : Bool) → list_any (λ k. k == least_unused used) used ≡ b → length used ≤ least_unused used
+          → list_any (λ k. k == least_unused used) used ≡ false
+      by_case true is past = absurd (used_all past is)
+      by_case false is past = is
+
+none_of : {A : Type 0} (o : Option A) → is_some o ≡ false → o ≡ None
+none_of None not = refl
+none_of (Some a) not = absurd cc
+
+pub unused_none : {X : Type 0} (es : List (ℕ × X)) → lookup (is_at (nat_cmp (least_unused (keys_of es)))) es ≡ None
+unused_none es =
+    let n = least_unused (keys_of es) in
+    none_of _ (is_some-lookup (is_at (nat_cmp n)) es ∙ any_at n (keys_of es) ∙ unused_missing (keys_of es))
+
+-- ---- an entry of a number that is new
+
+module _ {X : Type 0} where
+  abbrev look : List (ℕ × X) → ℕ → Option X
+  look es k = lookup (is_at (nat_cmp k)) es
+
+  pub put_itself : (es : List (ℕ × X)) (n : ℕ) (x : X) → look (insert_entry nat_cmp es n x) n ≡ Some x
+  put_itself [] n x = rw (at_itself n) refl
+  put_itself (e ∷ es) n x = (elim (nat_cmp n e.0) as (λ o. nat_cmp n e.0 ≡ o
+      → look (match_ordering o ((n, x) ∷ e ∷ es) ((e.0, x) ∷ es) (e ∷ insert_entry nat_cmp es n x)) n ≡ Some x) [
+        | Less ↦ λ is. rw (at_itself n) refl
+        | Equal ↦ λ is. ap (λ o. (let y : Option X = cond (is_eq o) (Some x) (look es n) in y)) is
+        | Greater ↦ λ is. ap (λ o. (let y : Option X = cond (is_eq o) (Some e.1)
+            (look (insert_entry nat_cmp es n x) n) in y)) is ∙ put_itself es n x
+      ]) refl
+
+  pub put_other : (es : List (ℕ × X)) (n k : ℕ) (x : X) → ¬ (k ≡ n) → look es n ≡ None
+      → look (insert_entry nat_cmp es n x) k ≡ look es k
+  put_other [] n k x apart none = rw (at_other k n apart) refl
+  put_other (e ∷ es) n k x apart none = (elim (nat_cmp n e.0) as
+      (λ o. (let y : Option X = cond (is_eq o) (Some e.1) (look es n) in y) ≡ None
+      → look (match_ordering o ((n, x) ∷ e ∷ es) ((e.0, x) ∷ es) (e ∷ insert_entry nat_cmp es n x)) k
+      ≡ look (e ∷ es) k) [
+        | Less ↦ λ none. rw (at_other k n apart) refl
+        | Equal ↦ λ none. absurd cc
+        | Greater ↦ λ none.
+            ap (λ (o : Option X). (let y : Option X = cond (is_at (nat_cmp k) e.0) (Some e.1) o in y))
+            (put_other es n k x apart none)
+      ]) none
+
+  -- what is found isn't of a number that is missing
+  pub apart_from : (es : List (ℕ × X)) (n k : ℕ) (x : X) → look es n ≡ None → look es k ≡ Some x → ¬ (k ≡ n)
+  apart_from es n k x none found same =
+      let here : look es k ≡ None = subst (λ m. look es m ≡ None) (sym same) none in absurd cc
+
+-- ---- a viewer more, with its texts
+
+-- Texts and viewers, and the same with two new texts and a new viewer that shows them.
+pub record IsOneMore {X : Type 0} (texts new_texts : Texts (List X)) (viewers new_viewers : List (ℕ × Viewer))
+    (v menu main : ℕ) : Type 0 where
+  pub no_main : numbered texts main ≡ None
+  pub no_menu : numbered texts menu ≡ None
+  pub no_viewer : viewer_in viewers v ≡ None
+  pub apart : ¬ (main ≡ menu)
+  pub main_there : IsSome (numbered new_texts main)
+  pub menu_there : IsSome (numbered new_texts menu)
+  pub other_texts : (n : ℕ) → ¬ (n ≡ main) → ¬ (n ≡ menu) → numbered new_texts n ≡ numbered texts n
+  pub there : viewer_in new_viewers v ≡ Some (record { menu = menu; main = main; org = 0 })
+  pub other_viewers : (w : ℕ) → ¬ (w ≡ v) → viewer_in new_viewers w ≡ viewer_in viewers w
+  pub numbers : IsStrictlySortedBy nat_cmp (keys_of new_texts)
+  pub ids : IsStrictlySortedBy nat_cmp (keys_of new_viewers)
+
+is_there : {A : Type 0} (o : Option A) → IsSome o → (a : A) × (o ≡ Some a)
+is_there None some = absurd cc
+is_there (Some a) some = (a, refl)
+
+module _ {X : Type 0} (texts new_texts : Texts (List X)) (viewers new_viewers : List (ℕ × Viewer)) (v menu main : ℕ)
+    (more : IsOneMore texts new_texts viewers new_viewers v menu main) (are : AreViewers texts viewers) where
+  abbrev new : Viewer
+  new = record { menu = menu; main = main; org = 0 }
+
+  not_main : (n : ℕ) → IsSome (numbered texts n) → ¬ (n ≡ main)
+  not_main n some = let found = is_there (numbered texts n) some in apart_from texts main n found.0 more.no_main found.1
+
+  not_menu : (n : ℕ) → IsSome (numbered texts n) → ¬ (n ≡ menu)
+  not_menu n some = let found = is_there (numbered texts n) some in apart_from texts menu n found.0 more.no_menu found.1
+
+  text_stays : (n : ℕ) → IsSome (numbered texts n) → numbered new_texts n ≡ numbered texts n
+  text_stays n some = more.other_texts n (not_main n some) (not_menu n some)
+
+  some_stays : (n : ℕ) → IsSome (numbered texts n) → IsSome (numbered new_texts n)
+  some_stays n some = subst (λ (o : Option (List X)). IsSome o) (sym (text_stays n some)) some
+
+  length_stays : (n : ℕ) → IsSome (numbered texts n) → length (text_in new_texts n) ≡ length (text_in texts n)
+  length_stays n some = ap (λ (o : Option (List X)). length (unwrap_or o [])) (text_stays n some)
+
+  old_or_new : (w : ℕ) (viewer : Viewer) (P : Type 0) → viewer_in new_viewers w ≡ Some viewer
+      → (w ≡ v → new ≡ viewer → P) → (viewer_in viewers w ≡ Some viewer → P) → P
+  old_or_new w viewer P found is_new is_old = by_number w v P
+      (λ same. is_new same (let here : viewer_in new_viewers v ≡ Some viewer
+      = subst (λ (n : ℕ). viewer_in new_viewers n ≡ Some viewer) same found in
+      let both : Some new ≡ Some viewer = sym more.there ∙ here in cc))
+      (λ other. is_old (sym (more.other_viewers w other) ∙ found))
+
+  old_viewer : (w : ℕ) (viewer : Viewer) → viewer_in viewers w ≡ Some viewer → IsViewer new_texts new_viewers w viewer
+  old_viewer w viewer found =
+      let old = are.each w viewer found in
+      record {
+        menu = some_stays viewer.menu old.menu;
+        main = some_stays viewer.main old.main;
+        org = subst (λ n. viewer.org ≤ n) (sym (length_stays viewer.main old.main)) old.org;
+        not_log = old.not_log;
+        no_main = λ u other here is. old_or_new u other ⊥ here
+            (λ same shown. not_main viewer.menu old.menu
+            (let number : other.main ≡ main = ap (λ (x : Viewer). x.main) (sym shown) in sym is ∙ number))
+            (λ before. old.no_main u other before is);
+        own = λ u other here is. old_or_new u other (u ≡ w) here
+            (λ same shown. absurd (not_menu viewer.menu old.menu
+            (let number : other.menu ≡ menu = ap (λ (x : Viewer). x.menu) (sym shown) in sym is ∙ number)))
+            (λ before. old.own u other before is);
+      }
+
+  new_viewer : IsViewer new_texts new_viewers v new
+  new_viewer = record {
+    menu = more.menu_there;
+    main = more.main_there;
+    org = omega arith;
+    not_log = λ is. not_menu 0 are.log (sym is);
+    no_main = λ u other here is. old_or_new u other ⊥ here
+        (λ same shown. more.apart
+        (let number : other.main ≡ main = ap (λ (x : Viewer). x.main) (sym shown) in sym number ∙ is))
+        (λ before. not_menu other.main (are.each u other before).main is);
+    own = λ u other here is. old_or_new u other (u ≡ v) here
+        (λ same shown. same)
+        (λ before. absurd (not_menu other.menu (are.each u other before).menu is));
+  }
+
+  pub more_viewers : AreViewers new_texts new_viewers
+  more_viewers = record {
+    log = some_stays 0 are.log;
+    numbers = more.numbers;
+    ids = more.ids;
+    each = λ w viewer found. old_or_new w viewer (IsViewer new_texts new_viewers w viewer) found
+        (λ same shown. subst (λ (u : ℕ). IsViewer new_texts new_viewers u viewer) (sym same)
+        (subst (λ (x : Viewer). IsViewer new_texts new_viewers v x) shown new_viewer))
+        (λ before. old_viewer w viewer before);
+  }
+
+  -- the main text of each viewer that was there is as long as before
+  long_stays : (w : ℕ) → IsSome (viewer_in viewers w) → main_length new_texts new_viewers w
+      ≡ main_length texts viewers w
+  long_stays w some =
+      let found = is_there (viewer_in viewers w) some in
+      let same = more.other_viewers w (apart_from viewers v w found.0 more.no_viewer found.1) in
+      ap (λ (o : Option Viewer). length (text_in new_texts (unwrap_or o no_viewer).main)) same
+      ∙ length_stays (viewer_or_none viewers w).main
+      (subst (λ (o : Option Viewer). IsSome (numbered texts (unwrap_or o no_viewer).main)) (sym found.1)
+      (are.each w found.0 found.1).main)
+
+  pub more_marks : (columns : Columns) (caret : Option Caret) (selections : List Selection)
+      → ((w : ℕ) → IsPlaced w columns → IsSome (viewer_in viewers w))
+      → AreMarks columns (main_length texts viewers) caret selections
+      → AreMarks columns (main_length new_texts new_viewers) caret selections
+  more_marks columns caret selections known marks = record {
+    caret_stands = λ c here.
+        let stands = marks.caret_stands c here in
+        record {
+          placed = stands.placed;
+          within = subst (λ n. c.position ≤ n) (sym (long_stays c.viewer (known c.viewer stands.placed))) stands.within;
+        };
+    all_stand = λ i s low.
+        let stands = marks.all_stand i s low in
+        record {
+          placed = stands.placed;
+          some = stands.some;
+          within = subst (λ n. (slice_index_or selections i s).end ≤ n)
+              (sym (long_stays _ (known _ stands.placed))) stands.within;
+        };
+    one_each = marks.one_each;
+  }
+
+-- ---- who stands on the display has an entry
+
+some_if : (there : ℕ) (found : Bool) → 0 < there → there ≡ cond found 1 0 → found ≡ true
+some_if there true some is = refl
+some_if there false some is = absurd (omega (arith, some, is))
+
+pub placed_known : (viewers : List (ℕ × Viewer)) (columns : Columns)
+    (kept : Option Kept) (w : ℕ)
+    → ArePlaces viewers columns kept → IsPlaced w columns → IsSome (viewer_in viewers w)
+placed_known viewers columns kept w are placed =
+    let once = are.once w in
+    some_if (times_there columns kept w) _ (omega (arith, placed)) once
