@@ -20,6 +20,6 @@ EOF
         all=$(seconds "$mode" "$place" "$size" "$rounds")
         none=$(seconds "$mode" "$place" "$size" 0)
         awk -v m="$mode" -v p="$place" -v s="$size" -v r="$rounds" -v a="$all" -v n="$none" \
-            'BEGIN { t = a - n; printf "%s, %s: %d characters, %d rounds: %.2f s, %.0f a second, %.2f us each\n", m, p, s, r, t, t > 0 ? r / t : 0, t / r * 1e6 }'
+            'BEGIN { t = a - n; printf "%s, %s: %d characters, %d rounds: %.2f s, %.0f a second, %.2f us each\n", m, p, s, r, t, (t > 0 ? r / t : 0), t / r * 1e6 }'
     done
 done
