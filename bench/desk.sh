@@ -1,5 +1,5 @@
 #!/bin/sh
-# Times events and screens of a desktop in memory with one text in a viewer, by processor time: 20,000 keystrokes at the text's end and in
+# Times events and screens of a desktop in memory with one text in a viewer, by processor time: 20,000 keystrokes, in lines, at the text's end and in
 # its middle, 1,000 screens, and 200,000 events that touch no text, each with 1,000, 10,000 and 200,000 characters.
 # Build first: tools/build desk_bench. Other sizes: bench/desk.sh CHARACTERS..
 # A run without rounds is taken off, so only the rounds count.

@@ -1,7 +1,7 @@
 //! Events and screens of a desktop in memory, for a script to time. The arguments are what is done, where, how many
 //! characters the one text in a viewer has before, and a number of rounds:
 //!
-//! - `type`: each round types one character.
+//! - `type`: each round types one character; a line has 49 and a carriage return, and only whole lines are typed.
 //! - `screen`: each round paints the screen.
 //! - `mark`: each round sets the marker.
 //!
@@ -19,6 +19,9 @@ use std::{env, io};
 
 /// The bytes that one event types while the text is filled: 18 lines of 50 characters.
 const CHUNK: usize = 900;
+
+/// The characters of a line, its carriage return among them.
+const LINE: u32 = 50;
 
 /// A desktop and its characters.
 #[derive(Drop)]
@@ -65,6 +68,21 @@ fn done_times(desk: Desk, alloc: Global, event: &Event, times: u32) -> Result<De
     let mut desk = desk;
     for _ in 0..times {
         desk = done(desk, alloc, event)?;
+    }
+    Ok(desk)
+}
+
+/// Types so many lines, character by character.
+fn typed_lines(desk: Desk, alloc: Global, lines: u32) -> Result<Desk, Stop> {
+    let (Some(letter), Some(end)) = (TypedBytes::new(b"y"), TypedBytes::new(b"\r")) else {
+        return Ok(desk);
+    };
+    let letter = Event::Typed(letter);
+    let end = Event::Typed(end);
+    let mut desk = desk;
+    for _ in 0..lines {
+        desk = done_times(desk, alloc, &letter, LINE - 1)?;
+        desk = done(desk, alloc, &end)?;
     }
     Ok(desk)
 }
@@ -124,10 +142,7 @@ fn filled(alloc: Global, size: u32, middle: bool) -> Result<Desk, Stop> {
 fn run(alloc: Global, mode: Mode, middle: bool, size: u32, rounds: u32) -> Result<u32, Stop> {
     let desk = filled(alloc, size, middle)?;
     let desk = match mode {
-        Mode::Typing => match TypedBytes::new(b"y") {
-            Some(bytes) => done_times(desk, alloc, &Event::Typed(bytes), rounds)?,
-            None => desk,
-        },
+        Mode::Typing => typed_lines(desk, alloc, rounds / LINE)?,
         Mode::Painting => painted_times(desk, alloc, rounds)?,
         Mode::Marking => done_times(desk, alloc, &Event::Mark { x: 3, y: 4 }, rounds)?,
     };
