@@ -53,14 +53,23 @@ enum Mode {
 fn empty(alloc: Global) -> Result<Desk, Stop> {
     let desktop = Desktop::empty(alloc)?;
     let characters = CharFile::new(alloc);
-    Ok(Desk { desktop, characters })
+    Ok(Desk {
+        desktop,
+        characters,
+    })
 }
 
 /// Does the event.
 fn done(desk: Desk, alloc: Global, event: &Event) -> Result<Desk, Stop> {
-    let Desk { mut desktop, mut characters } = desk;
+    let Desk {
+        mut desktop,
+        mut characters,
+    } = desk;
     let _ = desktop.step(alloc, event, &mut characters)?;
-    Ok(Desk { desktop, characters })
+    Ok(Desk {
+        desktop,
+        characters,
+    })
 }
 
 /// Does the event so many times.
@@ -89,9 +98,15 @@ fn typed_lines(desk: Desk, alloc: Global, lines: u32) -> Result<Desk, Stop> {
 
 /// Paints the screen.
 fn painted(desk: Desk, alloc: Global, screen: &mut Screen) -> Result<Desk, Stop> {
-    let Desk { mut desktop, mut characters } = desk;
+    let Desk {
+        mut desktop,
+        mut characters,
+    } = desk;
     desktop.screen(alloc, &mut characters, screen)?;
-    Ok(Desk { desktop, characters })
+    Ok(Desk {
+        desktop,
+        characters,
+    })
 }
 
 /// Paints the screen so many times.
@@ -106,7 +121,13 @@ fn painted_times(desk: Desk, alloc: Global, times: u32) -> Result<Desk, Stop> {
 
 /// A gesture at one cell.
 fn click(keys: Keys, x: u8, y: u8) -> Event {
-    Event::Point { keys, x0: x, y0: y, x1: x, y1: y }
+    Event::Point {
+        keys,
+        x0: x,
+        y0: y,
+        x1: x,
+        y1: y,
+    }
 }
 
 /// Lines of 49 characters and a carriage return.

@@ -2,8 +2,10 @@
 
 use crate::sources::text_of;
 use char_file::CharFile;
-use command_table::{Command, Name, Symbol, called, first_names_decide, names, one_word_each};
-use command_table::{params, word_is_longest};
+use command_table::{
+    Command, Name, Symbol, called, first_names_decide, names, one_word_each, params,
+    word_is_longest,
+};
 use std::alloc::{AllocError, Global};
 use std::process::Abort;
 use std::test::Fail;

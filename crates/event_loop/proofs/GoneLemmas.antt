@@ -28,7 +28,7 @@ taken_out id (e ∷ es) within = (elim (e.0 == id) as (λ b. (e.0 == id) ≡ b
       | true ↦ λ is within. rw (same_test id e.0 true is) refl
       | false ↦ λ is within.
           (let next : 1 + position_or_len (λ e. e.0 == id) es ≡ suc (position_or_len (λ e. e.0 == id) es) =
-              omega arith in
+          omega arith in
           rw (next, same_test id e.0 false is)
           (ap (λ (l : List (ℕ × Viewer)). e ∷ l) (taken_out id es (omega arith))))
     ]) refl within
@@ -65,7 +65,7 @@ any_key n (e ∷ es) = ap (λ b. (e.0 == n) || b) (any_key n es)
 
 pub unused_by_id : {X : Type 0} (es : List (ℕ × X))
     → position_or_len (λ n. not (list_any (λ e. e.0 == n) es)) (range_with_len 0 (length es)) ≡ least_unused
-        (keys_of es)
+    (keys_of es)
 unused_by_id es =
     (λ k. position_or_len (λ n. not (any_key n es k)) (range_with_len 0 (sym (length-keys_of es) k)))
 

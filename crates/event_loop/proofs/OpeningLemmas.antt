@@ -43,7 +43,7 @@ pub left_step : (test : ℕ → Bool) (sum weight : ℕ) (e : ℕ × List Piece)
     → sum + weight + kept_left test rest ≡ all
 left_step test sum weight e rest now all is next before =
     let cons = sum_by-cons (λ (x : ℕ × List Piece). (let n : ℕ = if test x.0 then length
-        (flat x.1) else 0 in n)) e rest in
+    (flat x.1) else 0 in n)) e rest in
     let whole = ap (kept_left test) next in
     omega (arith, cons, whole, is, before)
 

@@ -66,17 +66,16 @@ impl Desk {
         let frame = self.main_frame(id);
         let text = self.main_text(id);
         let cell = frame.cell_of(text, self.text_width(id), self.rows_of(id), begin, source)?;
-        if is_in_row(cell, row) { Ok(Some(begin)) } else { Ok(None) }
+        if is_in_row(cell, row) {
+            Ok(Some(begin))
+        } else {
+            Ok(None)
+        }
     }
 
     /// Where the line begins that stands as far down in a viewer's main text as a row in its main frame. Fault: the
     /// source failed in this call.
-    fn start_of_share<S: CharSource>(
-        &self,
-        id: u8,
-        row: u8,
-        source: &mut S,
-    ) -> Result<u32, Fault>
+    fn start_of_share<S: CharSource>(&self, id: u8, row: u8, source: &mut S) -> Result<u32, Fault>
         requires over { IsOver (S.characters source.old) (kept self.now) }
         requires placed { IsPlaced id (kept self.now).columns }
         requires row { row < rows_of (kept self.now) id }
@@ -149,11 +148,7 @@ impl Desk {
     }
 
     /// A viewer shows its text from the beginning.
-    pub fn scroll_to_top<S: CharSource>(
-        &mut self,
-        id: u8,
-        source: &mut S,
-    ) -> Result<Reply, Stop>
+    pub fn scroll_to_top<S: CharSource>(&mut self, id: u8, source: &mut S) -> Result<Reply, Stop>
         requires placed { IsPlaced id (kept self.old).columns }
         requires over { IsOver (S.characters source.old) (kept self.old) }
         ensures answered { IfOk result (λ reply.

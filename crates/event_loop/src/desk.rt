@@ -110,7 +110,13 @@ impl Desk {
             Event::Typed(bytes) => self.type_bytes(alloc, bytes, source),
             Event::Key(key) => self.press(alloc, *key, source),
             Event::Mark { x, y } => self.mark(*x, *y, source),
-            Event::Point { keys, x0, y0, x1, y1 } => self.point(alloc, *keys, (*x0, *y0), (*x1, *y1), source),
+            Event::Point {
+                keys,
+                x0,
+                y0,
+                x1,
+                y1,
+            } => self.point(alloc, *keys, (*x0, *y0), (*x1, *y1), source),
             Event::File { name, bytes } => self.put_file(alloc, name, bytes, source),
         }
     }
@@ -165,6 +171,9 @@ impl Desk {
         ensures held { (characters : List ℕ) → result ≡ held (seen characters (kept self.now)) }
         ensures few { result ≤ most_held }
     {
-        lengths(&self.texts) + lengths(&self.files) + self.copied.len() as usize + self.deleted.len() as usize
+        lengths(&self.texts)
+            + lengths(&self.files)
+            + self.copied.len() as usize
+            + self.deleted.len() as usize
     }
 }

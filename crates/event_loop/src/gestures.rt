@@ -166,8 +166,12 @@ impl Desk {
         ensures faults { FailsAs Stop.Fault IsStop result (S.failures source.old) (S.failures source.new) }
     {
         match keys {
-            Keys::Left | Keys::LeftMiddle | Keys::LeftRight => self.point_cell(alloc, keys, id, to, source),
-            Keys::Right | Keys::RightLeft | Keys::RightMiddle => self.draw(alloc, keys, id, from, to, source),
+            Keys::Left | Keys::LeftMiddle | Keys::LeftRight => self.point_cell(
+                alloc, keys, id, to, source,
+            ),
+            Keys::Right | Keys::RightLeft | Keys::RightMiddle => self.draw(
+                alloc, keys, id, from, to, source,
+            ),
             Keys::Middle => Ok(Reply::No(codes::NO_COMMAND)),
             _ => Ok(Reply::Done),
         }

@@ -54,12 +54,7 @@ fn unselect(selections: &mut Vec<Selection>, id: u8)
 
 impl Desk {
     /// Sets the marker to a cell. Refused where that is outside the display.
-    pub fn mark<S: CharSource>(
-        &mut self,
-        x: u8,
-        y: u8,
-        source: &mut S,
-    ) -> Result<Reply, Stop>
+    pub fn mark<S: CharSource>(&mut self, x: u8, y: u8, source: &mut S) -> Result<Reply, Stop>
         requires over { IsOver (S.characters source.old) (kept self.old) }
         ensures answered { IfOk result (λ reply.
             IsAnswered (S.honest source.old) (S.characters source.old) (S.characters source.new)
@@ -104,11 +99,7 @@ impl Desk {
     }
 
     /// A stretch is selected; where it is empty, nothing of its viewer is.
-    pub fn select<S: CharSource>(
-        &mut self,
-        drawn: Selection,
-        source: &mut S,
-    ) -> Result<Reply, Stop>
+    pub fn select<S: CharSource>(&mut self, drawn: Selection, source: &mut S) -> Result<Reply, Stop>
         requires placed { IsPlaced drawn.viewer (kept self.old).columns }
         requires place { drawn.end ≤ length (flat (text_in (kept self.old).texts
             (viewer_or_none (kept self.old).viewers drawn.viewer).main)) }

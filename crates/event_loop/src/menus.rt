@@ -31,12 +31,7 @@ use viewer_tracks::{ViewerId, edits_keep_columns, edits_place_viewers};
 
 impl Desk {
     /// The top of a viewer goes to row `y`, or as near to it as the display and the viewer above let it.
-    pub fn resize<S: CharSource>(
-        &mut self,
-        id: u8,
-        y: u8,
-        source: &mut S,
-    ) -> Result<Reply, Stop>
+    pub fn resize<S: CharSource>(&mut self, id: u8, y: u8, source: &mut S) -> Result<Reply, Stop>
         requires placed { IsPlaced id (kept self.old).columns }
         requires row { y < ROWS }
         requires over { IsOver (S.characters source.old) (kept self.old) }

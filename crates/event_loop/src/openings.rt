@@ -78,9 +78,8 @@ fn is_taken(gone: Option<ViewerId>, id: u8) -> bool
 fn is_still_shown(viewers: &Viewers, gone: Option<ViewerId>, number: u16) -> bool
     ensures { result ≡ still_shown (number_of gone) viewers.now.items number }
 {
-    viewers
-        .iter()
-        .any(|entry| !is_taken(gone, entry.0) && (entry.1.menu == number || entry.1.main == number))
+    viewers.iter().any(|entry| !is_taken(gone, entry.0)
+        && (entry.1.menu == number || entry.1.main == number))
 }
 
 /// How many characters of a text stay once a viewer is gone: all, or none where nobody else shows it.

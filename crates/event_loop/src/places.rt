@@ -169,7 +169,14 @@ impl Desk {
     {
         let frame = self.main_frame(id);
         let text = self.main_text(id);
-        let pos = frame.pos_at(text, self.text_width(id), self.rows_of(id), column, row, source)?;
+        let pos = frame.pos_at(
+            text,
+            self.text_width(id),
+            self.rows_of(id),
+            column,
+            row,
+            source,
+        )?;
         Ok(pos)
     }
 

@@ -25,8 +25,9 @@ ghost use Rattle.event_loop.specs.Stops.{IsStop};
 
 use crate::desk::Desk;
 use crate::stop::{NoMemory, Stop};
-use crate::viewers::{Texts, caret_outside, follow_text, org_in, select, set_org, unselect};
-use crate::viewers::viewer_or_none;
+use crate::viewers::{
+    Texts, caret_outside, follow_text, org_in, select, set_org, unselect, viewer_or_none,
+};
 use char_file::{CharSource, Fault};
 use event_loop_laws::{Caret, Selection};
 use piece_ring::Look;

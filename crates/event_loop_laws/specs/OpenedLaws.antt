@@ -80,11 +80,11 @@ module _ (d : Desktop) (menu main : Text ℕ) (shaped : IsShaped d) where
     main_there = some_of _ main
         (put_other (first_texts d menu main) (menu_number d menu main) (main_number d menu main) menu
         (apart d menu main) (unused_none (first_texts d menu main))
-            ∙ put_itself d.texts (main_number d menu main) main);
+        ∙ put_itself d.texts (main_number d menu main) main);
     menu_there = some_of _ menu (put_itself (first_texts d menu main) (menu_number d menu main) menu);
     other_texts = λ n not_main not_menu.
         put_other (first_texts d menu main) (menu_number d menu main) n menu not_menu (unused_none
-            (first_texts d menu main))
+        (first_texts d menu main))
         ∙ put_other d.texts (main_number d menu main) n main not_main (unused_none d.texts);
     there = put_itself d.viewers (new_id d menu main) (new_viewer d menu main);
     other_viewers = λ w other.
@@ -198,10 +198,10 @@ module _ (d : Desktop) (menu main : Text ℕ) (test : ℕ → Bool) (rest : ℕ 
         (is_some-lookup (is_at (nat_cmp k)) d.texts ∙ any_at k (keys_of d.texts) ∙ there) in
         let no_menu_here : (menu_number d menu main == k) ≡ false
         = ne_eqb _ k (λ same. apart_from d.texts (menu_number d menu main) k found.0 (no_menu d menu main) found.1
-            (sym same)) in
+        (sym same)) in
         let no_main_here : (main_number d menu main == k) ≡ false
         = ne_eqb _ k (λ same. apart_from d.texts (main_number d menu main) k found.0 (unused_none d.texts) found.1
-            (sym same)) in
+        (sym same)) in
         is k ∙ (λ i. (k == 0) || ((no_menu_here i || no_main_here i) || rest k))
 
     lengths_left : lengths (filter (λ e. test e.0) (new_texts d menu main))

@@ -257,7 +257,7 @@ module _ (d : Desktop) (columns : Columns) where
   once_left g w are = by_number w g _
       (λ same. one_less _ _ (let meant : times_meant w (Some g) ≡ 1 = rw (eq-eqb g w (sym same)) refl in
       subst (λ n. times_there columns d.kept w + n ≡ (if is_some (viewer_in d.viewers w) then 1 else 0)) meant
-          (are.once w))
+      (are.once w))
       ∙ (λ k. if is_some (sym (subst (λ (n : ℕ). viewer_in (remove_entry (is_at (nat_cmp g)) d.viewers) n ≡ None)
       (sym same) (removed_itself g d.viewers are.viewers.ids)) k) then 1 else 0))
       (λ other. let meant : times_meant w (Some g) ≡ 0 = rw (ne_eqb g w (λ same. other (sym same))) refl in
@@ -304,7 +304,7 @@ module _ (d : Desktop) (columns : Columns) where
   -- where nobody comes
   pub none_comes : (taken : Option ℕ) → IsShaped d → IsColumns columns
       → ((w : ℕ) → times_placed w columns + times_meant w taken ≡ times_placed w d.columns)
-          → IsPlacedAnew d columns taken
+      → IsPlacedAnew d columns taken
   none_comes taken shaped hold places = record {
     viewers = shaped.viewers;
     marks = shaped.marks;

@@ -139,7 +139,7 @@ module _ (H : Type 0) (old : List ℕ) (d : KeptDesktop) (columns : Columns) (ta
     written_now =
         let same : now.written ≡ d.written
         = dropped_written (placed_anew (seen characters d) columns taken)
-            ∙ anew_written (seen characters d) columns taken in
+        ∙ anew_written (seen characters d) columns taken in
         let low = (over.whole.sound characters).written_within in
         omega (arith, same, low)
 
@@ -164,7 +164,7 @@ module _ (H : Type 0) (old : List ℕ) (d : KeptDesktop) (columns : Columns) (ta
     whole = record {
       within = subst (λ n. IsWithin n after) (sym written_after)
           (dropped_within d.written (placed_anew d columns taken)
-              (anew_within d.written d columns taken over.whole.within));
+          (anew_within d.written d columns taken over.whole.within));
       sound = λ characters. subst IsSound (sym (seen_after characters)) (sound_now characters);
     };
   }

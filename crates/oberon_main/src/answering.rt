@@ -6,8 +6,9 @@ ghost use Rattle.oberon_main.specs.declared.playing.PlayEnd.TheVariants as ends;
 ghost use Rattle.oberon_main.specs.Script.{ended};
 ghost use Rattle.oberon_main.specs.Worked.{bytes_of, end_of, IsWorkEnd, IsWorkedOut};
 
-use crate::answer::{ShortLine, list_bytes, refusal_bytes, reply_bytes, screen_bytes, short_line};
-use crate::answer::text_bytes;
+use crate::answer::{
+    ShortLine, list_bytes, refusal_bytes, reply_bytes, screen_bytes, short_line, text_bytes,
+};
 use crate::playing::PlayEnd;
 use crate::request::Request;
 use desk_journal::{Error, Store};

@@ -26,5 +26,5 @@ returns-clause-changed g c =
     cut_changed (s.characters c.args.source.now) (kept c.args.self.now) c.take_out.new.texts.entries c.args.number
     c.args.beg c.args.end c.requires.some c.requires.place c.requires.built c.requires.there
     c.in_ok-take_out.ensures.text (s.honest c.args.source.now) (kept c.follow.new.self) c.follow.new.self.viewers.items
-        c.in_ok-follow.ensures.rest
+    c.in_ok-follow.ensures.rest
     c.in_ok-follow.ensures.moved c.in_ok-follow.ensures.exact

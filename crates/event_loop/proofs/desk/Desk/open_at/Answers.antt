@@ -12,5 +12,5 @@ returns c =
     let d = kept c.args.self.now in
     c.let_go.ensures
     ∙ (λ k. dropped (without_viewer (record d { columns = c.open-gone.ensures.opened k })
-        (c.open-gone.ensures.replaced k)))
+    (c.open-gone.ensures.replaced k)))
     ∙ ap dropped (at_columns d _ _)

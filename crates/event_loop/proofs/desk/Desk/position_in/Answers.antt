@@ -37,5 +37,9 @@ returns-clause-from g c =
 
 pub returns-clause-within : goal.returns-clause-within
 returns-clause-within g c =
-    omega (arith, c.in_ok-pos.ensures.position.within, ap (λ (t : List Piece). length (flat t))
-    c.main_text-text.ensures)
+    omega (
+      arith,
+      c.in_ok-pos.ensures.position.within,
+      ap (λ (t : List Piece). length (flat t))
+          c.main_text-text.ensures,
+    )

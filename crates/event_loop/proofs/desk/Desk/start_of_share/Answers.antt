@@ -25,5 +25,10 @@ returns-clause-exact g c =
 
 pub returns-clause-within : goal.returns-clause-within
 returns-clause-within g c =
-    omega (arith, c.in_ok-start.ensures.range, c.share-pos.ensures.within, c.len.ensures,
-    ap (λ (t : List Piece). length (flat t)) c.main_text-text.ensures)
+    omega (
+      arith,
+      c.in_ok-start.ensures.range,
+      c.share-pos.ensures.within,
+      c.len.ensures,
+      ap (λ (t : List Piece). length (flat t)) c.main_text-text.ensures,
+    )

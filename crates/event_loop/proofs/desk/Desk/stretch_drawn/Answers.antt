@@ -36,5 +36,9 @@ returns-clause-viewer g c =
 
 pub returns-clause-within : goal.returns-clause-within
 returns-clause-within g c =
-    omega (arith, ap (λ (s : Selection). s.end) c.stretch.ensures, c.len-len.ensures,
-    ap (λ (t : List Piece). length (flat t)) c.main_text.ensures)
+    omega (
+      arith,
+      ap (λ (s : Selection). s.end) c.stretch.ensures,
+      c.len-len.ensures,
+      ap (λ (t : List Piece). length (flat t)) c.main_text.ensures,
+    )
