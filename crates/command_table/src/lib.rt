@@ -20,5 +20,6 @@ pub use event_bytes::Name;
 pub use laws::{first_names_decide, one_word_each, word_is_longest};
 pub use listing::{MOST_NAMES, names};
 pub use readers_scanners::Symbol;
+pub use symbols::{name_in, symbol_at};
 pub use text_core::Text;
 pub use valuing::params;

@@ -29,11 +29,7 @@ pub(crate) fn next_symbol<S: CharSource>(
 }
 
 /// The first symbol from `pos` on. `Fault`: the source failed in this call.
-pub(crate) fn symbol_at<S: CharSource>(
-    text: &Text,
-    pos: u32,
-    source: &mut S,
-) -> Result<Symbol, Fault>
+pub fn symbol_at<S: CharSource>(text: &Text, pos: u32, source: &mut S) -> Result<Symbol, Fault>
     requires { IsPlace (length (S.characters source.old)) (flat text.now, pos) }
     ensures symbol { IfOk result (λ symbol. S.honest source.old
         → symbol ≡ symbol_in (bytes (S.characters source.old)) (flat text.now, pos)) }
@@ -56,7 +52,7 @@ pub(crate) fn is_special(symbol: &Symbol, byte: u8) -> bool
 }
 
 /// The name that a symbol is. None where it is another symbol.
-pub(crate) fn name_in(symbol: &Symbol) -> Option<Name>
+pub fn name_in(symbol: &Symbol) -> Option<Name>
     requires { IsShaped symbol.now }
     ensures { result ≡ name_in symbol.now }
 {

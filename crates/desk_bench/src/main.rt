@@ -4,6 +4,8 @@
 //! - `type`: each round types one character; a line has 49 and a carriage return, and only whole lines are typed.
 //! - `screen`: each round paints the screen.
 //! - `mark`: each round sets the marker.
+//! - `search`: each round searches the whole text for a word that isn't there.
+//! - `directory`: there are 256 files, and each round lists them in the log, which is shown, and empties it.
 //!
 //! The place is `end` or `middle`, where the caret stands in the text. The number of characters written in the end is
 //! printed.
@@ -47,6 +49,8 @@ enum Mode {
     Typing,
     Painting,
     Marking,
+    Searching,
+    Listing,
 }
 
 /// The empty desktop.
@@ -119,15 +123,28 @@ fn painted_times(desk: Desk, alloc: Global, times: u32) -> Result<Desk, Stop> {
     Ok(desk)
 }
 
-/// A gesture at one cell.
-fn click(keys: Keys, x: u8, y: u8) -> Event {
+/// A gesture along a row.
+fn drag(keys: Keys, x0: u8, x1: u8, y: u8) -> Event {
     Event::Point {
         keys,
-        x0: x,
+        x0,
         y0: y,
-        x1: x,
+        x1,
         y1: y,
     }
+}
+
+/// A gesture at one cell.
+fn click(keys: Keys, x: u8, y: u8) -> Event {
+    drag(keys, x, x, y)
+}
+
+/// The bytes become the file `System.Tool`.
+fn with_tool(desk: Desk, alloc: Global, bytes: &[u8]) -> Result<Desk, Stop> {
+    let (Some(name), Some(bytes)) = (Name::new(b"System.Tool"), FileBytes::new(bytes)) else {
+        return Ok(desk);
+    };
+    done(desk, alloc, &Event::File { name, bytes })
 }
 
 /// Lines of 49 characters and a carriage return.
@@ -144,9 +161,7 @@ fn lines() -> [u8; CHUNK] {
 /// A text of about `size` characters in a viewer of the user track, with the caret in it.
 fn filled(alloc: Global, size: u32, middle: bool) -> Result<Desk, Stop> {
     let mut desk = empty(alloc)?;
-    if let (Some(name), Some(bytes)) = (Name::new(b"System.Tool"), FileBytes::new(b"x")) {
-        desk = done(desk, alloc, &Event::File { name, bytes })?;
-    }
+    desk = with_tool(desk, alloc, b"x")?;
     desk = done(desk, alloc, &click(Keys::Middle, 0, 31))?;
     desk = done(desk, alloc, &click(Keys::Left, 1, 30))?;
     if let Some(bytes) = TypedBytes::new(&lines()) {
@@ -159,6 +174,53 @@ fn filled(alloc: Global, size: u32, middle: bool) -> Result<Desk, Stop> {
     Ok(desk)
 }
 
+/// In a viewer of the system track stands the caret, and a word is selected that the text hasn't.
+fn with_word(desk: Desk, alloc: Global) -> Result<Desk, Stop> {
+    let mut desk = with_tool(desk, alloc, b"needle")?;
+    desk = done(desk, alloc, &click(Keys::Middle, 60, 31))?;
+    desk = done(desk, alloc, &drag(Keys::Right, 51, 56, 30))?;
+    done(desk, alloc, &click(Keys::Left, 51, 30))
+}
+
+/// Clicks so many times on `Edit.Search` in the menu of the text.
+fn searched_times(desk: Desk, alloc: Global, times: u32) -> Result<Desk, Stop> {
+    let desk = with_word(desk, alloc)?;
+    done_times(desk, alloc, &click(Keys::Middle, 40, 31), times)
+}
+
+/// 255 files beside the tool text, which opens in the system track, and the log below it.
+fn with_files(desk: Desk, alloc: Global) -> Result<Desk, Stop> {
+    let mut desk = desk;
+    for number in 0..255_u8 {
+        let name = [
+            b'F',
+            b'0' + number / 100,
+            b'0' + number / 10 % 10,
+            b'0' + number % 10,
+        ];
+        if let (Some(name), Some(bytes)) = (Name::new(&name), FileBytes::new(b"x")) {
+            desk = done(desk, alloc, &Event::File { name, bytes })?;
+        }
+    }
+    desk = with_tool(
+        desk,
+        alloc,
+        b"System.Directory\rSystem.Clear\rSystem.OpenLog",
+    )?;
+    desk = done(desk, alloc, &click(Keys::Middle, 60, 31))?;
+    done(desk, alloc, &click(Keys::Middle, 52, 28))
+}
+
+/// Lists the files so many times.
+fn listed_times(desk: Desk, alloc: Global, times: u32) -> Result<Desk, Stop> {
+    let mut desk = with_files(desk, alloc)?;
+    for _ in 0..times {
+        desk = done(desk, alloc, &click(Keys::Middle, 52, 30))?;
+        desk = done(desk, alloc, &click(Keys::Middle, 52, 29))?;
+    }
+    Ok(desk)
+}
+
 /// Does the rounds, and returns how many characters were written in the end.
 fn run(alloc: Global, mode: Mode, middle: bool, size: u32, rounds: u32) -> Result<u32, Stop> {
     let desk = filled(alloc, size, middle)?;
@@ -166,6 +228,8 @@ fn run(alloc: Global, mode: Mode, middle: bool, size: u32, rounds: u32) -> Resul
         Mode::Typing => typed_lines(desk, alloc, rounds / LINE)?,
         Mode::Painting => painted_times(desk, alloc, rounds)?,
         Mode::Marking => done_times(desk, alloc, &Event::Mark { x: 3, y: 4 }, rounds)?,
+        Mode::Searching => searched_times(desk, alloc, rounds)?,
+        Mode::Listing => listed_times(desk, alloc, rounds)?,
     };
     Ok(desk.desktop.written())
 }
@@ -176,6 +240,8 @@ fn mode_of(word: Option<String>) -> Option<Mode> {
         "type" => Some(Mode::Typing),
         "screen" => Some(Mode::Painting),
         "mark" => Some(Mode::Marking),
+        "search" => Some(Mode::Searching),
+        "directory" => Some(Mode::Listing),
         _ => None,
     }
 }
@@ -203,7 +269,9 @@ fn main(rt: HostRuntime) -> io::Result<()> {
         number(words.next()),
         number(words.next()),
     ) else {
-        println!(rt; "usage: desk_bench type|screen|mark end|middle CHARACTERS ROUNDS")?;
+        println!(rt;
+            "usage: desk_bench type|screen|mark|search|directory end|middle CHARACTERS ROUNDS"
+        )?;
         return Ok(());
     };
     match run(rt.alloc(), mode, middle, size, rounds) {

@@ -4,3 +4,4 @@ pub mod PairSteps
 pub mod SharedSteps
 pub mod ScrolledSteps
 pub mod WideSteps
+pub mod CallSteps

@@ -19,11 +19,15 @@ use Rattle.event_loop_laws.specs.Desktop.{Desktop, file_of, held}
 use Rattle.event_loop_laws.specs.Viewers.{opened_at}
 use Rattle.event_loop_laws.specs.Change.{plain, after_change, insertion, deletion, looks_set, showing}
 use Rattle.event_loop_laws.specs.Keys.{typed, escaped, pressed}
-use Rattle.event_loop_laws.specs.Opening.{menu_line, opening, dropped}
+use Rattle.event_loop_laws.specs.Opening.{menu_line, opening, opening_on, dropped}
 use Rattle.event_loop_laws.specs.Gesture.{area_at, resized, carried, text_position, scrolled_to_row}
 use Rattle.event_loop_laws.specs.Gesture.{scrolled_to_share, drawn_in, copied_to, looks_taken, taken_out}
-use Rattle.event_loop_laws.specs.Gesture.{sent_to_caret, tool_opened, pointed}
-use Rattle.event_loop_laws.specs.Step.{filed, marked, settled, raw, step}
+use Rattle.event_loop_laws.specs.Gesture.{sent_to_caret, tool_opened, menu_position, pointed}
+use Rattle.event_loop_laws.specs.Commands.{called}
+use Rattle.command_table.specs.Call.{word_begin, called_at}
+use Rattle.command_table.specs.Commands.{commands, command_named}
+use Rattle.event_bytes.specs.Bytes.{is_letter, is_digit, is_name_byte}
+use Rattle.event_loop_laws.specs.Step.{filed, marked, settled, raw, step_in, step}
 use Rattle.event_loop_laws.specs.Listing.{entries_of}
 use Rattle.event_loop_laws.specs.Shown.{shown_screen}
 use Rattle.desk_tests.proofs.StepWords.{Case, done, refused, unchanged, entry, viewer, caret, selection}
@@ -339,9 +343,10 @@ cases = keys ++ files_and_marks ++ points_outside ++ fillers ++ menus ++ bars ++
 -- each step gives what is wanted
 pub steps_are_done : map replied cases ≡ map wanted cases
 unfolding area_at resized carried text_position scrolled_to_row scrolled_to_share drawn_in copied_to looks_taken
-    taken_out sent_to_caret tool_opened pointed opening dropped opened_at after_change insertion deletion looks_set
-    showing filed marked settled raw step file_of held typed escaped pressed viewer_at opened replaced changed closed
-    track_of after_open after_close columns_changed
+    taken_out sent_to_caret tool_opened pointed opening opening_on dropped opened_at after_change insertion deletion
+    looks_set showing filed marked settled raw step_in step file_of held typed escaped pressed viewer_at opened
+    replaced changed closed track_of after_open after_close columns_changed called menu_position word_begin called_at
+    commands command_named is_name_byte is_letter is_digit
 steps_are_done = refl
 
 -- the rows of its screen that show more than blanks, from the bottom up

@@ -21,11 +21,11 @@ use Rattle.event_loop_laws.specs.Desktop.{Desktop, file_of, held}
 use Rattle.event_loop_laws.specs.Viewers.{opened_at}
 use Rattle.event_loop_laws.specs.Change.{in_look, plain, after_change, insertion, deletion, looks_set, showing}
 use Rattle.event_loop_laws.specs.Keys.{typed, escaped, pressed}
-use Rattle.event_loop_laws.specs.Opening.{menu_line, opening, dropped}
+use Rattle.event_loop_laws.specs.Opening.{menu_line, opening, opening_on, dropped}
 use Rattle.event_loop_laws.specs.Gesture.{area_at, resized, carried, text_position, scrolled_to_row}
 use Rattle.event_loop_laws.specs.Gesture.{scrolled_to_share, drawn_in, copied_to, looks_taken, taken_out}
 use Rattle.event_loop_laws.specs.Gesture.{sent_to_caret, tool_opened, pointed}
-use Rattle.event_loop_laws.specs.Step.{filed, marked, settled, raw, step}
+use Rattle.event_loop_laws.specs.Step.{filed, marked, settled, raw, step_in, step}
 use Rattle.event_loop_laws.specs.Listing.{entries_of}
 use Rattle.event_loop_laws.specs.Shown.{shown_screen}
 use Rattle.desk_tests.proofs.StepWords.{Case, done, refused, unchanged, look, entry, viewer, caret, selection, kept}
@@ -372,9 +372,9 @@ cases = keys ++ files ++ fillers ++ menus ++ bars ++ texts_left ++ texts_right
 -- each step gives what is wanted
 pub steps_are_done : map replied cases ≡ map wanted cases
 unfolding area_at resized carried text_position scrolled_to_row scrolled_to_share drawn_in copied_to looks_taken
-    taken_out sent_to_caret tool_opened pointed opening dropped opened_at after_change insertion deletion looks_set
-    showing filed marked settled raw step file_of held typed escaped pressed viewer_at opened replaced changed closed
-    track_of after_open after_close columns_changed
+    taken_out sent_to_caret tool_opened pointed opening opening_on dropped opened_at after_change insertion deletion
+    looks_set showing filed marked settled raw step_in step file_of held typed escaped pressed viewer_at opened
+    replaced changed closed track_of after_open after_close columns_changed
 steps_are_done = refl
 
 -- the rows of its screen that show more than blanks, from the bottom up

@@ -1,7 +1,7 @@
-//! Desktops: the limit on characters ever written, which no journal reaches.
+//! Desktops: the limits on characters ever written, and on files that are stored, which no journal reaches.
 
 use char_file::{CharFile, CharSource};
-use event_bytes::{Event, FileBytes, Name};
+use event_bytes::{Event, FileBytes, Keys, Name};
 use event_loop::{Desktop, Reply, codes};
 use std::alloc::Global;
 use std::marker::Model;
@@ -33,15 +33,13 @@ fn empty(alloc: Global) -> Result<Desk, Fail> {
     })
 }
 
-/// Puts so many bytes into the file `A.Text`.
-fn put(desk: Desk, alloc: Global, count: usize) -> Result<(Desk, Reply), Fail> {
+/// Does the event.
+fn done(desk: Desk, alloc: Global, event: &Event) -> Result<(Desk, Reply), Fail> {
     let Desk {
         mut desktop,
         mut characters,
     } = desk;
-    let name = Name::new(b"A.Text").ok_or("no name")?;
-    let bytes = FileBytes::new(&[b'x'; 900][..count.min(900)]).ok_or("no bytes of a file")?;
-    let reply = desktop.step(alloc, &Event::File { name, bytes }, &mut characters)?;
+    let reply = desktop.step(alloc, event, &mut characters)?;
     Ok((
         Desk {
             desktop,
@@ -49,6 +47,54 @@ fn put(desk: Desk, alloc: Global, count: usize) -> Result<(Desk, Reply), Fail> {
         },
         reply,
     ))
+}
+
+/// The bytes become the file of that name.
+fn file(desk: Desk, alloc: Global, name: &[u8], bytes: &[u8]) -> Result<(Desk, Reply), Fail> {
+    let name = Name::new(name).ok_or("no name")?;
+    let bytes = FileBytes::new(bytes).ok_or("no bytes of a file")?;
+    done(desk, alloc, &Event::File { name, bytes })
+}
+
+/// Puts so many bytes into the file `A.Text`.
+fn put(desk: Desk, alloc: Global, count: usize) -> Result<(Desk, Reply), Fail> {
+    file(desk, alloc, b"A.Text", &[b'x'; 900][..count.min(900)])
+}
+
+/// A click with the middle key at a cell.
+fn click(desk: Desk, alloc: Global, x: u8, y: u8) -> Result<(Desk, Reply), Fail> {
+    let keys = Keys::Middle;
+    done(
+        desk,
+        alloc,
+        &Event::Point {
+            keys,
+            x0: x,
+            y0: y,
+            x1: x,
+            y1: y,
+        },
+    )
+}
+
+/// 256 files, of which the tool text is shown in the system track, and a viewer of a new document.
+fn with_files(alloc: Global) -> Result<Desk, Fail> {
+    let tool = b"Edit.Open New.Text\rEdit.Open F254\rSystem.DeleteFiles F001 ~";
+    let (desk, _) = file(empty(alloc)?, alloc, b"System.Tool", tool)?;
+    let mut desk = desk;
+    for number in 0..255_u8 {
+        let name = [
+            b'F',
+            b'0' + number / 100,
+            b'0' + number / 10 % 10,
+            b'0' + number % 10,
+        ];
+        let (next, _) = file(desk, alloc, &name, b"x")?;
+        desk = next;
+    }
+    let (desk, _) = click(desk, alloc, 60, 31)?;
+    let (desk, _) = click(desk, alloc, 52, 30)?;
+    Ok(desk)
 }
 
 /// Puts 4,194,304 characters into the file, 900 at a time.
@@ -69,5 +115,22 @@ fn written_limit(rt: HostRuntime) -> Result<(), Fail> {
         assert!(rt; reply == wanted && desk.desktop.written() == 4_194_304);
     }
     assert_eq!(rt; codes::FULL, 6);
+    Ok(())
+}
+
+#[test]
+fn stored_files_limit(rt: HostRuntime) -> Result<(), Fail> {
+    let (desk, reply) = click(with_files(rt.alloc())?, rt.alloc(), 48, 31)?;
+    assert!(rt; reply == Reply::No(codes::TOO_MANY_FILES));
+    // The document of a file that is there can be stored; it opens in the lower half.
+    let (desk, _) = click(desk, rt.alloc(), 52, 29)?;
+    let (desk, reply) = click(desk, rt.alloc(), 44, 15)?;
+    assert!(rt; reply == Reply::Done);
+    // And where a file goes, a new one.
+    let (desk, reply) = click(desk, rt.alloc(), 52, 28)?;
+    assert!(rt; reply == Reply::Done);
+    let (_, reply) = click(desk, rt.alloc(), 48, 31)?;
+    assert!(rt; reply == Reply::Done);
+    assert_eq!(rt; codes::TOO_MANY_FILES, 8);
     Ok(())
 }

@@ -1,5 +1,5 @@
 -- What a scroll bar does, by where the line begins that comes first.
-use Rattle.std.specs.Prelude.{◌≡◌, ℕ, ◌==◌, Bool, true, false, if◌then◌else◌, Option, Some, None}
+use Rattle.std.specs.Prelude.{◌≡◌, ℕ, ◌==◌, Bool, true, false, if◌then◌else◌, Some, None}
 use Rattle.std.proofs.Common.{refl, ap}
 use Rattle.text_frames.specs.Cells.{row_of}
 use Rattle.event_loop_laws.specs.Desktop.{Desktop}

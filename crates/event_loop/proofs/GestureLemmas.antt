@@ -1,5 +1,5 @@
 -- The table of gestures, area by area.
-use Rattle.std.specs.Prelude.{◌≡◌, ◌⊎◌, ℕ, Bool, true, List, Result, Ok, Err}
+use Rattle.std.specs.Prelude.{◌≡◌, ◌⊎◌, ℕ, Bool, true, Ok}
 use Rattle.std.proofs.Common.{refl, sym, ap, ◌∙◌, inl, inr}
 use Rattle.event_bytes.specs.declared.keys.Keys.{Keys}
 use Rattle.event_bytes.specs.declared.keys.Keys.TheVariants.{Left, LeftMiddle, LeftRight, Middle, Right, RightLeft}
@@ -7,25 +7,12 @@ use Rattle.event_bytes.specs.declared.keys.Keys.TheVariants.{RightMiddle}
 use Rattle.event_loop_laws.specs.declared.area.Area.{Area}
 use Rattle.event_loop_laws.specs.declared.area.Area.TheVariants.{Filler, Menu, Bar, Body}
 use Rattle.event_loop_laws.specs.declared.viewer.Selection.{Selection}
-use Rattle.event_loop_laws.specs.declared.reply.Reply.TheVariants.{No}
-use Rattle.event_loop_laws.specs.Limits.{no_command, outside}
+use Rattle.event_loop_laws.specs.Limits.{first_version, outside}
 use Rattle.event_loop_laws.specs.Needs.{unless}
-use Rattle.event_loop_laws.specs.Desktop.{Desktop, KeptDesktop}
+use Rattle.event_loop_laws.specs.Desktop.{Desktop}
 use Rattle.event_loop_laws.specs.Gesture.{area_at, frame_row, pointed, scrolled_to_row, scrolled_to_share}
 use Rattle.event_loop_laws.specs.Gesture.{text_position, stretch_drawn}
-use Rattle.event_loop_laws.specs.Seen.{seen}
-use Rattle.event_loop_laws.specs.Step.{settled}
-use Rattle.event_loop_laws.specs.Sound.{IsOver}
-use Rattle.event_loop_laws.specs.Outcome.{IsAnswered}
-use Rattle.event_loop_laws.specs.OutcomeLaws.{refused}
-use Rattle.event_loop_laws.specs.RowLaws.{known_no_command}
 use Rattle.event_loop.specs.Mouse.{done_in_filler, done_in_menu, done_in_bar, done_at, done_with}
-
--- no word is a command so far
-pub no_command_answered : (H : Type 0) (old : List ℕ) (d : KeptDesktop) → IsOver old d
-    → IsAnswered H old old d d (settled (seen old d) (Err no_command)) (No no_command)
-unfolding settled
-no_command_answered H old d over = refused H old d _ no_command over known_no_command (λ h. refl)
 
 -- ---- what isn't in the table
 
@@ -51,12 +38,13 @@ bar_rest d Right v row one two three = absurd (three refl)
 bar_rest d keys v row one two three = refl
 
 pub at_rest : (d : Desktop) (keys : Keys) (v p : ℕ) → ¬ (keys ≡ Left) → ¬ (keys ≡ LeftMiddle)
-    → ¬ (keys ≡ LeftRight) → done_at d keys v p ≡ Ok d
+    → ¬ (keys ≡ LeftRight) → ¬ (keys ≡ Middle) → done_at d keys v p ≡ Ok d
 unfolding done_at
-at_rest d Left v p one two three = absurd (one refl)
-at_rest d LeftMiddle v p one two three = absurd (two refl)
-at_rest d LeftRight v p one two three = absurd (three refl)
-at_rest d keys v p one two three = refl
+at_rest d Left v p one two three four = absurd (one refl)
+at_rest d LeftMiddle v p one two three four = absurd (two refl)
+at_rest d LeftRight v p one two three four = absurd (three refl)
+at_rest d Middle v p one two three four = absurd (four refl)
+at_rest d keys v p one two three four = refl
 
 pub with_rest : (d : Desktop) (keys : Keys) (s : Selection) → ¬ (keys ≡ Right) → ¬ (keys ≡ RightLeft)
     → ¬ (keys ≡ RightMiddle) → done_with d keys s ≡ Ok d
@@ -69,19 +57,19 @@ with_rest d keys s one two three = refl
 -- ---- each area
 
 pub pointed_filler : (d : Desktop) (keys : Keys) (x0 y0 x1 y1 : ℕ)
-    → done_in_filler d keys x0 y0 ≡ pointed d Filler keys x0 y0 x1 y1
+    → done_in_filler d keys x0 y0 ≡ pointed first_version d Filler keys x0 y0 x1 y1
 unfolding pointed done_in_filler
 pointed_filler d Middle x0 y0 x1 y1 = refl
 pointed_filler d keys x0 y0 x1 y1 = refl
 
 pub pointed_menu : (d : Desktop) (keys : Keys) (v x0 y0 x1 y1 : ℕ)
-    → done_in_menu d keys v x1 y1 ≡ pointed d (Menu v) keys x0 y0 x1 y1
+    → done_in_menu d keys v x1 y1 ≡ pointed first_version d (Menu v) keys x0 y0 x1 y1
 unfolding pointed done_in_menu
 pointed_menu d Middle v x0 y0 x1 y1 = refl
 pointed_menu d keys v x0 y0 x1 y1 = refl
 
 pub pointed_bar : (d : Desktop) (keys : Keys) (v row x0 y0 x1 y1 : ℕ) → row ≡ frame_row d v y0
-    → done_in_bar d keys v row ≡ pointed d (Bar v) keys x0 y0 x1 y1
+    → done_in_bar d keys v row ≡ pointed first_version d (Bar v) keys x0 y0 x1 y1
 unfolding pointed done_in_bar
 pointed_bar d Left v row x0 y0 x1 y1 is = ap (λ r. Ok (scrolled_to_row d v r)) is
 pointed_bar d Middle v row x0 y0 x1 y1 is = ap (λ r. Ok (scrolled_to_share d v r)) is
@@ -90,25 +78,29 @@ pointed_bar d keys v row x0 y0 x1 y1 is = refl
 -- both cells are on the display, and the first is in that area
 pub pointed_in : (x : Desktop) (area : Area) (inside : Bool) (keys : Keys) (x0 y0 x1 y1 : ℕ) → inside ≡ true
     → area ≡ area_at x x0 y0
-    → pointed x area keys x0 y0 x1 y1 ≡ unless inside outside (pointed x (area_at x x0 y0) keys x0 y0 x1 y1)
+    → pointed first_version x area keys x0 y0 x1 y1
+    ≡ unless inside outside (pointed first_version x (area_at x x0 y0) keys x0 y0 x1 y1)
 pointed_in x area inside keys x0 y0 x1 y1 is here =
-    ap (λ (a : Area). pointed x a keys x0 y0 x1 y1) here
-    ∙ sym (ap (λ (b : Bool). unless b outside (pointed x (area_at x x0 y0) keys x0 y0 x1 y1)) is)
+    ap (λ (a : Area). pointed first_version x a keys x0 y0 x1 y1) here
+    ∙ sym (ap (λ (b : Bool). unless b outside (pointed first_version x (area_at x x0 y0) keys x0 y0 x1 y1)) is)
 
 -- ---- a text
 
 pub pointed_at : (d : Desktop) (keys : Keys) (v x0 y0 x1 y1 : ℕ)
-    → (keys ≡ Left) ⊎ ((keys ≡ LeftMiddle) ⊎ (keys ≡ LeftRight))
-    → done_at d keys v (text_position d v x1 y1) ≡ pointed d (Body v) keys x0 y0 x1 y1
+    → (keys ≡ Left) ⊎ ((keys ≡ LeftMiddle) ⊎ ((keys ≡ LeftRight) ⊎ (keys ≡ Middle)))
+    → done_at d keys v (text_position d v x1 y1) ≡ pointed first_version d (Body v) keys x0 y0 x1 y1
 unfolding pointed done_at
 pointed_at d keys v x0 y0 x1 y1 is = elim is [
   | inl left ↦ rw left refl
-  | inr other ↦ elim other [ inl middle ↦ rw middle refl | inr right ↦ rw right refl ]
+  | inr other ↦ elim other [
+    | inl middle ↦ rw middle refl
+    | inr more ↦ elim more [ inl right ↦ rw right refl | inr alone ↦ rw alone refl ]
+  ]
 ]
 
 pub pointed_with : (d : Desktop) (keys : Keys) (v x0 y0 x1 y1 : ℕ)
     → (keys ≡ Right) ⊎ ((keys ≡ RightLeft) ⊎ (keys ≡ RightMiddle))
-    → done_with d keys (stretch_drawn d v x0 y0 x1 y1) ≡ pointed d (Body v) keys x0 y0 x1 y1
+    → done_with d keys (stretch_drawn d v x0 y0 x1 y1) ≡ pointed first_version d (Body v) keys x0 y0 x1 y1
 unfolding pointed done_with
 pointed_with d keys v x0 y0 x1 y1 is = elim is [
   | inl right ↦ rw right refl
@@ -117,7 +109,7 @@ pointed_with d keys v x0 y0 x1 y1 is = elim is [
 
 pub pointed_rest : (d : Desktop) (keys : Keys) (v x0 y0 x1 y1 : ℕ) → ¬ (keys ≡ Left) → ¬ (keys ≡ LeftMiddle)
     → ¬ (keys ≡ LeftRight) → ¬ (keys ≡ Right) → ¬ (keys ≡ RightLeft) → ¬ (keys ≡ RightMiddle) → ¬ (keys ≡ Middle)
-    → pointed d (Body v) keys x0 y0 x1 y1 ≡ Ok d
+    → pointed first_version d (Body v) keys x0 y0 x1 y1 ≡ Ok d
 unfolding pointed
 pointed_rest d Left v x0 y0 x1 y1 a b c e f h i = absurd (a refl)
 pointed_rest d LeftMiddle v x0 y0 x1 y1 a b c e f h i = absurd (b refl)

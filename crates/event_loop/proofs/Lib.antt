@@ -9,6 +9,10 @@ pub mod ViewLemmas
 pub mod OpeningLemmas
 pub mod PositionLemmas
 pub mod ReadLemmas
+pub mod ReadFirst
 pub mod GestureLemmas
+pub mod CallLemmas
 pub mod BarLemmas
 pub mod MarkLemmas
+pub mod Decimals
+pub mod LogLemmas

@@ -1,11 +1,10 @@
 -- What an opening counts, and where its viewer comes into the table.
-use Rattle.std.proofs.Common.{◌≡◌, ℕ, suc, ◌+◌, ◌*◌, ◌<◌, ◌≤◌, Bool, true, false, cond, not, ◌==◌, nat_lt, List, []}
+use Rattle.std.proofs.Common.{◌≡◌, ℕ, suc, ◌+◌, ◌≤◌, Bool, true, false, cond, not, ◌==◌, nat_lt, List, []}
 use Rattle.std.proofs.Common.{◌∷◌}
-use Rattle.std.proofs.Common.{length, Option, Some, None, refl, sym, ap, subst, ◌∙◌, arith, ⊎_elim, ◌||◌, ◌&&◌, nat_le}
-use Rattle.std.specs.Prelude.{insert, is_some, codes, Ok, if◌then◌else◌, IsTrue, All}
+use Rattle.std.proofs.Common.{length, Option, Some, None, refl, ap, ◌∙◌, arith, ⊎_elim, ◌||◌}
+use Rattle.std.specs.Prelude.{insert, if◌then◌else◌}
 use Rattle.std.specs.List.{position_or_len}
-use Rattle.std.specs.List.Sorted.{IsStrictlySortedBy}
-use Rattle.std.specs.Map.{lookup, keys_of}
+use Rattle.std.specs.Map.{lookup}
 use Rattle.std.specs.Ordering.{nat_cmp, match_ordering, is_eq}
 use Rattle.std.specs.declared.cmp.Ordering.TheVariants.{Less, Equal, Greater}
 use Rattle.std.specs.BTreeMap.{is_at, insert_entry}
@@ -13,28 +12,17 @@ use Rattle.std.proofs.lemmas.Bool.{cases_lt, ne_eqb}
 use Rattle.std.proofs.lemmas.List.Sums.{sum_by-cons}
 use Rattle.piece_ring.specs.declared.piece.Piece.{Piece}
 use Rattle.piece_ring.specs.Flat.{flat}
-use Rattle.piece_ring.specs.Text.{Text}
-use Rattle.viewer_tracks.specs.declared.display.TheConstants.{ROWS}
-use Rattle.viewer_tracks.specs.Columns.{Columns, IsColumns, IsPlaced, times_placed, times_meant, replaced_at}
+use Rattle.viewer_tracks.specs.Columns.{Columns, IsPlaced, times_placed, times_meant}
 use Rattle.event_loop_laws.specs.declared.viewer.Viewer.{Viewer}
 use Rattle.event_loop_laws.specs.Tables.{Texts, lengths}
-use Rattle.event_loop_laws.specs.TableLaws.{length_seen, lengths_seen, length_seen_text}
-use Rattle.event_loop_laws.specs.Desktop.{Desktop, KeptDesktop, held, file_of}
-use Rattle.event_loop_laws.specs.Opening.{least_unused, opening, dropped, menu_line}
-use Rattle.event_loop_laws.specs.Seen.{seen, seen_text, seen_table}
-use Rattle.event_loop_laws.specs.Sound.{IsKeptWhole, times_there}
-use Rattle.event_loop_laws.specs.FewLaws.{few_viewers, few_texts}
+use Rattle.event_loop_laws.specs.TableLaws.{lengths_seen, length_seen_text}
+use Rattle.event_loop_laws.specs.Desktop.{KeptDesktop, held}
+use Rattle.event_loop_laws.specs.Opening.{dropped}
+use Rattle.event_loop_laws.specs.Seen.{seen, seen_table}
+use Rattle.event_loop_laws.specs.Sound.{IsKeptWhole}
 use Rattle.event_loop_laws.specs.LeftLaws.{kept_left, still_shown, held_left, left_fewer}
-use Rattle.event_loop_laws.specs.OpenedLaws.{new_id, one_more, held_opening}
-use Rattle.event_loop_laws.specs.OpeningDone.{written_opened}
-use Rattle.event_loop_laws.specs.StepLaws.{fits_by}
-use Rattle.event_loop_laws.specs.Step.{fits, settled}
-use Rattle.event_loop_laws.specs.Change.{plain, more_written}
-use Rattle.event_loop_laws.specs.Gesture.{tool_opened}
-use Rattle.event_loop_laws.specs.declared.reply.Reply.TheVariants.{No}
-use Rattle.event_loop_laws.specs.Viewers.{without_viewer, opened_at}
-use Rattle.event_loop_laws.specs.Limits.{most_written, most_held, no_file, full}
-use Rattle.event_loop_laws.specs.OpenLaws.{unused_none}
+use Rattle.event_loop_laws.specs.Viewers.{without_viewer}
+use Rattle.event_loop_laws.specs.Limits.{most_held}
 
 -- ---- a loop that counts
 
@@ -74,43 +62,6 @@ put_at id v (e ∷ es) none = (elim (nat_lt id e.0) as
           ]) none
     ]) none
 
-pub length_put : {X : Type 0} (es : List (ℕ × X)) (n : ℕ) (x : X) → length (insert_entry nat_cmp es n x) ≤ length es + 1
-length_put [] n x = omega arith
-length_put {X} (e ∷ es) n x =
-    let rest = length_put es n x in
-    elim (nat_cmp n e.0) as
-    (λ o. length (match_ordering o ((n, x) ∷ e ∷ es) ((e.0, x) ∷ es) (e ∷ insert_entry nat_cmp es n x))
-    ≤ length (e ∷ es) + 1) [
-      | Less ↦ omega arith
-      | Equal ↦ omega arith
-      | Greater ↦ omega (arith, rest)
-    ]
-
--- ---- how many there are
-
-pub kept_viewers : (d : KeptDesktop) → IsKeptWhole d → length d.viewers ≤ ROWS + ROWS + 1
-unfolding seen
-kept_viewers d whole =
-    let shaped = (whole.sound []).shaped in
-    few_viewers d.viewers d.columns d.kept shaped.places shaped.viewers.ids
-
-pub kept_texts : (d : KeptDesktop) → IsKeptWhole d → length d.texts ≤ 1 + 2 * length d.viewers
-unfolding seen
-kept_texts d whole =
-    let few = few_texts (seen [] d) (whole.sound []).shaped.viewers.numbers (whole.sound []).shown in
-    let same = length_seen (seen_text []) d.texts in
-    omega (arith, few, same)
-
--- a new id stands nowhere
-pub new_fresh : (d : KeptDesktop) → IsKeptWhole d → ¬ IsPlaced (least_unused (keys_of d.viewers)) d.columns
-unfolding seen
-new_fresh d whole placed =
-    let v = least_unused (keys_of d.viewers) in
-    let once = (whole.sound []).shaped.places.once v in
-    let none : times_there d.columns d.kept v ≡ 0
-    = once ∙ (λ k. if is_some (unused_none d.viewers k) then 1 else 0) in
-    absurd (omega (arith, none, placed))
-
 -- ---- what the desktop holds without a viewer
 
 pub left_is : (d : KeptDesktop) → IsKeptWhole d → (taken : Option ℕ) (characters : List ℕ)
@@ -138,7 +89,7 @@ left_low d whole taken texts files copied deleted t f c e =
     let low = (whole.sound []).held_within in
     omega (arith, few, all, copied_long, deleted_long, low, t, f, c, e)
 
--- ---- the limits
+-- ---- the new viewer
 
 -- the viewer that an opening replaces is not the new one
 pub not_taken : (columns after : Columns) (v : ℕ) (taken : Option ℕ) → ¬ IsPlaced v columns
@@ -150,61 +101,10 @@ not_taken columns after v taken fresh sum =
     let other : times_meant v (Some (v + 1)) ≡ 0 = rw (ne_eqb (v + 1) v (λ same. absurd (omega (arith, same)))) refl in
     omega (arith, sum, none, other)
 
-held_more : (d : Desktop) (n : ℕ) → held (dropped (more_written d n)) ≡ held (dropped d)
-unfolding held dropped
-held_more d n = refl
-
-written_more : (d : Desktop) (n : ℕ) → (dropped (more_written d n)).written ≡ (dropped d).written + n
-unfolding dropped
-written_more d n = refl
-
-pub fits_opening : (d : Desktop) (menu main : Text ℕ) (cell : ℕ × ℕ) (written all n : ℕ)
-    → times_meant (new_id d menu main) (replaced_at d.columns cell.0 cell.1) ≡ 0
-    → written ≡ d.written + n
-    → all ≡ held (dropped (without_viewer d (replaced_at d.columns cell.0 cell.1))) + length main + length menu
-    → (nat_le written most_written && nat_le all most_held) ≡ fits (dropped (more_written (opening d menu main cell) n))
-fits_opening d menu main cell written all n apart w h =
-    fits_by (dropped (more_written (opening d menu main cell) n)) written all
-    (let a = written_more (opening d menu main cell) n in
-    let b = written_opened d menu main cell in omega (arith, w, a, b))
-    (h ∙ sym (held_opening d menu main cell apart) ∙ sym (held_more (opening d menu main cell) n))
-
--- ---- the desktop
-
-pub whole_columns : (d : KeptDesktop) → IsKeptWhole d → IsColumns d.columns
-unfolding seen
-whole_columns d whole = (whole.sound []).shaped.places.columns_hold
-
-pub opened_desk : (d mid after : KeptDesktop) (menu main : List Piece) (id : ℕ) (cell : ℕ × ℕ)
-    → mid ≡ one_more d menu main → id ≡ new_id d menu main → after ≡ dropped (opened_at mid id cell)
-    → after ≡ dropped (opening d menu main cell)
-unfolding opening
-opened_desk d mid after menu main id cell mid_is id_is after_is =
-    after_is ∙ (λ k. dropped (opened_at (mid_is k) (id_is k) cell))
-
 -- ---- the tool
-
-module _ (d : Desktop) (x y : ℕ) where
-  pub tool_missing : file_of d (codes "System.Tool") ≡ None → (d, No no_file) ≡ settled d (tool_opened d x y)
-  unfolding settled tool_opened
-  tool_missing none = rw none refl
-
-  abbrev line : List ℕ
-  line = menu_line (codes "System.Tool")
-
-  pub tool_found : (text : Text ℕ) → file_of d (codes "System.Tool") ≡ Some text
-      → tool_opened d x y ≡ Ok (more_written (opening d (plain line) text (x, y + 1)) (length line))
-  unfolding tool_opened
-  tool_found text is = rw is refl
-
-  full_is : (new : Desktop) → fits (dropped new) ≡ false → (d, No full) ≡ settled d (Ok new)
-  unfolding settled
-  full_is new unfit = rw unfit refl
-
-  pub tool_full : (text : Text ℕ) → file_of d (codes "System.Tool") ≡ Some text
-      → fits (dropped (more_written (opening d (plain line) text (x, y + 1)) (length line))) ≡ false
-      → (d, No full) ≡ settled d (tool_opened d x y)
-  tool_full text is unfit = full_is _ unfit ∙ ap (settled d) (sym (tool_found text is))
 
 pub no_name : (name : List ℕ) → None ≡ Some name → ⊥
 no_name name is = cc
+
+pub same_name : (name other : List ℕ) → Some name ≡ Some other → name ≡ other
+same_name name other is = cc

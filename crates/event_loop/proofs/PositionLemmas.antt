@@ -5,33 +5,29 @@ use Rattle.std.specs.Prelude.{cond, if◌then◌else◌, List, [], length, Optio
 use Rattle.std.specs.Option.{option_map, unwrap_or}
 use Rattle.std.proofs.Common.{refl, sym, ap, subst, ◌∙◌, inl, inr, arith}
 use Rattle.std.proofs.Math.Nat.{mul-le-mul_left}
-use Rattle.std.proofs.lemmas.Bool.{cases_lt, le-leb, lt-ltb, eqb-true, ltb-true}
-use Rattle.std.proofs.lemmas.Bool.Decides.{eqb_tells, leb_tells, nat_tests}
+use Rattle.std.proofs.lemmas.Bool.{cases_lt}
+use Rattle.std.proofs.lemmas.Bool.Decides.{eqb_tells, nat_tests}
 use Rattle.piece_ring.specs.declared.piece.Piece.{Piece}
 use Rattle.piece_ring.specs.Flat.{flat}
 use Rattle.piece_ring.specs.Offsets.{AreWithin}
-use Rattle.piece_ring.specs.Text.{Text}
 use Rattle.readers_scanners.specs.Reading.{bytes, contents}
-use Rattle.viewer_tracks.specs.declared.display.TheConstants.{ROWS, COLUMNS}
-use Rattle.viewer_tracks.specs.Columns.{placed_top, placed_bottom, StandsAt, IsPlaced}
+use Rattle.viewer_tracks.specs.Columns.{placed_top, StandsAt, IsPlaced}
 use Rattle.text_frames.specs.Lines.{greatest, line_start}
 use Rattle.text_frames.specs.Cells.{row_of, column_of, comes_by, stands_by, position_at, is_inside, cell_of}
-use Rattle.event_loop_laws.specs.declared.area.Area.{Area}
 use Rattle.event_loop_laws.specs.declared.area.Area.TheVariants.{Menu, Bar, Body}
 use Rattle.event_loop_laws.specs.declared.viewer.Viewer.{Viewer}
 use Rattle.event_loop_laws.specs.declared.viewer.Selection.{Selection}
 use Rattle.event_loop_laws.specs.Tables.{Texts, numbered}
-use Rattle.event_loop_laws.specs.Desktop.{Desktop, KeptDesktop}
+use Rattle.event_loop_laws.specs.Desktop.{KeptDesktop}
 use Rattle.event_loop_laws.specs.Viewers.{no_viewer, viewer_in, viewer_or_none, text_in, rows_of, main_of}
 use Rattle.event_loop_laws.specs.Change.{bytes_of}
 use Rattle.event_loop_laws.specs.Gesture.{area_at, part_of, left, frame_row, IsAreaOf}
 use Rattle.event_loop_laws.specs.Gesture.{text_column, text_row, text_position, stretch_drawn}
 use Rattle.event_loop_laws.specs.Seen.{seen, seen_table}
 use Rattle.event_loop_laws.specs.SeenLaws.{within_counted}
-use Rattle.event_loop_laws.specs.ViewLaws.{text_within}
 use Rattle.event_loop_laws.specs.Sound.{IsBuilt, IsKeptWhole, IsOver}
 use Rattle.event_loop_laws.specs.RowLaws.{main_kept, over_built}
-use Rattle.event_loop_laws.specs.MarkLaws.{text_seen, long_seen}
+use Rattle.event_loop_laws.specs.TextLaws.{text_in_seen, long_seen, text_within}
 use Rattle.event_loop.specs.Mouse.{position_in, start_of_row, start_of_share}
 
 -- ---- cells of the display
@@ -60,7 +56,7 @@ area_stands d v x y stands =
 pub main_reads : (characters : List ℕ) (d : KeptDesktop) (v : ℕ)
     → main_of (seen characters d) v ≡ contents characters (flat (text_in d.texts (viewer_or_none d.viewers v).main))
 unfolding seen
-main_reads characters d v = text_seen characters d.texts (viewer_or_none d.viewers v).main
+main_reads characters d v = text_in_seen characters d.texts (viewer_or_none d.viewers v).main
 
 pub bytes_read : (characters : List ℕ) (d : KeptDesktop) (v : ℕ)
     → bytes_of (main_of (seen characters d) v)
@@ -226,7 +222,7 @@ pub offsets_kept : (old now : List ℕ) (d : KeptDesktop) (v : ℕ) (text : List
 offsets_kept old now d v text text_is long over =
     subst (λ n. AreWithin n (flat text)) (sym long)
     (subst (λ (t : List Piece). AreWithin (length old) (flat t)) (sym text_is)
-    (text_within (length old) (viewer_or_none d.viewers v).main d.texts (within_counted old d over).texts))
+    (text_within (length old) d.texts (viewer_or_none d.viewers v).main (within_counted old d over).texts))
 
 -- the stretch that was drawn, where both positions were read
 pub drawn_read : (old : List ℕ) (d : KeptDesktop) (v x0 y0 x1 y1 p q len : ℕ)

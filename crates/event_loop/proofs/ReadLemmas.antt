@@ -1,8 +1,7 @@
 -- What a row owes that reads the source first, and what it leaves.
-use Rattle.std.proofs.Common.{◌≡◌, ◌≤◌, ℕ, List, [], length, refl, sym, ap, subst, ◌∙◌, append-nil, arith}
+use Rattle.std.proofs.Common.{◌≡◌, ◌≤◌, ℕ, List, length, refl, sym, ap, subst, ◌∙◌, arith}
 use Rattle.std.specs.Prelude.{Result, Ok, IfOk}
 use Rattle.std.proofs.lemmas.Result.{IfOk-weaker}
-use Rattle.sector_disk.specs.Faults.{FailsAs}
 use Rattle.piece_ring.specs.Flat.{flat}
 use Rattle.char_file.specs.Source.{OnlyReads}
 use Rattle.event_loop_laws.specs.declared.reply.Reply.{Reply}
@@ -16,8 +15,6 @@ use Rattle.event_loop_laws.specs.Outcome.{IsAnswered, IsSameSource}
 use Rattle.event_loop_laws.specs.RowLaws.{row_answered, fewer_answered, changed_as, over_built}
 use Rattle.event_loop_laws.specs.MarkLaws.{with_org_changed}
 use Rattle.event_loop.specs.declared.stop.Stop.{Stop}
-use Rattle.event_loop.specs.declared.stop.Stop.TheVariants as stops
-use Rattle.event_loop.specs.Stops.{IsStop}
 
 pub over_read : (old new : List ℕ) (d : KeptDesktop) → length new ≡ length old → IsOver old d → IsOver new d
 over_read old new d long over = record { counted = long ∙ over.counted; whole = over.whole }
@@ -87,18 +84,6 @@ outcome_as H old new d after result x a b same answered =
 
 module _ {S : Type 0} (characters : S → List ℕ) (failures : S → ℕ) (honest : S → Type 0)
     (same_ground : S → S → Type 0) where
-  pub read_source : (a b : S) → OnlyReads characters failures honest same_ground a b
-      → IsSameSource failures honest same_ground a b
-  read_source a b reads = record {
-    premise = (reads.already, reads.still);
-    stands = reads.stands;
-    no_fewer = reads.no_fewer;
-  }
-
-  pub read_grows : (a b : S) → OnlyReads characters failures honest same_ground a b
-      → honest a → Grows (characters a) (characters b)
-  read_grows a b reads h = ([], reads.same h ∙ sym (append-nil (characters a)))
-
   pub read_then_grows : (a b c : S) → OnlyReads characters failures honest same_ground a b
       → (honest b → Grows (characters b) (characters c)) → honest a → Grows (characters a) (characters c)
   read_then_grows a b c reads grows h =
@@ -123,8 +108,3 @@ module _ {S : Type 0} (characters : S → List ℕ) (failures : S → ℕ) (hone
       stands = ground_through a b c first.stands second.stands;
       no_fewer = omega (arith, first.no_fewer, second.no_fewer);
     }
-
--- failures after a call that had none
-pub fails_then : {T : Type 0} (result : Result T Stop) (old mid new : ℕ) → mid ≡ old
-    → FailsAs stops.Fault IsStop result mid new → FailsAs stops.Fault IsStop result old new
-fails_then result old mid new calm fails = subst (λ n. FailsAs stops.Fault IsStop result n new) calm fails

@@ -26,9 +26,10 @@ use Rattle.event_loop_laws.specs.Seen.{seen, seen_text}
 use Rattle.event_loop_laws.specs.Sound.{IsBuilt}
 use Rattle.event_loop_laws.specs.Changed.{IsChanged}
 use Rattle.event_loop_laws.specs.ShapeLaws.{CanFollow, AreMoved}
-use Rattle.event_loop_laws.specs.EditLaws.{IsSet, set_there, set_long, set_orgs, set_within, set_changed, text_within}
+use Rattle.event_loop_laws.specs.EditLaws.{IsSet, set_there, set_long, set_orgs, set_within, set_changed}
 use Rattle.event_loop_laws.specs.EditLaws.{insertion_seen, deletion_seen, looks_seen, looks_changed_so, unchanged}
-use Rattle.event_loop_laws.specs.EditLaws.{insertion_none, long_seen, caret_shown_changed}
+use Rattle.event_loop_laws.specs.EditLaws.{insertion_none, caret_shown_changed}
+use Rattle.event_loop_laws.specs.TextLaws.{long_seen, text_within}
 use Rattle.event_loop_laws.specs.TableLaws.{lookup_seen, is_some_map, length_seen_text}
 use Rattle.event_loop_laws.specs.ChangeLaws.{is_there}
 use Rattle.text_frames.specs.Rules.{shown_org}

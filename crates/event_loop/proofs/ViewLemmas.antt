@@ -24,7 +24,8 @@ use Rattle.event_loop_laws.specs.Viewers.{text_in, viewer_in, viewer_or_none, no
 use Rattle.event_loop_laws.specs.Seen.{seen, seen_table}
 use Rattle.event_loop_laws.specs.Shown.{ranked, selection_in, painted, shown_screen}
 use Rattle.event_loop_laws.specs.Sound.{AllWithin, IsViewer, IsKeptWhole}
-use Rattle.event_loop_laws.specs.ViewLaws.{text_there, text_in_seen, text_within, viewer_at_place}
+use Rattle.event_loop_laws.specs.TextLaws.{text_there, text_in_seen, text_within}
+use Rattle.event_loop_laws.specs.ViewLaws.{viewer_at_place}
 use Rattle.event_loop_laws.specs.ViewLaws.{placed_there, few_selections}
 use Rattle.event_loop.specs.declared.views.View.{View}
 use Rattle.event_loop.specs.Views.{view_in, KeptView, kept_view, shown_view, AreThere}
@@ -118,8 +119,8 @@ module _ (d : KeptDesktop) (whole : IsKeptWhole d) where
       let org = (stands i e low).org in
       record {
         org = omega (arith, same, long, org);
-        menu = text_within n (slice_index_or d.viewers i e).1.menu d.texts within;
-        main = text_within n main d.texts within;
+        menu = text_within n d.texts (slice_index_or d.viewers i e).1.menu within;
+        main = text_within n d.texts main within;
       })
 
   -- the screen can read what it is handed

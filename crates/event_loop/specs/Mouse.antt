@@ -1,17 +1,18 @@
 -- What the keys of the mouse do, area by area, where what is read at the cells is known.
-use Rattle.std.specs.Prelude.{ℕ, ◌==◌, if◌then◌else◌, length, ◌*◌, ◌/◌, Option, Some, None, Result, Ok, Err}
+use Rattle.std.specs.Prelude.{ℕ, ◌==◌, if◌then◌else◌, length, ◌*◌, ◌/◌, true, false, Option, Some, None, Result, Ok}
 use Rattle.event_bytes.specs.declared.keys.Keys.{Keys}
 use Rattle.event_bytes.specs.declared.keys.Keys.TheVariants.{Left, LeftMiddle, LeftRight, Middle, Right, RightLeft}
 use Rattle.event_bytes.specs.declared.keys.Keys.TheVariants.{RightMiddle}
 use Rattle.text_frames.specs.Lines.{line_start}
 use Rattle.text_frames.specs.Cells.{position_at, row_of}
 use Rattle.event_loop_laws.specs.declared.viewer.Selection.{Selection}
-use Rattle.event_loop_laws.specs.Limits.{no_command}
+use Rattle.event_loop_laws.specs.Limits.{first_version}
 use Rattle.event_loop_laws.specs.Desktop.{Desktop}
 use Rattle.event_loop_laws.specs.Viewers.{viewer_of, main_of, rows_of, with_org, with_caret}
 use Rattle.event_loop_laws.specs.Change.{bytes_of}
-use Rattle.event_loop_laws.specs.Gesture.{resized, carried, tool_opened, scrolled_to_row, scrolled_to_share, drawn_in}
-use Rattle.event_loop_laws.specs.Gesture.{copied_to, looks_taken, taken_out, sent_to_caret}
+use Rattle.event_loop_laws.specs.Commands.{called}
+use Rattle.event_loop_laws.specs.Gesture.{menu_position, resized, carried, tool_opened, scrolled_to_row}
+use Rattle.event_loop_laws.specs.Gesture.{scrolled_to_share, drawn_in, copied_to, looks_taken, taken_out, sent_to_caret}
 
 -- ---- what is read
 
@@ -39,7 +40,7 @@ done_in_filler d keys x y = Ok d
 unfoldable pub done_in_menu : Desktop → Keys → ℕ → ℕ → ℕ → Result Desktop ℕ
 done_in_menu d Left v x y = Ok (resized d v y)
 done_in_menu d LeftMiddle v x y = Ok (carried d v x y)
-done_in_menu d Middle v x y = Err no_command
+done_in_menu d Middle v x y = called first_version d v true (menu_position d v x)
 done_in_menu d keys v x y = Ok d
 
 unfoldable pub done_in_bar : Desktop → Keys → ℕ → ℕ → Result Desktop ℕ
@@ -53,6 +54,7 @@ unfoldable pub done_at : Desktop → Keys → ℕ → ℕ → Result Desktop ℕ
 done_at d Left v p = Ok (with_caret d v p)
 done_at d LeftMiddle v p = copied_to d v p
 done_at d LeftRight v p = looks_taken d v p
+done_at d Middle v p = called first_version d v false p
 done_at d keys v p = Ok d
 
 -- with a stretch of it that was drawn

@@ -2,17 +2,14 @@
 ghost use Rattle.std.specs.Prelude.{◌≡◌, ◌==◌, ◌*◌, ◌/◌, ◌<◌, ◌≤◌, length, false, IfOk, IfSome, Ok};
 ghost use Rattle.std.specs.Option.{option_map, unwrap_or};
 ghost use Rattle.sector_disk.specs.Trail.{CountsFault};
-ghost use Rattle.sector_disk.specs.Faults.{FailsAs};
 ghost use Rattle.char_file.specs.Source.{OnlyReads};
 ghost use Rattle.piece_ring.specs.Flat.{flat};
 ghost use Rattle.viewer_tracks.specs.Columns.{IsPlaced};
 ghost use Rattle.event_loop_laws.specs.Viewers.{text_in, viewer_or_none};
 ghost use Rattle.event_loop_laws.specs.Seen.{seen};
-ghost use Rattle.event_loop_laws.specs.Step.{settled};
-ghost use Rattle.event_loop_laws.specs.Sound.{IsOver, Grows};
-ghost use Rattle.event_loop_laws.specs.Outcome.{IsAnswered, IsSameSource};
+ghost use Rattle.event_loop_laws.specs.Sound.{IsOver};
 ghost use Rattle.event_loop.specs.Kept.{kept};
-ghost use Rattle.event_loop.specs.Stops.{IsStop};
+ghost use Rattle.event_loop.specs.Row.{Settles, Uses};
 ghost use Rattle.event_loop.specs.Mouse.{start_of_row, start_of_share};
 ghost use Rattle.event_loop_laws.specs.Viewers.{with_org, rows_of};
 ghost use Rattle.event_loop_laws.specs.Gesture.{scrolled_to_row, scrolled_to_share};
@@ -109,13 +106,9 @@ impl Desk {
         requires placed { IsPlaced id (kept self.old).columns }
         requires row { row < rows_of (kept self.old) id }
         requires over { IsOver (S.characters source.old) (kept self.old) }
-        ensures answered { IfOk result (λ reply.
-            IsAnswered (S.honest source.old) (S.characters source.old) (S.characters source.new)
-            (kept self.old) (kept self.new) (settled (seen (S.characters source.old) (kept self.old))
-            (Ok (scrolled_to_row (seen (S.characters source.old) (kept self.old)) id row))) reply) }
-        ensures grows { S.honest source.old → Grows (S.characters source.old) (S.characters source.new) }
-        ensures source { IsSameSource S.failures S.honest S.same_ground source.old source.new }
-        ensures faults { FailsAs Stop.Fault IsStop result (S.failures source.old) (S.failures source.new) }
+        ensures answered { IfOk result (Settles S.CharSource (λ d. Ok (scrolled_to_row d id row))
+            source.old source.new (kept self.old) (kept self.new)) }
+        ensures uses { Uses S.CharSource result source.old source.new }
     {
         let Some(start) = self.start_of_row(id, row, source)? else {
             return Ok(Reply::Done);
@@ -134,13 +127,9 @@ impl Desk {
         requires placed { IsPlaced id (kept self.old).columns }
         requires row { row < rows_of (kept self.old) id }
         requires over { IsOver (S.characters source.old) (kept self.old) }
-        ensures answered { IfOk result (λ reply.
-            IsAnswered (S.honest source.old) (S.characters source.old) (S.characters source.new)
-            (kept self.old) (kept self.new) (settled (seen (S.characters source.old) (kept self.old))
-            (Ok (scrolled_to_share (seen (S.characters source.old) (kept self.old)) id row))) reply) }
-        ensures grows { S.honest source.old → Grows (S.characters source.old) (S.characters source.new) }
-        ensures source { IsSameSource S.failures S.honest S.same_ground source.old source.new }
-        ensures faults { FailsAs Stop.Fault IsStop result (S.failures source.old) (S.failures source.new) }
+        ensures answered { IfOk result (Settles S.CharSource (λ d. Ok (scrolled_to_share d id row))
+            source.old source.new (kept self.old) (kept self.new)) }
+        ensures uses { Uses S.CharSource result source.old source.new }
     {
         let start = self.start_of_share(id, row, source)?;
         self.begin_at(id, start);
@@ -151,13 +140,9 @@ impl Desk {
     pub fn scroll_to_top<S: CharSource>(&mut self, id: u8, source: &mut S) -> Result<Reply, Stop>
         requires placed { IsPlaced id (kept self.old).columns }
         requires over { IsOver (S.characters source.old) (kept self.old) }
-        ensures answered { IfOk result (λ reply.
-            IsAnswered (S.honest source.old) (S.characters source.old) (S.characters source.new)
-            (kept self.old) (kept self.new) (settled (seen (S.characters source.old) (kept self.old))
-            (Ok (with_org (seen (S.characters source.old) (kept self.old)) id 0))) reply) }
-        ensures grows { S.honest source.old → Grows (S.characters source.old) (S.characters source.new) }
-        ensures source { IsSameSource S.failures S.honest S.same_ground source.old source.new }
-        ensures faults { FailsAs Stop.Fault IsStop result (S.failures source.old) (S.failures source.new) }
+        ensures answered { IfOk result (Settles S.CharSource (λ d. Ok (with_org d id 0))
+            source.old source.new (kept self.old) (kept self.new)) }
+        ensures uses { Uses S.CharSource result source.old source.new }
     {
         self.begin_at(id, 0);
         Ok(Reply::Done)

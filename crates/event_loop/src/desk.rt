@@ -3,18 +3,17 @@
 //! The methods of rows stand in the modules beside this one, and go in this order: refusals, the limits, what may want
 //! memory, characters that are added, the change. Each promises the same: what is `settled` of its row, where the
 //! characters were told truly, and of the desktop, the reply and the source what holds whatever was told.
-ghost use Rattle.std.specs.Prelude.{◌≡◌, ◌+◌, ◌<◌, ◌≤◌, ◌^◌, ℕ, List, [], length, IfOk, IsErrOf, IsTrue};
-ghost use Rattle.sector_disk.specs.Faults.{FailsAs};
+ghost use Rattle.std.specs.Prelude.{◌≡◌, ◌+◌, ◌<◌, ◌≤◌, ◌^◌, ℕ, List, [], length, IfOk, IsTrue};
 ghost use Rattle.piece_ring.specs.Text.{Text as AText};
 ghost use Rattle.event_bytes.specs.declared.event.Event.TheVariants.{File};
 ghost use Rattle.event_loop_laws.specs.Limits.{most_written, most_held};
 ghost use Rattle.event_loop_laws.specs.Desktop.{empty_desktop, held};
 ghost use Rattle.event_loop_laws.specs.Seen.{seen};
-ghost use Rattle.event_loop_laws.specs.Step.{step, fits, filed};
-ghost use Rattle.event_loop_laws.specs.Sound.{IsOver, IsKeptWhole, Grows};
-ghost use Rattle.event_loop_laws.specs.Outcome.{IsAnswered, IsSameSource};
+ghost use Rattle.event_loop_laws.specs.Limits.{first_version};
+ghost use Rattle.event_loop_laws.specs.Step.{raw, fits, filed};
+ghost use Rattle.event_loop_laws.specs.Sound.{IsOver, IsKeptWhole};
 ghost use Rattle.event_loop.specs.Kept.{kept};
-ghost use Rattle.event_loop.specs.Stops.{IsStop};
+ghost use Rattle.event_loop.specs.Row.{Settles, Uses};
 
 use crate::files::{Files, has_room, length_of, put};
 use crate::held::{lengths, within_limits};
@@ -31,7 +30,8 @@ use std::vec::Vec;
 use text_core::{Buffer, Text};
 use viewer_tracks::Tracks;
 
-const PATTERN: usize = MOST_PATTERN as usize;
+/// How many bytes a pattern has at most.
+pub const PATTERN: usize = MOST_PATTERN as usize;
 
 /// What a desktop keeps. `specs/Desktop.antt` of `event_loop_laws` says what its parts are.
 #[derive(Drop)]
@@ -98,13 +98,9 @@ impl Desk {
         source: &mut S,
     ) -> Result<Reply, Stop>
         requires { IsOver (S.characters source.old) (kept self.old) }
-        ensures answered { IfOk result (λ reply.
-            IsAnswered (S.honest source.old) (S.characters source.old) (S.characters source.new)
-            (kept self.old) (kept self.new)
-            (step (seen (S.characters source.old) (kept self.old)) event.now) reply) }
-        ensures grows { S.honest source.old → Grows (S.characters source.old) (S.characters source.new) }
-        ensures source { IsSameSource S.failures S.honest S.same_ground source.old source.new }
-        ensures faults { FailsAs Stop.Fault IsStop result (S.failures source.old) (S.failures source.new) }
+        ensures answered { IfOk result (Settles S.CharSource (λ d. raw first_version d event.now)
+            source.old source.new (kept self.old) (kept self.new)) }
+        ensures uses { Uses S.CharSource result source.old source.new }
     {
         match event {
             Event::Typed(bytes) => self.type_bytes(alloc, bytes, source),
@@ -130,14 +126,9 @@ impl Desk {
         source: &mut S,
     ) -> Result<Reply, Stop>
         requires { IsOver (S.characters source.old) (kept self.old) }
-        ensures answered { IfOk result (λ reply.
-            IsAnswered (S.honest source.old) (S.characters source.old) (S.characters source.new)
-            (kept self.old) (kept self.new)
-            (step (seen (S.characters source.old) (kept self.old)) (File name.now bytes.now)) reply) }
-        ensures grows { Grows (S.characters source.old) (S.characters source.new) }
-        ensures source { IsSameSource S.failures S.honest S.same_ground source.old source.new }
-        ensures failures { S.failures source.new ≡ S.failures source.old }
-        ensures never_fault { ¬ IsErrOf result Stop.Fault }
+        ensures answered { IfOk result (Settles S.CharSource (λ d. raw first_version d (File name.now bytes.now))
+            source.old source.new (kept self.old) (kept self.new)) }
+        ensures uses { Uses S.CharSource result source.old source.new }
     {
         let bytes = bytes.as_bytes();
         if !has_room(&self.files, name) {

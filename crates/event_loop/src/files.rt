@@ -4,7 +4,8 @@ ghost use Rattle.piece_ring.specs.Text.{Text as AText};
 ghost use Rattle.event_bytes.specs.Bytes.{is_name};
 ghost use Rattle.event_loop_laws.specs.Tables.{named, put as with_file, lengths};
 ghost use Rattle.event_loop_laws.specs.Seen.{seen_table};
-ghost use Rattle.event_loop_laws.specs.Step.{has_room as room};
+ghost use Rattle.event_loop_laws.specs.Tables.{has_room as room};
+ghost use Rattle.event_loop_laws.specs.StoreLaws.{kept_size};
 ghost use Rattle.event_loop_laws.specs.Listing.{file_entry};
 
 use crate::stop::Stop;
@@ -30,6 +31,16 @@ pub fn has_room(files: &Files, name: &Name) -> bool
     files.contains_key(name) || files.len() < MOST_FILES as usize
 }
 
+/// How many characters the file of that name has, and 0 where there is none.
+pub fn size_of(files: &Files, name: &Name) -> usize
+    ensures { result ≡ kept_size files.now.entries name.now }
+{
+    match file_of(files, name) {
+        None => 0,
+        Some(text) => text.len() as usize,
+    }
+}
+
 /// How many characters are given up where the file of that name becomes another text.
 pub fn length_of(files: &Files, name: &Name) -> usize
     ensures { (characters : List ℕ) (text : AText ℕ)
@@ -38,10 +49,7 @@ pub fn length_of(files: &Files, name: &Name) -> usize
 {
     // The contract of `len` says that the names rise.
     let _ = files.len();
-    match file_of(files, name) {
-        None => 0,
-        Some(text) => text.len() as usize,
-    }
+    size_of(files, name)
 }
 
 /// The file of that name becomes this text. After an error the files are as they were.

@@ -1,21 +1,19 @@
 //! What the mouse does, by the area in which its keys went down. A gesture that isn't in the table is done and changes
 //! nothing.
-ghost use Rattle.std.specs.Prelude.{◌≡◌, ◌<◌, ◌≤◌, ◌&&◌, length, IfOk};
-ghost use Rattle.sector_disk.specs.Faults.{FailsAs};
+ghost use Rattle.std.specs.Prelude.{◌<◌, ◌≤◌, ◌&&◌, length, true, false, IfOk};
 ghost use Rattle.piece_ring.specs.Flat.{flat};
 ghost use Rattle.viewer_tracks.specs.declared.display.TheConstants.{ROWS, COLUMNS};
 ghost use Rattle.viewer_tracks.specs.Columns.{IsPlaced};
 ghost use Rattle.event_loop_laws.specs.declared.area.Area.TheVariants.{Body};
 ghost use Rattle.event_loop_laws.specs.Needs.{unless};
-ghost use Rattle.event_loop_laws.specs.Limits.{outside};
+ghost use Rattle.event_loop_laws.specs.Limits.{first_version, outside};
 ghost use Rattle.event_loop_laws.specs.Viewers.{text_in, viewer_or_none, rows_of};
-ghost use Rattle.event_loop_laws.specs.Gesture.{is_on_display, area_at, text_position, stretch_drawn, pointed};
-ghost use Rattle.event_loop_laws.specs.Seen.{seen};
-ghost use Rattle.event_loop_laws.specs.Step.{settled};
-ghost use Rattle.event_loop_laws.specs.Sound.{IsOver, Grows};
-ghost use Rattle.event_loop_laws.specs.Outcome.{IsAnswered, IsSameSource};
+ghost use Rattle.event_loop_laws.specs.Commands.{called};
+ghost use Rattle.event_loop_laws.specs.Gesture.{is_on_display, area_at, menu_position, text_position};
+ghost use Rattle.event_loop_laws.specs.Gesture.{stretch_drawn, pointed};
+ghost use Rattle.event_loop_laws.specs.Sound.{IsOver};
 ghost use Rattle.event_loop.specs.Kept.{kept};
-ghost use Rattle.event_loop.specs.Stops.{IsStop};
+ghost use Rattle.event_loop.specs.Row.{Settles, Uses};
 ghost use Rattle.event_loop.specs.Mouse.{done_in_filler, done_in_menu, done_in_bar, done_at, done_with};
 
 use crate::desk::Desk;
@@ -28,7 +26,7 @@ use std::alloc::Global;
 
 impl Desk {
     /// The keys went down at the cell `from`, as column and row, and up at `to`. Refused where one of them is outside
-    /// the display, and where a word is called: there are no commands yet.
+    /// the display.
     pub fn point<S: CharSource>(
         &mut self,
         alloc: Global,
@@ -38,23 +36,18 @@ impl Desk {
         source: &mut S,
     ) -> Result<Reply, Stop>
         requires over { IsOver (S.characters source.old) (kept self.old) }
-        ensures answered { IfOk result (λ reply.
-            IsAnswered (S.honest source.old) (S.characters source.old) (S.characters source.new)
-            (kept self.old) (kept self.new) (settled (seen (S.characters source.old) (kept self.old))
-            (unless (is_on_display from.0 from.1 && is_on_display to.0 to.1) outside
-            (pointed (seen (S.characters source.old) (kept self.old))
-            (area_at (seen (S.characters source.old) (kept self.old)) from.0 from.1)
-            keys from.0 from.1 to.0 to.1))) reply) }
-        ensures grows { S.honest source.old → Grows (S.characters source.old) (S.characters source.new) }
-        ensures source { IsSameSource S.failures S.honest S.same_ground source.old source.new }
-        ensures faults { FailsAs Stop.Fault IsStop result (S.failures source.old) (S.failures source.new) }
+        ensures answered { IfOk result (Settles S.CharSource (λ d.
+            unless (is_on_display from.0 from.1 && is_on_display to.0 to.1) outside
+            (pointed first_version d (area_at d from.0 from.1) keys from.0 from.1 to.0 to.1))
+            source.old source.new (kept self.old) (kept self.new)) }
+        ensures uses { Uses S.CharSource result source.old source.new }
     {
         if !are_on_display(from, to) {
             return Ok(Reply::No(codes::OUTSIDE));
         }
         match self.area_at(from.0, from.1) {
             Area::Filler => self.point_filler(alloc, keys, from, source),
-            Area::Menu(id) => self.point_menu(keys, id, to, source),
+            Area::Menu(id) => self.point_menu(alloc, keys, id, to, source),
             Area::Bar(id) => {
                 let row = self.frame_row(id, from.1);
                 self.point_bar(keys, id, row, source)
@@ -74,13 +67,9 @@ impl Desk {
         requires column { cell.0 < COLUMNS }
         requires row { cell.1 < ROWS }
         requires over { IsOver (S.characters source.old) (kept self.old) }
-        ensures answered { IfOk result (λ reply.
-            IsAnswered (S.honest source.old) (S.characters source.old) (S.characters source.new)
-            (kept self.old) (kept self.new) (settled (seen (S.characters source.old) (kept self.old))
-            (done_in_filler (seen (S.characters source.old) (kept self.old)) keys cell.0 cell.1)) reply) }
-        ensures grows { S.honest source.old → Grows (S.characters source.old) (S.characters source.new) }
-        ensures source { IsSameSource S.failures S.honest S.same_ground source.old source.new }
-        ensures faults { FailsAs Stop.Fault IsStop result (S.failures source.old) (S.failures source.new) }
+        ensures answered { IfOk result (Settles S.CharSource (λ d. done_in_filler d keys cell.0 cell.1)
+            source.old source.new (kept self.old) (kept self.new)) }
+        ensures uses { Uses S.CharSource result source.old source.new }
     {
         match keys {
             Keys::Middle => self.open_tool(alloc, cell.0, cell.1, source),
@@ -91,6 +80,7 @@ impl Desk {
     /// In the menu of a viewer; the keys went up at a cell.
     fn point_menu<S: CharSource>(
         &mut self,
+        alloc: Global,
         keys: Keys,
         id: u8,
         cell: (u8, u8),
@@ -100,20 +90,35 @@ impl Desk {
         requires row { cell.1 < ROWS }
         requires placed { IsPlaced id (kept self.old).columns }
         requires over { IsOver (S.characters source.old) (kept self.old) }
-        ensures answered { IfOk result (λ reply.
-            IsAnswered (S.honest source.old) (S.characters source.old) (S.characters source.new)
-            (kept self.old) (kept self.new) (settled (seen (S.characters source.old) (kept self.old))
-            (done_in_menu (seen (S.characters source.old) (kept self.old)) keys id cell.0 cell.1)) reply) }
-        ensures grows { S.honest source.old → Grows (S.characters source.old) (S.characters source.new) }
-        ensures source { IsSameSource S.failures S.honest S.same_ground source.old source.new }
-        ensures faults { FailsAs Stop.Fault IsStop result (S.failures source.old) (S.failures source.new) }
+        ensures answered { IfOk result (Settles S.CharSource (λ d. done_in_menu d keys id cell.0 cell.1)
+            source.old source.new (kept self.old) (kept self.new)) }
+        ensures uses { Uses S.CharSource result source.old source.new }
     {
         match keys {
             Keys::Left => self.resize(id, cell.1, source),
             Keys::LeftMiddle => self.carry(id, cell.0, cell.1, source),
-            Keys::Middle => Ok(Reply::No(codes::NO_COMMAND)),
+            Keys::Middle => self.call_in_menu(alloc, id, cell.0, source),
             _ => Ok(Reply::Done),
         }
+    }
+
+    /// The word that a viewer's menu shows nearest to a column is called.
+    fn call_in_menu<S: CharSource>(
+        &mut self,
+        alloc: Global,
+        id: u8,
+        x: u8,
+        source: &mut S,
+    ) -> Result<Reply, Stop>
+        requires placed { IsPlaced id (kept self.old).columns }
+        requires over { IsOver (S.characters source.old) (kept self.old) }
+        ensures answered { IfOk result (Settles S.CharSource
+            (λ d. called first_version d id true (menu_position d id x))
+            source.old source.new (kept self.old) (kept self.new)) }
+        ensures uses { Uses S.CharSource result source.old source.new }
+    {
+        let pos = self.menu_position(id, x, source)?;
+        self.call(alloc, id, true, pos, source)
     }
 
     /// In the scroll bar of a viewer, at a row of its main frame.
@@ -127,13 +132,9 @@ impl Desk {
         requires placed { IsPlaced id (kept self.old).columns }
         requires row { row < rows_of (kept self.old) id }
         requires over { IsOver (S.characters source.old) (kept self.old) }
-        ensures answered { IfOk result (λ reply.
-            IsAnswered (S.honest source.old) (S.characters source.old) (S.characters source.new)
-            (kept self.old) (kept self.new) (settled (seen (S.characters source.old) (kept self.old))
-            (done_in_bar (seen (S.characters source.old) (kept self.old)) keys id row)) reply) }
-        ensures grows { S.honest source.old → Grows (S.characters source.old) (S.characters source.new) }
-        ensures source { IsSameSource S.failures S.honest S.same_ground source.old source.new }
-        ensures faults { FailsAs Stop.Fault IsStop result (S.failures source.old) (S.failures source.new) }
+        ensures answered { IfOk result (Settles S.CharSource (λ d. done_in_bar d keys id row)
+            source.old source.new (kept self.old) (kept self.new)) }
+        ensures uses { Uses S.CharSource result source.old source.new }
     {
         match keys {
             Keys::Left => self.scroll_to_row(id, row, source),
@@ -156,23 +157,18 @@ impl Desk {
         requires placed { IsPlaced id (kept self.old).columns }
         requires some { 0 < rows_of (kept self.old) id }
         requires over { IsOver (S.characters source.old) (kept self.old) }
-        ensures answered { IfOk result (λ reply.
-            IsAnswered (S.honest source.old) (S.characters source.old) (S.characters source.new)
-            (kept self.old) (kept self.new) (settled (seen (S.characters source.old) (kept self.old))
-            (pointed (seen (S.characters source.old) (kept self.old)) (Body id) keys
-            from.0 from.1 to.0 to.1)) reply) }
-        ensures grows { S.honest source.old → Grows (S.characters source.old) (S.characters source.new) }
-        ensures source { IsSameSource S.failures S.honest S.same_ground source.old source.new }
-        ensures faults { FailsAs Stop.Fault IsStop result (S.failures source.old) (S.failures source.new) }
+        ensures answered { IfOk result (Settles S.CharSource
+            (λ d. pointed first_version d (Body id) keys from.0 from.1 to.0 to.1)
+            source.old source.new (kept self.old) (kept self.new)) }
+        ensures uses { Uses S.CharSource result source.old source.new }
     {
         match keys {
-            Keys::Left | Keys::LeftMiddle | Keys::LeftRight => self.point_cell(
+            Keys::Left | Keys::LeftMiddle | Keys::LeftRight | Keys::Middle => self.point_cell(
                 alloc, keys, id, to, source,
             ),
             Keys::Right | Keys::RightLeft | Keys::RightMiddle => self.draw(
                 alloc, keys, id, from, to, source,
             ),
-            Keys::Middle => Ok(Reply::No(codes::NO_COMMAND)),
             _ => Ok(Reply::Done),
         }
     }
@@ -189,14 +185,9 @@ impl Desk {
         requires placed { IsPlaced id (kept self.old).columns }
         requires some { 0 < rows_of (kept self.old) id }
         requires over { IsOver (S.characters source.old) (kept self.old) }
-        ensures answered { IfOk result (λ reply.
-            IsAnswered (S.honest source.old) (S.characters source.old) (S.characters source.new)
-            (kept self.old) (kept self.new) (settled (seen (S.characters source.old) (kept self.old))
-            (done_at (seen (S.characters source.old) (kept self.old)) keys id
-            (text_position (seen (S.characters source.old) (kept self.old)) id cell.0 cell.1))) reply) }
-        ensures grows { S.honest source.old → Grows (S.characters source.old) (S.characters source.new) }
-        ensures source { IsSameSource S.failures S.honest S.same_ground source.old source.new }
-        ensures faults { FailsAs Stop.Fault IsStop result (S.failures source.old) (S.failures source.new) }
+        ensures answered { IfOk result (Settles S.CharSource (λ d. done_at d keys id (text_position d id cell.0 cell.1))
+            source.old source.new (kept self.old) (kept self.new)) }
+        ensures uses { Uses S.CharSource result source.old source.new }
     {
         let pos = self.text_position(id, cell.0, cell.1, source)?;
         self.point_position(alloc, keys, id, pos, source)
@@ -215,18 +206,15 @@ impl Desk {
         requires place { pos ≤ length (flat (text_in (kept self.old).texts
             (viewer_or_none (kept self.old).viewers id).main)) }
         requires over { IsOver (S.characters source.old) (kept self.old) }
-        ensures answered { IfOk result (λ reply.
-            IsAnswered (S.honest source.old) (S.characters source.old) (S.characters source.new)
-            (kept self.old) (kept self.new) (settled (seen (S.characters source.old) (kept self.old))
-            (done_at (seen (S.characters source.old) (kept self.old)) keys id pos)) reply) }
-        ensures grows { S.honest source.old → Grows (S.characters source.old) (S.characters source.new) }
-        ensures source { IsSameSource S.failures S.honest S.same_ground source.old source.new }
-        ensures faults { FailsAs Stop.Fault IsStop result (S.failures source.old) (S.failures source.new) }
+        ensures answered { IfOk result (Settles S.CharSource (λ d. done_at d keys id pos)
+            source.old source.new (kept self.old) (kept self.new)) }
+        ensures uses { Uses S.CharSource result source.old source.new }
     {
         match keys {
             Keys::Left => self.set_caret(id, pos, source),
             Keys::LeftMiddle => self.copy_to(alloc, id, pos, source),
             Keys::LeftRight => self.take_looks(alloc, id, pos, source),
+            Keys::Middle => self.call(alloc, id, false, pos, source),
             _ => Ok(Reply::Done),
         }
     }
@@ -244,15 +232,10 @@ impl Desk {
         requires placed { IsPlaced id (kept self.old).columns }
         requires some { 0 < rows_of (kept self.old) id }
         requires over { IsOver (S.characters source.old) (kept self.old) }
-        ensures answered { IfOk result (λ reply.
-            IsAnswered (S.honest source.old) (S.characters source.old) (S.characters source.new)
-            (kept self.old) (kept self.new) (settled (seen (S.characters source.old) (kept self.old))
-            (done_with (seen (S.characters source.old) (kept self.old)) keys
-            (stretch_drawn (seen (S.characters source.old) (kept self.old)) id
-            from.0 from.1 to.0 to.1))) reply) }
-        ensures grows { S.honest source.old → Grows (S.characters source.old) (S.characters source.new) }
-        ensures source { IsSameSource S.failures S.honest S.same_ground source.old source.new }
-        ensures faults { FailsAs Stop.Fault IsStop result (S.failures source.old) (S.failures source.new) }
+        ensures answered { IfOk result (Settles S.CharSource (λ d.
+            done_with d keys (stretch_drawn d id from.0 from.1 to.0 to.1))
+            source.old source.new (kept self.old) (kept self.new)) }
+        ensures uses { Uses S.CharSource result source.old source.new }
     {
         let drawn = self.stretch_drawn(id, from, to, source)?;
         self.point_stretch(alloc, keys, drawn, source)
@@ -270,13 +253,9 @@ impl Desk {
         requires place { drawn.end ≤ length (flat (text_in (kept self.old).texts
             (viewer_or_none (kept self.old).viewers drawn.viewer).main)) }
         requires over { IsOver (S.characters source.old) (kept self.old) }
-        ensures answered { IfOk result (λ reply.
-            IsAnswered (S.honest source.old) (S.characters source.old) (S.characters source.new)
-            (kept self.old) (kept self.new) (settled (seen (S.characters source.old) (kept self.old))
-            (done_with (seen (S.characters source.old) (kept self.old)) keys drawn)) reply) }
-        ensures grows { S.honest source.old → Grows (S.characters source.old) (S.characters source.new) }
-        ensures source { IsSameSource S.failures S.honest S.same_ground source.old source.new }
-        ensures faults { FailsAs Stop.Fault IsStop result (S.failures source.old) (S.failures source.new) }
+        ensures answered { IfOk result (Settles S.CharSource (λ d. done_with d keys drawn)
+            source.old source.new (kept self.old) (kept self.new)) }
+        ensures uses { Uses S.CharSource result source.old source.new }
     {
         match keys {
             Keys::Right => self.select(drawn, source),

@@ -1,16 +1,11 @@
 //! What typing and the keys do.
 ghost use Rattle.std.specs.Prelude.{◌≡◌, ◌+◌, ◌<◌, ◌^◌, IfOk};
-ghost use Rattle.sector_disk.specs.Faults.{FailsAs};
-ghost use Rattle.char_file.specs.Source.{OnlyReads};
 ghost use Rattle.piece_ring.specs.Flat.{flat, run};
 ghost use Rattle.event_bytes.specs.declared.keys.Key.TheVariants.{Back, Copy, Paste, Cut, Escape};
 ghost use Rattle.event_loop_laws.specs.Keys.{typed, pressed};
-ghost use Rattle.event_loop_laws.specs.Seen.{seen};
-ghost use Rattle.event_loop_laws.specs.Step.{settled};
-ghost use Rattle.event_loop_laws.specs.Sound.{IsOver, Grows};
-ghost use Rattle.event_loop_laws.specs.Outcome.{IsAnswered, IsSameSource};
+ghost use Rattle.event_loop_laws.specs.Sound.{IsOver};
 ghost use Rattle.event_loop.specs.Kept.{kept};
-ghost use Rattle.event_loop.specs.Stops.{IsStop};
+ghost use Rattle.event_loop.specs.Row.{Settles, Uses};
 
 use crate::desk::Desk;
 use crate::stop::{NoMemory, Stop};
@@ -31,13 +26,9 @@ impl Desk {
         source: &mut S,
     ) -> Result<Reply, Stop>
         requires over { IsOver (S.characters source.old) (kept self.old) }
-        ensures answered { IfOk result (λ reply.
-            IsAnswered (S.honest source.old) (S.characters source.old) (S.characters source.new)
-            (kept self.old) (kept self.new) (settled (seen (S.characters source.old) (kept self.old))
-            (typed (seen (S.characters source.old) (kept self.old)) bytes.now)) reply) }
-        ensures grows { S.honest source.old → Grows (S.characters source.old) (S.characters source.new) }
-        ensures source { IsSameSource S.failures S.honest S.same_ground source.old source.new }
-        ensures faults { FailsAs Stop.Fault IsStop result (S.failures source.old) (S.failures source.new) }
+        ensures answered { IfOk result (Settles S.CharSource (λ d. typed d bytes.now)
+            source.old source.new (kept self.old) (kept self.new)) }
+        ensures uses { Uses S.CharSource result source.old source.new }
     {
         let Some(caret) = self.caret else {
             return Ok(Reply::No(codes::NO_CARET));
@@ -61,13 +52,9 @@ impl Desk {
         source: &mut S,
     ) -> Result<Reply, Stop>
         requires over { IsOver (S.characters source.old) (kept self.old) }
-        ensures answered { IfOk result (λ reply.
-            IsAnswered (S.honest source.old) (S.characters source.old) (S.characters source.new)
-            (kept self.old) (kept self.new) (settled (seen (S.characters source.old) (kept self.old))
-            (pressed (seen (S.characters source.old) (kept self.old)) key)) reply) }
-        ensures grows { S.honest source.old → Grows (S.characters source.old) (S.characters source.new) }
-        ensures source { IsSameSource S.failures S.honest S.same_ground source.old source.new }
-        ensures faults { FailsAs Stop.Fault IsStop result (S.failures source.old) (S.failures source.new) }
+        ensures answered { IfOk result (Settles S.CharSource (λ d. pressed d key)
+            source.old source.new (kept self.old) (kept self.new)) }
+        ensures uses { Uses S.CharSource result source.old source.new }
     {
         match key {
             Key::Back => self.take_back(alloc, source),
@@ -81,12 +68,9 @@ impl Desk {
     /// The character before the caret is taken out, where there is one. Refused without a caret.
     fn take_back<S: CharSource>(&mut self, alloc: Global, source: &mut S) -> Result<Reply, Stop>
         requires over { IsOver (S.characters source.old) (kept self.old) }
-        ensures answered { IfOk result (λ reply.
-            IsAnswered (S.honest source.old) (S.characters source.old) (S.characters source.new)
-            (kept self.old) (kept self.new) (settled (seen (S.characters source.old) (kept self.old))
-            (pressed (seen (S.characters source.old) (kept self.old)) Back)) reply) }
-        ensures reads { OnlyReads S.characters S.failures S.honest S.same_ground source.old source.new }
-        ensures faults { FailsAs Stop.Fault IsStop result (S.failures source.old) (S.failures source.new) }
+        ensures answered { IfOk result (Settles S.CharSource (λ d. pressed d Back)
+            source.old source.new (kept self.old) (kept self.new)) }
+        ensures uses { Uses S.CharSource result source.old source.new }
     {
         let Some(caret) = self.caret else {
             return Ok(Reply::No(codes::NO_CARET));
@@ -106,12 +90,9 @@ impl Desk {
     /// The newest selection goes into the copied buffer. Refused without a selection.
     fn copy<S: CharSource>(&mut self, alloc: Global, source: &mut S) -> Result<Reply, Stop>
         requires over { IsOver (S.characters source.old) (kept self.old) }
-        ensures answered { IfOk result (λ reply.
-            IsAnswered (S.honest source.old) (S.characters source.old) (S.characters source.new)
-            (kept self.old) (kept self.new) (settled (seen (S.characters source.old) (kept self.old))
-            (pressed (seen (S.characters source.old) (kept self.old)) Copy)) reply) }
-        ensures reads { OnlyReads S.characters S.failures S.honest S.same_ground source.old source.new }
-        ensures faults { FailsAs Stop.Fault IsStop result (S.failures source.old) (S.failures source.new) }
+        ensures answered { IfOk result (Settles S.CharSource (λ d. pressed d Copy)
+            source.old source.new (kept self.old) (kept self.new)) }
+        ensures uses { Uses S.CharSource result source.old source.new }
     {
         let Some(selection) = self.newest() else {
             return Ok(Reply::No(codes::NO_SELECTION));
@@ -127,35 +108,20 @@ impl Desk {
     /// What was copied last is put in at the caret. Refused without a caret.
     fn paste<S: CharSource>(&mut self, alloc: Global, source: &mut S) -> Result<Reply, Stop>
         requires over { IsOver (S.characters source.old) (kept self.old) }
-        ensures answered { IfOk result (λ reply.
-            IsAnswered (S.honest source.old) (S.characters source.old) (S.characters source.new)
-            (kept self.old) (kept self.new) (settled (seen (S.characters source.old) (kept self.old))
-            (pressed (seen (S.characters source.old) (kept self.old)) Paste)) reply) }
-        ensures reads { OnlyReads S.characters S.failures S.honest S.same_ground source.old source.new }
-        ensures faults { FailsAs Stop.Fault IsStop result (S.failures source.old) (S.failures source.new) }
+        ensures answered { IfOk result (Settles S.CharSource (λ d. pressed d Paste)
+            source.old source.new (kept self.old) (kept self.new)) }
+        ensures uses { Uses S.CharSource result source.old source.new }
     {
-        let Some(caret) = self.caret else {
-            return Ok(Reply::No(codes::NO_CARET));
-        };
-        if !self.fits_more(0, self.copied.len() as usize, 0) {
-            return Ok(Reply::No(codes::FULL));
-        }
-        let mut copy = Buffer::new(alloc)?;
-        self.copied.copy_to(alloc, &mut copy)?;
-        self.put_at_caret(alloc, caret, &mut copy, source)?;
-        Ok(Reply::Done)
+        self.put_buffer(alloc, false, source)
     }
 
     /// The newest selection goes out of its text into the copied buffer, and the caret to where it was. Refused without
     /// a selection.
     fn cut<S: CharSource>(&mut self, alloc: Global, source: &mut S) -> Result<Reply, Stop>
         requires over { IsOver (S.characters source.old) (kept self.old) }
-        ensures answered { IfOk result (λ reply.
-            IsAnswered (S.honest source.old) (S.characters source.old) (S.characters source.new)
-            (kept self.old) (kept self.new) (settled (seen (S.characters source.old) (kept self.old))
-            (pressed (seen (S.characters source.old) (kept self.old)) Cut)) reply) }
-        ensures reads { OnlyReads S.characters S.failures S.honest S.same_ground source.old source.new }
-        ensures faults { FailsAs Stop.Fault IsStop result (S.failures source.old) (S.failures source.new) }
+        ensures answered { IfOk result (Settles S.CharSource (λ d. pressed d Cut)
+            source.old source.new (kept self.old) (kept self.new)) }
+        ensures uses { Uses S.CharSource result source.old source.new }
     {
         let Some(selection) = self.newest() else {
             return Ok(Reply::No(codes::NO_SELECTION));
@@ -169,12 +135,9 @@ impl Desk {
     /// Caret, selections and marker go.
     fn escape<S: CharSource>(&mut self, source: &mut S) -> Result<Reply, Stop>
         requires over { IsOver (S.characters source.old) (kept self.old) }
-        ensures answered { IfOk result (λ reply.
-            IsAnswered (S.honest source.old) (S.characters source.old) (S.characters source.new)
-            (kept self.old) (kept self.new) (settled (seen (S.characters source.old) (kept self.old))
-            (pressed (seen (S.characters source.old) (kept self.old)) Escape)) reply) }
-        ensures reads { OnlyReads S.characters S.failures S.honest S.same_ground source.old source.new }
-        ensures faults { FailsAs Stop.Fault IsStop result (S.failures source.old) (S.failures source.new) }
+        ensures answered { IfOk result (Settles S.CharSource (λ d. pressed d Escape)
+            source.old source.new (kept self.old) (kept self.new)) }
+        ensures uses { Uses S.CharSource result source.old source.new }
     {
         self.caret = None;
         self.selections.clear();
@@ -184,7 +147,7 @@ impl Desk {
 }
 
 /// A buffer of `count` characters in one look, which stand together from the offset `first` on.
-fn buffer_of_run(alloc: Global, first: u32, count: u32, look: Look) -> Result<Buffer, NoMemory>
+pub fn buffer_of_run(alloc: Global, first: u32, count: u32, look: Look) -> Result<Buffer, NoMemory>
     requires some { 0 < count }
     requires offsets { first + count < 2 ^ 32 }
     ensures { IfOk result (λ buffer. flat buffer ≡ run first count look) }

@@ -8,18 +8,26 @@
 #![tactic(auto)]
 
 mod bars;
+mod calls;
+mod closings;
 mod desk;
 mod desktop;
+mod digits;
+mod documents;
 mod edits;
 mod files;
 mod gestures;
 mod held;
 mod keys;
+mod log;
+mod looks;
 mod marks;
 mod menus;
 mod openings;
 mod places;
+mod searches;
 mod stop;
+mod stores;
 mod stretches;
 mod tables;
 mod texts;
@@ -27,5 +35,6 @@ mod viewers;
 mod views;
 
 pub use desktop::Desktop;
+pub use digits::{Digits, decimal_digits};
 pub use event_loop_laws::{Entry, Reply, codes};
 pub use stop::{NoMemory, Stop};

@@ -1,27 +1,23 @@
 //! What is marked: the marker, the caret, selections.
-ghost use Rattle.std.specs.Prelude.{◌≡◌, ◌==◌, ◌&&◌, ◌≤◌, length, IfOk, Ok};
-ghost use Rattle.sector_disk.specs.Faults.{FailsAs};
+ghost use Rattle.std.specs.Prelude.{◌≡◌, ◌&&◌, ◌≤◌, length, IfOk, Ok};
 ghost use Rattle.piece_ring.specs.Flat.{flat};
 ghost use Rattle.viewer_tracks.specs.Columns.{IsPlaced};
 ghost use Rattle.event_loop_laws.specs.Viewers.{text_in, viewer_or_none};
-ghost use Rattle.event_loop_laws.specs.Seen.{seen};
-ghost use Rattle.event_loop_laws.specs.Step.{settled};
-ghost use Rattle.event_loop_laws.specs.Sound.{IsOver, Grows};
-ghost use Rattle.event_loop_laws.specs.Outcome.{IsAnswered, IsSameSource};
+ghost use Rattle.event_loop_laws.specs.Sound.{IsOver};
 ghost use Rattle.event_loop.specs.Kept.{kept};
-ghost use Rattle.event_loop.specs.Stops.{IsStop};
+ghost use Rattle.event_loop.specs.Row.{Settles, Uses};
 ghost use Rattle.event_loop_laws.specs.Step.{marked};
 ghost use Rattle.event_loop_laws.specs.Needs.{unless};
 ghost use Rattle.event_loop_laws.specs.Limits.{outside};
-ghost use Rattle.event_loop_laws.specs.Viewers.{with_caret, selections_outside};
+ghost use Rattle.event_loop_laws.specs.Viewers.{with_caret};
 ghost use Rattle.event_loop_laws.specs.Gesture.{is_on_display, is_some_stretch, drawn_in};
 
 use crate::desk::Desk;
 use crate::stop::Stop;
+use crate::tables::unselect;
 use crate::viewers::select;
 use char_file::CharSource;
 use event_loop_laws::{Caret, Reply, Selection, codes};
-use std::vec::Vec;
 use viewer_tracks::{COLUMNS, ROWS};
 
 /// Whether a cell is on the display.
@@ -45,25 +41,14 @@ fn is_some_stretch(stretch: Selection) -> bool
     stretch.beg < stretch.end
 }
 
-/// No selection stands in that viewer any more.
-fn unselect(selections: &mut Vec<Selection>, id: u8)
-    ensures { selections.new.items ≡ selections_outside (λ v. v == id) selections.old.items }
-{
-    selections.retain(|s| s.viewer != id);
-}
-
 impl Desk {
     /// Sets the marker to a cell. Refused where that is outside the display.
     pub fn mark<S: CharSource>(&mut self, x: u8, y: u8, source: &mut S) -> Result<Reply, Stop>
         requires over { IsOver (S.characters source.old) (kept self.old) }
-        ensures answered { IfOk result (λ reply.
-            IsAnswered (S.honest source.old) (S.characters source.old) (S.characters source.new)
-            (kept self.old) (kept self.new) (settled (seen (S.characters source.old) (kept self.old))
-            (unless (is_on_display x y) outside
-            (Ok (marked (seen (S.characters source.old) (kept self.old)) x y)))) reply) }
-        ensures grows { S.honest source.old → Grows (S.characters source.old) (S.characters source.new) }
-        ensures source { IsSameSource S.failures S.honest S.same_ground source.old source.new }
-        ensures faults { FailsAs Stop.Fault IsStop result (S.failures source.old) (S.failures source.new) }
+        ensures answered { IfOk result (Settles S.CharSource (λ d.
+            unless (is_on_display x y) outside (Ok (marked d x y)))
+            source.old source.new (kept self.old) (kept self.new)) }
+        ensures uses { Uses S.CharSource result source.old source.new }
     {
         if !is_on_display(x, y) {
             return Ok(Reply::No(codes::OUTSIDE));
@@ -83,13 +68,9 @@ impl Desk {
         requires place { pos ≤ length (flat (text_in (kept self.old).texts
             (viewer_or_none (kept self.old).viewers id).main)) }
         requires over { IsOver (S.characters source.old) (kept self.old) }
-        ensures answered { IfOk result (λ reply.
-            IsAnswered (S.honest source.old) (S.characters source.old) (S.characters source.new)
-            (kept self.old) (kept self.new) (settled (seen (S.characters source.old) (kept self.old))
-            (Ok (with_caret (seen (S.characters source.old) (kept self.old)) id pos))) reply) }
-        ensures grows { S.honest source.old → Grows (S.characters source.old) (S.characters source.new) }
-        ensures source { IsSameSource S.failures S.honest S.same_ground source.old source.new }
-        ensures faults { FailsAs Stop.Fault IsStop result (S.failures source.old) (S.failures source.new) }
+        ensures answered { IfOk result (Settles S.CharSource (λ d. Ok (with_caret d id pos))
+            source.old source.new (kept self.old) (kept self.new)) }
+        ensures uses { Uses S.CharSource result source.old source.new }
     {
         self.caret = Some(Caret {
             viewer: id,
@@ -104,13 +85,9 @@ impl Desk {
         requires place { drawn.end ≤ length (flat (text_in (kept self.old).texts
             (viewer_or_none (kept self.old).viewers drawn.viewer).main)) }
         requires over { IsOver (S.characters source.old) (kept self.old) }
-        ensures answered { IfOk result (λ reply.
-            IsAnswered (S.honest source.old) (S.characters source.old) (S.characters source.new)
-            (kept self.old) (kept self.new) (settled (seen (S.characters source.old) (kept self.old))
-            (Ok (drawn_in (seen (S.characters source.old) (kept self.old)) drawn))) reply) }
-        ensures grows { S.honest source.old → Grows (S.characters source.old) (S.characters source.new) }
-        ensures source { IsSameSource S.failures S.honest S.same_ground source.old source.new }
-        ensures faults { FailsAs Stop.Fault IsStop result (S.failures source.old) (S.failures source.new) }
+        ensures answered { IfOk result (Settles S.CharSource (λ d. Ok (drawn_in d drawn))
+            source.old source.new (kept self.old) (kept self.new)) }
+        ensures uses { Uses S.CharSource result source.old source.new }
     {
         if is_some_stretch(drawn) {
             select(&mut self.selections, drawn)?;

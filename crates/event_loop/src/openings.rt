@@ -1,57 +1,38 @@
-//! Viewers open, each with a new menu and a new main text.
-ghost use Rattle.std.specs.Prelude.{◌≡◌, ◌+◌, ◌<◌, ◌≤◌, ◌^◌, ◌==◌, ◌||◌, ◌&&◌, not, ℕ, List, [], length, if◌then◌else◌};
-ghost use Rattle.std.specs.Prelude.{IfOk, OnOk, IsTrue, codes, option_map, None, nat_lt};
+//! Viewers open: new texts and new viewers, and the limits before them.
+ghost use Rattle.std.specs.Prelude.{◌≡◌, ◌+◌, ◌<◌, ◌≤◌, ◌^◌, ◌==◌, ◌||◌, ◌&&◌, ◌⊎◌, ℕ, List, [], length, if◌then◌else◌};
+ghost use Rattle.std.specs.Prelude.{IfOk, OnOk, IsTrue, None, nat_lt};
 ghost use Rattle.std.specs.List.{position_or_len};
+ghost use Rattle.std.specs.Map.{keys_of};
 ghost use Rattle.std.specs.Ordering.{nat_cmp};
 ghost use Rattle.std.specs.BTreeMap.{insert_entry};
 ghost use Rattle.piece_ring.specs.Flat.{flat};
 ghost use Rattle.piece_ring.specs.Text.{Text as AText};
 ghost use Rattle.viewer_tracks.specs.declared.display.TheConstants.{COLUMNS};
 ghost use Rattle.viewer_tracks.specs.Viewers.{number_of};
+ghost use Rattle.viewer_tracks.specs.Columns.{replaced_at};
 ghost use Rattle.event_loop_laws.specs.Limits.{most_written, most_held};
-ghost use Rattle.event_loop_laws.specs.Tables.{named, lengths};
+ghost use Rattle.event_loop_laws.specs.Tables.{lengths};
 ghost use Rattle.event_loop_laws.specs.Desktop.{held};
 ghost use Rattle.event_loop_laws.specs.Viewers.{viewer_in, without_viewer};
 ghost use Rattle.event_loop_laws.specs.Change.{more_written};
-ghost use Rattle.event_loop_laws.specs.Opening.{menu_line, opening, dropped};
+ghost use Rattle.event_loop_laws.specs.Opening.{least_unused, with_new, opening, opening_on, dropped};
 ghost use Rattle.event_loop_laws.specs.Seen.{seen, seen_table};
 ghost use Rattle.event_loop_laws.specs.Step.{fits};
 ghost use Rattle.event_loop_laws.specs.Sound.{IsKeptWhole};
-ghost use Rattle.event_loop_laws.specs.OpenedLaws.{one_more, new_id};
+ghost use Rattle.event_loop_laws.specs.OpeningDone.{CanOpen};
 ghost use Rattle.event_loop_laws.specs.LeftLaws.{is_taken, still_shown, kept_left};
 ghost use Rattle.event_loop.specs.Kept.{kept};
 
 use crate::desk::Desk;
-use crate::files::{Files, file_of};
 use crate::held::{lengths, within_limits};
 use crate::stop::NoMemory;
 use crate::tables::{unused_id, unused_number};
-use crate::viewers::Viewers;
-use event_bytes::Name;
+use crate::viewers::{Texts, Viewers};
 use event_loop_laws::Viewer;
 use std::alloc::Global;
 use std::collections::BTreeMap;
 use text_core::{Buffer, Text};
 use viewer_tracks::{ViewerId, edits_place_viewers};
-
-/// The menu of the tool's viewer.
-const TOOL_MENU: &[u8] = b"System.Tool | System.Close System.Copy Edit.Search Edit.Store";
-
-/// The menu of the tool's viewer.
-pub fn tool_menu() -> &'static [u8]
-    ensures menu { result.now ≡ menu_line (codes "System.Tool") }
-    ensures short { length result.now < 100 }
-{
-    TOOL_MENU
-}
-
-/// The text of the tool's file. None where there is no such file.
-pub fn tool<'a>(files: &'a Files) -> Option<&'a Text>
-    ensures { option_map (λ text. text.now) result ≡ named files.now.entries (codes "System.Tool") }
-{
-    let name = Name::new(b"System.Tool")?;
-    file_of(files, &name)
-}
 
 /// A copy of a text. NoMemory where an allocation is refused.
 pub fn copy_of(alloc: Global, text: &Text) -> Result<Text, NoMemory>
@@ -117,6 +98,17 @@ fn place_above(viewers: &[(u8, Viewer)], id: u8) -> usize
         .unwrap_or(viewers.len())
 }
 
+/// A text more, of the least number that no text has; returns that number. NoMemory where an allocation is refused.
+pub fn add_text(texts: &mut Texts, text: Text) -> Result<u16, NoMemory>
+    requires { length texts.old.entries < 2 ^ 16 }
+    ensures texts { OnOk result (texts.new.entries ≡ with_new texts.old.entries text) }
+    ensures number { IfOk result (λ n. n ≡ least_unused (keys_of texts.old.entries)) }
+{
+    let number = unused_number(texts);
+    texts.insert(number, text)?;
+    Ok(number)
+}
+
 /// A viewer of a new id comes into the table. NoMemory where an allocation is refused.
 fn add_viewer(viewers: &mut Viewers, id: u8, viewer: Viewer) -> Result<(), NoMemory>
     requires { viewer_in viewers.old.items id ≡ None }
@@ -159,23 +151,40 @@ impl Desk {
         )
     }
 
-    /// One more viewer, which stands nowhere yet; returns its id. NoMemory where an allocation is refused.
-    pub fn add_viewer(&mut self, menu: Text, main: Text) -> Result<u8, NoMemory>
-        requires { IsKeptWhole (kept self.old) }
-        ensures desk { OnOk result (kept self.new ≡ one_more (kept self.old) menu main) }
-        ensures id { IfOk result (λ id. id ≡ new_id (kept self.old) menu main) }
+    /// Whether the limits on characters hold once a viewer opens at a cell on a text that is there and stays, with a
+    /// menu of so many characters, of which `made` are written anew.
+    pub fn opening_on_fits(&self, made: usize, menu: usize, x: u8, y: u8) -> bool
+        requires whole { IsKeptWhole (kept self.now) }
+        requires made { made < 2 ^ 32 }
+        requires menu { menu < 2 ^ 32 }
+        requires column { x < COLUMNS }
+        ensures room { IsTrue result → self.now.written + made ≤ most_written }
+        ensures fits { (characters : List ℕ) (menu_text : AText ℕ) (main org : ℕ) → length menu_text ≡ menu
+            → (main ≡ 0) ⊎ (replaced_at (kept self.now).columns x y ≡ None)
+            → result ≡ fits (dropped (more_written
+            (opening_on (seen characters (kept self.now)) menu_text main org (x, y)) made)) }
     {
-        let main_number = unused_number(&self.texts);
-        self.texts.insert(main_number, main)?;
-        let menu_number = unused_number(&self.texts);
-        self.texts.insert(menu_number, menu)?;
+        edits_place_viewers();
+        let gone = self.tracks.replaced(x, y);
+        within_limits(self.written as usize + made, self.held_without(gone) + menu)
+    }
+
+    /// A viewer of a new menu and of the text of a number opens in the track of column `x`, up to row `y`. One whose
+    /// whole place it takes is gone, with the texts that nobody else shows. NoMemory where an allocation is refused.
+    pub fn open_on(&mut self, menu: Text, main: u16, org: u32, x: u8, y: u8) -> Result<(), NoMemory>
+        requires can { CanOpen (kept self.old) }
+        requires column { x < COLUMNS }
+        ensures { OnOk result (kept self.new ≡ dropped (opening_on (kept self.old) menu main org (x, y))) }
+    {
+        let number = add_text(&mut self.texts, menu)?;
         let id = unused_id(self.viewers.as_slice());
         let viewer = Viewer {
-            menu: menu_number,
-            main: main_number,
-            org: 0,
+            menu: number,
+            main,
+            org,
         };
         add_viewer(&mut self.viewers, id, viewer)?;
-        Ok(id)
+        self.open_at(id, x, y);
+        Ok(())
     }
 }

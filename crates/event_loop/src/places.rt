@@ -1,5 +1,5 @@
 //! Where cells of the display lie, and what is shown there.
-ghost use Rattle.std.specs.Prelude.{◌≡◌, ◌==◌, ◌+◌, ◌<◌, ◌≤◌, min, max, length, IfOk, if◌then◌else◌};
+ghost use Rattle.std.specs.Prelude.{◌≡◌, ◌==◌, ◌+◌, ◌<◌, ◌≤◌, min, max, length, true, IfOk, if◌then◌else◌};
 ghost use Rattle.sector_disk.specs.Trail.{CountsFault};
 ghost use Rattle.char_file.specs.Source.{OnlyReads};
 ghost use Rattle.piece_ring.specs.Flat.{flat};
@@ -10,8 +10,9 @@ ghost use Rattle.viewer_tracks.specs.Columns.{IsPlaced};
 ghost use Rattle.screen_cells.specs.Picture.{width_of};
 ghost use Rattle.event_loop_laws.specs.declared.area.Area.TheVariants.{Menu, Bar, Body};
 ghost use Rattle.event_loop_laws.specs.Viewers.{text_in, viewer_or_none, rows_of};
-ghost use Rattle.event_loop_laws.specs.Gesture.{area_at, frame_row, width, text_column, text_row, text_position};
-ghost use Rattle.event_loop_laws.specs.Gesture.{stretch_drawn, IsAreaOf};
+ghost use Rattle.event_loop_laws.specs.Gesture.{area_at, frame_row, width, menu_column, text_column, text_row};
+ghost use Rattle.event_loop_laws.specs.Gesture.{text_position, stretch_drawn, menu_position, IsAreaOf};
+ghost use Rattle.event_loop_laws.specs.Call.{text_called};
 ghost use Rattle.event_loop_laws.specs.Seen.{seen};
 ghost use Rattle.event_loop_laws.specs.Sound.{IsKeptWhole, IsOver};
 ghost use Rattle.event_loop.specs.Kept.{kept};
@@ -110,6 +111,16 @@ impl Desk {
         x.min(left + width).max(left + 1) - (left + 1)
     }
 
+    /// The nearest column of a viewer's menu to a column of the display.
+    fn menu_column(&self, id: u8, x: u8) -> u8
+        requires placed { IsPlaced id (kept self.now).columns }
+        ensures { result ≡ menu_column (kept self.now) id x }
+    {
+        let left = self.tracks.place_of(ViewerId(id)).x;
+        let width = self.text_width(id);
+        x.min(left + width).max(left) - left
+    }
+
     /// The nearest row of a viewer's main frame to a row of the display.
     fn text_row(&self, id: u8, y: u8) -> u8
         requires placed { IsPlaced id (kept self.now).columns }
@@ -201,6 +212,29 @@ impl Desk {
         let column = self.text_column(id, x);
         let row = self.text_row(id, y);
         self.position_in(id, column, row, source)
+    }
+
+    /// The position in a viewer's menu that is shown nearest to a column. Fault: the source failed in this call.
+    pub fn menu_position<S: CharSource>(&self, id: u8, x: u8, source: &mut S) -> Result<u32, Fault>
+        requires over { IsOver (S.characters source.old) (kept self.now) }
+        requires placed { IsPlaced id (kept self.now).columns }
+        ensures exact { IfOk result (λ p. S.honest source.old
+            → p ≡ menu_position (seen (S.characters source.old) (kept self.now)) id x) }
+        ensures within { IfOk result (λ p. p ≤ length (flat (text_called (kept self.now) id true))) }
+        ensures reads { OnlyReads S.characters S.failures S.honest S.same_ground source.old source.new }
+        ensures cause { CountsFault result (S.failures source.old) (S.failures source.new) }
+    {
+        let viewer = viewer_or_none(&self.viewers, id);
+        let frame = Frame {
+            text: viewer.menu,
+            org: 0,
+            caret: None,
+            selection: None,
+        };
+        let menu = self.text_called(id, true);
+        let width = self.text_width(id) + 1;
+        let column = self.menu_column(id, x);
+        frame.pos_at(menu, width, 1, column, 0, source)
     }
 
     /// The stretch of a viewer's main text that was drawn between two cells, each as column and row. Fault: the source

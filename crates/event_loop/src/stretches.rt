@@ -1,18 +1,14 @@
 //! What the mouse does with stretches of texts.
 ghost use Rattle.std.specs.Prelude.{◌≡◌, ◌≤◌, length, IfOk};
-ghost use Rattle.sector_disk.specs.Faults.{FailsAs};
 ghost use Rattle.piece_ring.specs.Flat.{flat};
 ghost use Rattle.text_core.specs.Attributes.{look_at};
 ghost use Rattle.viewer_tracks.specs.Columns.{IsPlaced};
 ghost use Rattle.event_loop_laws.specs.Viewers.{text_in, viewer_or_none};
 ghost use Rattle.event_loop_laws.specs.Gesture.{copied_to, looks_taken, taken_out, sent_to_caret};
-ghost use Rattle.event_loop_laws.specs.Seen.{seen};
-ghost use Rattle.event_loop_laws.specs.Step.{settled};
-ghost use Rattle.event_loop_laws.specs.Sound.{IsOver, Grows};
-ghost use Rattle.event_loop_laws.specs.Outcome.{IsAnswered, IsSameSource};
+ghost use Rattle.event_loop_laws.specs.Sound.{IsOver};
 ghost use Rattle.event_loop_laws.specs.RowPartLaws.{kept_main};
 ghost use Rattle.event_loop.specs.Kept.{kept};
-ghost use Rattle.event_loop.specs.Stops.{IsStop};
+ghost use Rattle.event_loop.specs.Row.{Settles, Uses};
 
 use crate::desk::Desk;
 use crate::stop::Stop;
@@ -37,13 +33,9 @@ impl Desk {
         requires place { pos ≤ length (flat (text_in (kept self.old).texts
             (viewer_or_none (kept self.old).viewers id).main)) }
         requires over { IsOver (S.characters source.old) (kept self.old) }
-        ensures answered { IfOk result (λ reply.
-            IsAnswered (S.honest source.old) (S.characters source.old) (S.characters source.new)
-            (kept self.old) (kept self.new) (settled (seen (S.characters source.old) (kept self.old))
-            (copied_to (seen (S.characters source.old) (kept self.old)) id pos)) reply) }
-        ensures grows { S.honest source.old → Grows (S.characters source.old) (S.characters source.new) }
-        ensures source { IsSameSource S.failures S.honest S.same_ground source.old source.new }
-        ensures faults { FailsAs Stop.Fault IsStop result (S.failures source.old) (S.failures source.new) }
+        ensures answered { IfOk result (Settles S.CharSource (λ d. copied_to d id pos)
+            source.old source.new (kept self.old) (kept self.new)) }
+        ensures uses { Uses S.CharSource result source.old source.new }
     {
         let Some(selection) = self.newest() else {
             return Ok(Reply::No(codes::NO_SELECTION));
@@ -70,13 +62,9 @@ impl Desk {
         requires place { pos ≤ length (flat (text_in (kept self.old).texts
             (viewer_or_none (kept self.old).viewers id).main)) }
         requires over { IsOver (S.characters source.old) (kept self.old) }
-        ensures answered { IfOk result (λ reply.
-            IsAnswered (S.honest source.old) (S.characters source.old) (S.characters source.new)
-            (kept self.old) (kept self.new) (settled (seen (S.characters source.old) (kept self.old))
-            (looks_taken (seen (S.characters source.old) (kept self.old)) id pos)) reply) }
-        ensures grows { S.honest source.old → Grows (S.characters source.old) (S.characters source.new) }
-        ensures source { IsSameSource S.failures S.honest S.same_ground source.old source.new }
-        ensures faults { FailsAs Stop.Fault IsStop result (S.failures source.old) (S.failures source.new) }
+        ensures answered { IfOk result (Settles S.CharSource (λ d. looks_taken d id pos)
+            source.old source.new (kept self.old) (kept self.new)) }
+        ensures uses { Uses S.CharSource result source.old source.new }
     {
         let Some(selection) = self.newest() else {
             return Ok(Reply::No(codes::NO_SELECTION));
@@ -102,13 +90,9 @@ impl Desk {
         requires place { drawn.end ≤ length (flat (text_in (kept self.old).texts
             (viewer_or_none (kept self.old).viewers drawn.viewer).main)) }
         requires over { IsOver (S.characters source.old) (kept self.old) }
-        ensures answered { IfOk result (λ reply.
-            IsAnswered (S.honest source.old) (S.characters source.old) (S.characters source.new)
-            (kept self.old) (kept self.new) (settled (seen (S.characters source.old) (kept self.old))
-            (taken_out (seen (S.characters source.old) (kept self.old)) drawn)) reply) }
-        ensures grows { S.honest source.old → Grows (S.characters source.old) (S.characters source.new) }
-        ensures source { IsSameSource S.failures S.honest S.same_ground source.old source.new }
-        ensures faults { FailsAs Stop.Fault IsStop result (S.failures source.old) (S.failures source.new) }
+        ensures answered { IfOk result (Settles S.CharSource (λ d. taken_out d drawn)
+            source.old source.new (kept self.old) (kept self.new)) }
+        ensures uses { Uses S.CharSource result source.old source.new }
     {
         if drawn.beg >= drawn.end {
             return Ok(Reply::No(codes::NO_SELECTION));
@@ -130,13 +114,9 @@ impl Desk {
         requires place { drawn.end ≤ length (flat (text_in (kept self.old).texts
             (viewer_or_none (kept self.old).viewers drawn.viewer).main)) }
         requires over { IsOver (S.characters source.old) (kept self.old) }
-        ensures answered { IfOk result (λ reply.
-            IsAnswered (S.honest source.old) (S.characters source.old) (S.characters source.new)
-            (kept self.old) (kept self.new) (settled (seen (S.characters source.old) (kept self.old))
-            (sent_to_caret (seen (S.characters source.old) (kept self.old)) drawn)) reply) }
-        ensures grows { S.honest source.old → Grows (S.characters source.old) (S.characters source.new) }
-        ensures source { IsSameSource S.failures S.honest S.same_ground source.old source.new }
-        ensures faults { FailsAs Stop.Fault IsStop result (S.failures source.old) (S.failures source.new) }
+        ensures answered { IfOk result (Settles S.CharSource (λ d. sent_to_caret d drawn)
+            source.old source.new (kept self.old) (kept self.new)) }
+        ensures uses { Uses S.CharSource result source.old source.new }
     {
         if drawn.beg >= drawn.end {
             return Ok(Reply::No(codes::NO_SELECTION));

@@ -5,7 +5,7 @@ ghost use Rattle.std.specs.Map.{remove_entry, keys_of};
 ghost use Rattle.std.specs.Ordering.{nat_cmp};
 ghost use Rattle.std.specs.BTreeMap.{is_at};
 ghost use Rattle.viewer_tracks.specs.Viewers.{number_of};
-ghost use Rattle.event_loop_laws.specs.Viewers.{caret_outside, selections_outside, without_viewer};
+ghost use Rattle.event_loop_laws.specs.Viewers.{caret_outside, selections_outside, unmarked, without_viewer};
 ghost use Rattle.event_loop_laws.specs.Opening.{dropped, least_unused};
 ghost use Rattle.event_loop.specs.Kept.{kept};
 
@@ -48,7 +48,7 @@ fn caret_outside(caret: Option<Caret>, id: u8) -> Option<Caret>
 }
 
 /// The selections in that viewer go.
-fn unselect(selections: &mut Vec<Selection>, id: u8)
+pub fn unselect(selections: &mut Vec<Selection>, id: u8)
     ensures { selections.new.items ≡ selections_outside (λ w. w == id) selections.old.items }
 {
     selections.retain(|selection| selection.viewer != id);
@@ -93,13 +93,20 @@ pub fn unused_id(viewers: &[(u8, Viewer)]) -> u8
 }
 
 impl Desk {
+    /// Neither the caret nor a selection stands in that viewer any more.
+    pub fn unmark_viewer(&mut self, id: u8)
+        ensures { kept self.new ≡ unmarked (λ w. w == id) (kept self.old) }
+    {
+        self.caret = caret_outside(self.caret, id);
+        unselect(&mut self.selections, id);
+    }
+
     /// The viewer of that id goes, with what is marked in it.
     fn remove_viewer(&mut self, id: u8)
         ensures { kept self.new ≡ without_viewer (kept self.old) (Some id) }
     {
         remove_viewer(&mut self.viewers, id);
-        self.caret = caret_outside(self.caret, id);
-        unselect(&mut self.selections, id);
+        self.unmark_viewer(id);
     }
 
     /// The texts go that nobody shows.

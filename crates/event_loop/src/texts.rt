@@ -14,7 +14,7 @@ ghost use Rattle.sector_disk.specs.Trail.{CountsFault};
 ghost use Rattle.readers_scanners.specs.Reading.{bytes};
 ghost use Rattle.event_loop_laws.specs.Tables.{numbered, with_values};
 ghost use Rattle.event_loop_laws.specs.Viewers.{text_in, viewer_or_none, unmarked, shows, rows_of};
-ghost use Rattle.event_loop_laws.specs.Change.{followed, insertion, deletion, looks_set, caret_shown};
+ghost use Rattle.event_loop_laws.specs.Change.{followed, insertion, deletion, looks_set, showing, caret_shown};
 ghost use Rattle.event_loop_laws.specs.ShapeLaws.{CanFollow, AreMoved};
 ghost use Rattle.event_loop_laws.specs.EditLaws.{IsSet};
 ghost use Rattle.event_loop_laws.specs.Seen.{seen, seen_text};
@@ -254,6 +254,23 @@ impl Desk {
         relook(&mut self.texts, alloc, number, selection, selector, look)?;
         self.unmark(number);
         select(&mut self.selections, selection)?;
+        Ok(())
+    }
+
+    /// A viewer shows a position of its main text. Fault: the source failed in this call.
+    pub fn show<S: CharSource>(&mut self, id: u8, pos: u32, source: &mut S) -> Result<(), Stop>
+        requires built { IsBuilt (length (S.characters source.old)) (kept self.old) }
+        requires placed { IsPlaced id (kept self.old).columns }
+        requires place { pos ≤ length (flat (text_in (kept self.old).texts
+            (viewer_or_none (kept self.old).viewers id).main)) }
+        ensures changed { OnOk result (IsChanged (S.honest source.old) (S.characters source.old) (kept self.old)
+            (kept self.new) (showing (seen (S.characters source.old) (kept self.old)) id pos) 0 0) }
+        ensures reads { OnlyReads S.characters S.failures S.honest S.same_ground source.old source.new }
+        ensures faults { FailsAs Stop.Fault IsStop result (S.failures source.old) (S.failures source.new) }
+    {
+        let rows = self.rows_of(id);
+        let first = org_in(&self.texts, &self.viewers, id, rows, pos, source)?;
+        set_org(&mut self.viewers, id, first);
         Ok(())
     }
 

@@ -115,7 +115,7 @@ impl Desk {
 }
 
 /// The text of that number, which is there.
-fn text_there(texts: &Texts, number: u16) -> &Text
+pub fn text_there(texts: &Texts, number: u16) -> &Text
     requires { IsSome (numbered texts.now.entries number) }
     ensures { result.now ≡ text_in texts.now.entries number }
 {
@@ -183,7 +183,7 @@ fn view_of(entry: &(u8, Viewer), caret: Option<Caret>, selections: &[Selection])
 }
 
 /// The position of the caret, where it stands in that viewer.
-fn position_in(id: u8, caret: Option<Caret>) -> Option<u32>
+pub fn position_in(id: u8, caret: Option<Caret>) -> Option<u32>
     ensures { result ≡ position_in id caret }
 {
     match caret {

@@ -28,6 +28,23 @@ pub record IsChanged (honest : Type 0) (characters : List ℕ) (old new : KeptDe
   pub counted : (all : List ℕ) → held (seen all new) + fewer ≡ held (seen all old) + more
   pub rest : IsRest old new
 
+-- A desktop that is kept, inside an event: its characters are those that were written.
+pub record IsStanding (characters : List ℕ) (d : KeptDesktop) : Type 0 where
+  pub counted : length characters ≡ d.written
+  pub built : IsBuilt (length characters) d
+
+-- A desktop that is kept among new characters after a part of an event that wrote so many, and holds them: where they
+-- were told truly, it is seen as what the part makes of the desktop before.
+pub record IsExtended (honest : Type 0) (old new : List ℕ) (before after : KeptDesktop) (part : Desktop → Desktop)
+    (more : ℕ) : Type 0 where
+  pub exact : honest → seen new after ≡ part (seen old before)
+  -- whatever was read:
+  pub stands : IsStanding new after
+  pub counted : (all : List ℕ) → held (seen all after) ≡ held (seen all before) + more
+  pub numbers : keys_of after.texts ≡ keys_of before.texts
+  pub viewers : texts_shown after.viewers ≡ texts_shown before.viewers
+  pub written : after.written ≡ before.written + more
+
 -- A part of an event, as the definitions have it: the same viewers show the same texts, nothing was written, and so
 -- many
 -- characters more and so many fewer are held.

@@ -1,9 +1,9 @@
 -- Laws of changes of a desktop that is kept: what is seen of it is what the definitions make of the desktop that was
 -- seen, and whatever was read it is built as before.
 use Rattle.std.specs.Prelude.{◌≡◌, ℕ, ◌+◌, ◌-◌, ◌<◌, ◌≤◌, ◌==◌, not, Bool, true, false, cond, List, []}
-use Rattle.std.specs.Prelude.{◌∷◌, ◌++◌, length, get_or, is_some, slice_index, count_by, Option, Some, None, IsSome}
-use Rattle.std.specs.Prelude.{IfSome, All, ⊤, if◌then◌else◌}
-use Rattle.std.specs.Option.{unwrap_or, option_map}
+use Rattle.std.specs.Prelude.{◌∷◌, ◌++◌, length, get_or, is_some, slice_index, count_by, Option, IsSome}
+use Rattle.std.specs.Prelude.{All, ⊤, if◌then◌else◌}
+use Rattle.std.specs.Option.{unwrap_or}
 use Rattle.std.specs.List.{AllByRecursion}
 use Rattle.std.specs.Map.{set_value}
 use Rattle.std.specs.Ordering.{nat_cmp}
@@ -13,7 +13,7 @@ use Rattle.std.proofs.lemmas.Bool.{cases_eq, lt-ltb, eqb-false, ne_eqb}
 use Rattle.std.proofs.lemmas.List.Elements.{All-filter, All-push, All-from_recursion}
 use Rattle.std.proofs.lemmas.List.Sums.{sum_by-append}
 use Rattle.std.proofs.lemmas.Map.{keys-set_value}
-use Rattle.std.proofs.lemmas.Map.Views.{All-values-set_value, IfSome-lookup_from_All}
+use Rattle.std.proofs.lemmas.Map.Views.{All-values-set_value}
 use Rattle.piece_ring.specs.declared.piece.Look.{Look}
 use Rattle.piece_ring.specs.declared.piece.Piece.{Piece}
 use Rattle.piece_ring.specs.Flat.{flat}
@@ -27,7 +27,7 @@ use Rattle.event_loop_laws.specs.declared.viewer.Viewer.{Viewer}
 use Rattle.event_loop_laws.specs.declared.viewer.Caret.{Caret}
 use Rattle.event_loop_laws.specs.declared.viewer.Selection.{Selection}
 use Rattle.event_loop_laws.specs.Tables.{Texts, numbered, with_values}
-use Rattle.event_loop_laws.specs.TableLaws.{lookup_seen, is_some_map, length_seen_text}
+use Rattle.event_loop_laws.specs.TableLaws.{length_seen_text}
 use Rattle.event_loop_laws.specs.Desktop.{Desktop, KeptDesktop, held}
 use Rattle.event_loop_laws.specs.Viewers.{viewer_or_none, text_in, main_length, shows, with_org}
 use Rattle.event_loop_laws.specs.Viewers.{rows_of, with_caret, unselected, with_selection, selections_outside}
@@ -35,13 +35,14 @@ use Rattle.event_loop_laws.specs.Viewers.{text_of, unmarked}
 use Rattle.event_loop_laws.specs.Change.{bytes_of, edited, followed, after_change, insertion, deletion, looks_set}
 use Rattle.event_loop_laws.specs.Change.{showing, caret_shown}
 use Rattle.event_loop_laws.specs.Seen.{seen, seen_text, seen_table}
-use Rattle.event_loop_laws.specs.Sound.{IsCaret, IsSelection, IsShaped, AllWithin, IsBuilt}
+use Rattle.event_loop_laws.specs.Sound.{IsCaret, IsSelection, IsShaped, IsBuilt}
 use Rattle.event_loop_laws.specs.Changed.{texts_shown, IsChanged}
 use Rattle.event_loop_laws.specs.ShapeLaws.{CanFollow, AreMoved, AreReorged, OrgsWithin, set_other, set_same}
 use Rattle.event_loop_laws.specs.ShapeLaws.{reorged_shown}
 use Rattle.event_loop_laws.specs.ShapeLaws.{reorged_one, moved_reorged, orgs_within, viewers_stay}
 use Rattle.event_loop_laws.specs.ShapeLaws.{places_stay, main_stays, marks_stay, one_if, count_cons, fewer_outside}
 use Rattle.event_loop_laws.specs.ChangeLaws.{held_edited, org_shown}
+use Rattle.event_loop_laws.specs.TextLaws.{text_in_seen, long_seen, there_seen}
 
 -- The text of that number became this one, and no other changed.
 pub record IsSet (old new : Texts (List Piece)) (n : ℕ) (text : Text ℕ) : Type 0 where
@@ -60,28 +61,6 @@ is_set old new n text w there set is =
     }
 
 -- ---- texts as they are seen
-
-or_seen : (characters : List ℕ) (found : Option (List Piece))
-    → unwrap_or (option_map (seen_text characters) found) [] ≡ seen_text characters (unwrap_or found [])
-or_seen characters None = refl
-or_seen characters (Some pieces) = refl
-
-pub text_in_seen : (characters : List ℕ) (texts : Texts (List Piece)) (n : ℕ)
-    → text_in (seen_table characters texts) n ≡ seen_text characters (text_in texts n)
-text_in_seen characters texts n =
-    ap (λ (o : Option (Text ℕ)). unwrap_or o []) (lookup_seen (seen_text characters) (is_at (nat_cmp n)) texts)
-    ∙ or_seen characters (numbered texts n)
-
-pub long_seen : (characters : List ℕ) (texts : Texts (List Piece)) (n : ℕ)
-    → length (text_in (seen_table characters texts) n) ≡ length (flat (text_in texts n))
-long_seen characters texts n =
-    ap length (text_in_seen characters texts n) ∙ length_seen_text characters (text_in texts n)
-
-pub there_seen : (characters : List ℕ) (texts : Texts (List Piece)) (n : ℕ) → IsSome (numbered texts n)
-    → IsSome (numbered (seen_table characters texts) n)
-there_seen characters texts n there =
-    ap (λ (o : Option (Text ℕ)). is_some o) (lookup_seen (seen_text characters) (is_at (nat_cmp n)) texts)
-    ∙ is_some_map (seen_text characters) (numbered texts n) ∙ there
 
 pub set_seen : {K T U : Type 0} (f : T → U) (test : K → Bool) (es : List (K × T)) (w : T)
     → with_values f (set_value test es w) ≡ set_value test (with_values f es) (f w)
@@ -363,16 +342,6 @@ stays_moved n size long fits viewers within = record {
         omega (arith, can));
   };
 }
-
-within_or_none : (n : ℕ) (found : Option (List Piece)) → IfSome found (λ pieces. AreWithin n (flat pieces))
-    → AreWithin n (flat (unwrap_or found []))
-within_or_none n None all = λ i d low. absurd (omega (arith, low))
-within_or_none n (Some pieces) all = all
-
-pub text_within : (n : ℕ) (texts : Texts (List Piece)) (k : ℕ) → AllWithin n texts
-    → AreWithin n (flat (text_in texts k))
-text_within n texts k all = within_or_none n (numbered texts k)
-    (IfSome-lookup_from_All (λ pieces. AreWithin n (flat pieces)) (is_at (nat_cmp k)) texts all)
 
 -- ---- insertions and deletions, as they are seen
 

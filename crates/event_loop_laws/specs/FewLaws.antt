@@ -1,14 +1,14 @@
 -- Laws of how many there are: viewers at most as many as rows and one, and texts by the viewers that show them.
-use Rattle.std.specs.Prelude.{◌≡◌, ℕ, suc, ◌+◌, ◌*◌, ◌<◌, ◌≤◌, ◌==◌, ◌||◌, Bool, true, false, cond, IsTrue, IsSome}
-use Rattle.std.specs.Prelude.{is_some, All}
+use Rattle.std.specs.Prelude.{◌≡◌, ℕ, ◌+◌, ◌*◌, ◌<◌, ◌≤◌, ◌==◌, ◌||◌, Bool, true, false, cond, IsTrue}
+use Rattle.std.specs.Prelude.{All}
 use Rattle.std.specs.Prelude.{List, [], ◌∷◌, ◌++◌, length, map, sum_by, Option, Some, None, option_map}
 use Rattle.std.specs.List.{list_any}
 use Rattle.std.specs.List.Sorted.{IsStrictlySortedBy}
 use Rattle.std.specs.Map.{keys_of}
 use Rattle.std.specs.Ordering.{nat_cmp}
 use Rattle.std.specs.BTreeMap.{is_at}
-use Rattle.std.proofs.Common.{refl, sym, ap, subst, ◌∙◌, arith, ⊎_elim, length-append}
-use Rattle.std.proofs.lemmas.Bool.{eqb-true, eq-eqb, cases_lt}
+use Rattle.std.proofs.Common.{refl, sym, subst, ◌∙◌, arith, ⊎_elim, length-append}
+use Rattle.std.proofs.lemmas.Bool.{cases_lt}
 use Rattle.std.proofs.lemmas.Bool.Decides.{nat_tests}
 use Rattle.std.proofs.lemmas.Cmp.{nat_cmp_total, eq_by_cmp_equiv}
 use Rattle.std.proofs.lemmas.List.{length-map}
@@ -19,15 +19,13 @@ use Rattle.std.proofs.lemmas.Map.Keys.{IsDistinct-from_sorted}
 use Rattle.std.proofs.lemmas.Map.Made.{is_some-lookup, length-le_from_is_member}
 use Rattle.viewer_tracks.specs.declared.display.TheConstants.{ROWS}
 use Rattle.viewer_tracks.specs.Viewers.{Entry, IsTrack, times_in}
-use Rattle.viewer_tracks.specs.Columns.{Columns, IsColumns, times_on, times_placed, times_meant, topmost}
+use Rattle.viewer_tracks.specs.Columns.{Columns, times_on, times_meant, topmost}
 use Rattle.event_loop_laws.specs.declared.viewer.Viewer.{Viewer}
 use Rattle.event_loop_laws.specs.declared.viewer.Kept.{Kept}
-use Rattle.event_loop_laws.specs.Tables.{Texts}
 use Rattle.event_loop_laws.specs.Desktop.{DesktopOf}
-use Rattle.event_loop_laws.specs.Viewers.{viewer_in}
 use Rattle.event_loop_laws.specs.Opening.{is_shown}
 use Rattle.event_loop_laws.specs.Sound.{ArePlaces, times_there}
-use Rattle.event_loop_laws.specs.PlaceLaws.{at_is, at_same, at_itself}
+use Rattle.event_loop_laws.specs.PlaceLaws.{at_is, at_same}
 
 -- ---- tests of lists
 
@@ -184,7 +182,8 @@ is_number q (e ∷ es) =
 the_log : (q : ℕ) → (0 == q) ≡ (q == 0)
 the_log q = grind (arith, nat_tests)
 
-all_any : (q : ℕ) (P : ℕ → Type 0) (ks : List ℕ) → All P ks → list_any (is_at (nat_cmp q)) ks ≡ true → P q
+-- what holds of each number of a list holds of one that is among them
+pub all_any : (q : ℕ) (P : ℕ → Type 0) (ks : List ℕ) → All P ks → list_any (is_at (nat_cmp q)) ks ≡ true → P q
 all_any q P [] all is = absurd cc
 all_any q P (k ∷ ks) all is = (elim (is_at (nat_cmp q) k) as (λ b. is_at (nat_cmp q) k ≡ b
     → b || list_any (is_at (nat_cmp q)) ks ≡ true → P q) [

@@ -1,10 +1,11 @@
 -- What the mouse does. The keys went down at one cell of the display, (x0, y0), and up at another, (x1, y1).
-use Rattle.std.specs.Prelude.{ℕ, ◌+◌, ◌-◌, ◌*◌, ◌/◌, ◌==◌, ◌&&◌, ◌<◌, nat_lt, min, max, Bool, if◌then◌else◌}
+use Rattle.std.specs.Prelude.{ℕ, ◌+◌, ◌-◌, ◌*◌, ◌/◌, ◌==◌, ◌&&◌, ◌<◌, nat_lt, min, max, Bool, true, false}
+use Rattle.std.specs.Prelude.{if◌then◌else◌}
 use Rattle.std.specs.Prelude.{⊤, length, codes}
-use Rattle.std.specs.Prelude.{Option, Some, None, Result, Ok, Err}
+use Rattle.std.specs.Prelude.{Option, Some, None, Result, Ok}
 use Rattle.event_bytes.specs.declared.keys.Keys.{Keys}
-use Rattle.event_bytes.specs.declared.keys.Keys.TheVariants.{Left, LeftMiddle, LeftRight, Middle, MiddleLeft}
-use Rattle.event_bytes.specs.declared.keys.Keys.TheVariants.{MiddleRight, Right, RightLeft, RightMiddle}
+use Rattle.event_bytes.specs.declared.keys.Keys.TheVariants.{Left, LeftMiddle, LeftRight, Middle}
+use Rattle.event_bytes.specs.declared.keys.Keys.TheVariants.{Right, RightLeft, RightMiddle}
 use Rattle.text_core.specs.Attributes.{look_at}
 use Rattle.viewer_tracks.specs.declared.display.TheConstants.{ROWS, COLUMNS}
 use Rattle.viewer_tracks.specs.Display.{left_of}
@@ -16,13 +17,13 @@ use Rattle.screen_cells.specs.Picture.{width_of}
 use Rattle.event_loop_laws.specs.declared.area.Area.{Area}
 use Rattle.event_loop_laws.specs.declared.area.Area.TheVariants.{Filler, Menu, Bar, Body}
 use Rattle.event_loop_laws.specs.declared.viewer.Selection.{Selection}
-use Rattle.event_loop_laws.specs.Limits.{no_caret, no_selection, no_command, no_file}
+use Rattle.event_loop_laws.specs.Limits.{no_caret, no_selection, no_file}
 use Rattle.event_loop_laws.specs.Needs.{needs, unless}
 use Rattle.event_loop_laws.specs.Desktop.{DesktopOf, Desktop, file_of}
 use Rattle.event_loop_laws.specs.Viewers.{viewer_of, with_org, rows_of, with_caret, newest, unselected, with_selection}
 use Rattle.event_loop_laws.specs.Viewers.{opened_at, main_of, menu_of, selected}
-use Rattle.event_loop_laws.specs.Change.{plain, bytes_of, looks_set, put_in, put_at_caret, cut_out, more_written}
-use Rattle.event_loop_laws.specs.Opening.{menu_line, opening}
+use Rattle.event_loop_laws.specs.Change.{bytes_of, looks_set, put_in, put_at_caret, cut_out}
+use Rattle.event_loop_laws.specs.Commands.{opened_on_copy, called}
 
 abbrev pub is_on_display : ℕ → ℕ → Bool
 is_on_display x y = nat_lt x COLUMNS && nat_lt y ROWS
@@ -78,6 +79,10 @@ module _ {T : Type 0} where
 unfoldable pub text_position : Desktop → ℕ → ℕ → ℕ → ℕ
 text_position d v x y = position_at (bytes_of (main_of d v)) (viewer_of d v).org (text_column d v x) (text_row d v y)
 
+-- the position in a viewer's menu that is shown nearest to a column
+unfoldable pub menu_position : Desktop → ℕ → ℕ → ℕ
+menu_position d v x = position_at (bytes_of (menu_of d v)) 0 (menu_column d v x) 0
+
 -- ---- in a scroll bar
 
 -- the line in that row comes first, where there is one
@@ -128,9 +133,8 @@ sent_to_caret d s =
 -- the tool text opens there, in whichever track it is
 unfoldable pub tool_opened : Desktop → ℕ → ℕ → Result Desktop ℕ
 tool_opened d x y =
-    let menu = menu_line (codes "System.Tool") in
-    needs (file_of d (codes "System.Tool")) no_file λ text.
-    Ok (more_written (opening d (plain menu) text (x, y + 1)) (length menu))
+    let name = codes "System.Tool" in
+    needs (file_of d name) no_file λ text. Ok (opened_on_copy d name text (x, y + 1))
 
 -- ---- the table of gestures
 
@@ -138,23 +142,23 @@ tool_opened d x y =
 abbrev pub stretch_drawn : Desktop → ℕ → ℕ → ℕ → ℕ → ℕ → Selection
 stretch_drawn d v x0 y0 x1 y1 = drawn d v (text_position d v x0 y0) (text_position d v x1 y1)
 
--- what the keys do in an area; what isn't named here changes nothing
-unfoldable pub pointed : Desktop → Area → Keys → ℕ → ℕ → ℕ → ℕ → Result Desktop ℕ
-pointed d Filler Middle x0 y0 x1 y1 = tool_opened d x0 y0
-pointed d (Menu v) Left x0 y0 x1 y1 = Ok (resized d v y1)
-pointed d (Menu v) LeftMiddle x0 y0 x1 y1 = Ok (carried d v x1 y1)
-pointed d (Menu v) Middle x0 y0 x1 y1 = Err no_command
-pointed d (Bar v) Left x0 y0 x1 y1 = Ok (scrolled_to_row d v (frame_row d v y0))
-pointed d (Bar v) Middle x0 y0 x1 y1 = Ok (scrolled_to_share d v (frame_row d v y0))
-pointed d (Bar v) Right x0 y0 x1 y1 = Ok (with_org d v 0)
-pointed d (Body v) Left x0 y0 x1 y1 = Ok (with_caret d v (text_position d v x1 y1))
-pointed d (Body v) LeftMiddle x0 y0 x1 y1 = copied_to d v (text_position d v x1 y1)
-pointed d (Body v) LeftRight x0 y0 x1 y1 = looks_taken d v (text_position d v x1 y1)
-pointed d (Body v) Middle x0 y0 x1 y1 = Err no_command
-pointed d (Body v) Right x0 y0 x1 y1 = Ok (drawn_in d (stretch_drawn d v x0 y0 x1 y1))
-pointed d (Body v) RightLeft x0 y0 x1 y1 = taken_out d (stretch_drawn d v x0 y0 x1 y1)
-pointed d (Body v) RightMiddle x0 y0 x1 y1 = sent_to_caret d (stretch_drawn d v x0 y0 x1 y1)
-pointed d area keys x0 y0 x1 y1 = Ok d
+-- what the keys do in an area, by the version of the table of commands; what isn't named here changes nothing
+unfoldable pub pointed : ℕ → Desktop → Area → Keys → ℕ → ℕ → ℕ → ℕ → Result Desktop ℕ
+pointed version d Filler Middle x0 y0 x1 y1 = tool_opened d x0 y0
+pointed version d (Menu v) Left x0 y0 x1 y1 = Ok (resized d v y1)
+pointed version d (Menu v) LeftMiddle x0 y0 x1 y1 = Ok (carried d v x1 y1)
+pointed version d (Menu v) Middle x0 y0 x1 y1 = called version d v true (menu_position d v x1)
+pointed version d (Bar v) Left x0 y0 x1 y1 = Ok (scrolled_to_row d v (frame_row d v y0))
+pointed version d (Bar v) Middle x0 y0 x1 y1 = Ok (scrolled_to_share d v (frame_row d v y0))
+pointed version d (Bar v) Right x0 y0 x1 y1 = Ok (with_org d v 0)
+pointed version d (Body v) Left x0 y0 x1 y1 = Ok (with_caret d v (text_position d v x1 y1))
+pointed version d (Body v) LeftMiddle x0 y0 x1 y1 = copied_to d v (text_position d v x1 y1)
+pointed version d (Body v) LeftRight x0 y0 x1 y1 = looks_taken d v (text_position d v x1 y1)
+pointed version d (Body v) Middle x0 y0 x1 y1 = called version d v false (text_position d v x1 y1)
+pointed version d (Body v) Right x0 y0 x1 y1 = Ok (drawn_in d (stretch_drawn d v x0 y0 x1 y1))
+pointed version d (Body v) RightLeft x0 y0 x1 y1 = taken_out d (stretch_drawn d v x0 y0 x1 y1)
+pointed version d (Body v) RightMiddle x0 y0 x1 y1 = sent_to_caret d (stretch_drawn d v x0 y0 x1 y1)
+pointed version d area keys x0 y0 x1 y1 = Ok d
 
 -- The viewer of an area stands on the display; where row y is one of its main frame, it has such rows.
 abbrev pub IsAreaOf : {T : Type 0} → DesktopOf T → ℕ → Area → Type 0

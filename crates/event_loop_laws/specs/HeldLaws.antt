@@ -1,22 +1,17 @@
 -- Laws of what a desktop holds once a viewer opened with two new texts, and another one went.
-use Rattle.std.specs.Prelude.{◌≡◌, ℕ, suc, ◌+◌, ◌≤◌, ◌==◌, ◌||◌, Bool, true, false, cond, List, [], ◌∷◌, length, filter}
-use Rattle.std.specs.Prelude.{sum_by, Option, Some, None}
+use Rattle.std.specs.Prelude.{◌≡◌, ℕ, ◌+◌, ◌==◌, ◌||◌, Bool, true, false, cond, List, [], ◌∷◌, length, filter}
+use Rattle.std.specs.Prelude.{Option, Some, None}
 use Rattle.std.specs.List.{list_any}
 use Rattle.std.specs.Map.{lookup, keys_of, values_of, remove_entry}
 use Rattle.std.specs.Ordering.{nat_cmp, match_ordering, is_eq}
 use Rattle.std.specs.declared.cmp.Ordering.TheVariants.{Less, Equal, Greater}
 use Rattle.std.specs.BTreeMap.{is_at, insert_entry}
-use Rattle.std.proofs.Common.{refl, sym, ap, subst, ◌∙◌, arith}
-use Rattle.std.proofs.lemmas.Bool.{ne_eqb, eq-eqb}
+use Rattle.std.proofs.Common.{refl, ap, ◌∙◌, arith}
+use Rattle.std.proofs.lemmas.Bool.{eq-eqb}
 use Rattle.std.proofs.lemmas.List.Sums.{sum_by-cons}
 use Rattle.piece_ring.specs.Text.{Text}
-use Rattle.viewer_tracks.specs.Columns.{Columns, times_meant}
-use Rattle.event_loop_laws.specs.declared.viewer.Viewer.{Viewer}
 use Rattle.event_loop_laws.specs.Tables.{Texts, lengths}
-use Rattle.event_loop_laws.specs.Desktop.{Desktop, held}
-use Rattle.event_loop_laws.specs.Viewers.{without_viewer}
-use Rattle.event_loop_laws.specs.Opening.{is_shown, dropped}
-use Rattle.event_loop_laws.specs.PlaceLaws.{at_other, placed_anew}
+use Rattle.event_loop_laws.specs.PlaceLaws.{at_other}
 
 or_swap : (a b c : Bool) → a || (b || c) ≡ b || (a || c)
 or_swap true true c = refl

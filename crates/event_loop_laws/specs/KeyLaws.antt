@@ -1,7 +1,7 @@
 -- Laws of typing, of the keys and of what the mouse does with stretches: each row by its cases, and what it owes where
 -- it is done.
-use Rattle.std.specs.Prelude.{◌≡◌, ◌<◌, ◌≤◌, ⊤, ℕ, suc, ◌+◌, ◌-◌, ◌==◌, nat_lt, min, Bool, true, false, cond}
-use Rattle.std.specs.Prelude.{if◌then◌else◌, List, [], ◌∷◌, ◌++◌, length, slice_get, slice_index}
+use Rattle.std.specs.Prelude.{◌≡◌, ◌<◌, ◌≤◌, ⊤, ℕ, ◌+◌, ◌-◌, ◌==◌, min, Bool, true, false, cond}
+use Rattle.std.specs.Prelude.{List, [], ◌∷◌, ◌++◌, length, slice_get, slice_index}
 use Rattle.std.specs.Prelude.{Option, Some, None, IsSome, Result, Ok, Err}
 use Rattle.std.specs.Option.{unwrap_or, option_map}
 use Rattle.std.specs.Map.{lookup, set_value}
@@ -16,11 +16,11 @@ use Rattle.piece_ring.specs.declared.piece.Piece.{Piece}
 use Rattle.piece_ring.specs.Flat.{flat, run}
 use Rattle.piece_ring.specs.Lengths.{length-run, length-looks_changed}
 use Rattle.piece_ring.specs.Offsets.{AreWithin, stretch-AreWithin}
-use Rattle.piece_ring.specs.Text.{Text, stretch, looks_changed}
+use Rattle.piece_ring.specs.Text.{stretch, looks_changed}
 use Rattle.readers_scanners.specs.Reading.{contents}
 use Rattle.text_core.specs.Attributes.{look_at, look_of}
 use Rattle.viewer_tracks.specs.Columns.{IsPlaced}
-use Rattle.event_bytes.specs.declared.keys.Key.TheVariants.{Back, Copy, Paste, Cut, Escape}
+use Rattle.event_bytes.specs.declared.keys.Key.TheVariants.{Back, Copy, Cut, Escape}
 use Rattle.event_loop_laws.specs.declared.viewer.Caret.{Caret}
 use Rattle.event_loop_laws.specs.declared.viewer.Selection.{Selection}
 use Rattle.event_loop_laws.specs.declared.reply.Reply.{Reply}
@@ -31,20 +31,19 @@ use Rattle.event_loop_laws.specs.TableLaws.{length_seen_text}
 use Rattle.event_loop_laws.specs.Desktop.{Desktop, KeptDesktop, held}
 use Rattle.event_loop_laws.specs.Viewers.{viewer_of, viewer_or_none, text_in, text_of, main_of, newest, selected}
 use Rattle.event_loop_laws.specs.Viewers.{with_caret, with_selection}
-use Rattle.event_loop_laws.specs.Needs.{needs, unless}
 use Rattle.event_loop_laws.specs.Change.{in_look, looks_set, put_in, put_at_caret, cut_out, more_written}
 use Rattle.event_loop_laws.specs.Keys.{typed, pressed, with_copied, escaped}
 use Rattle.event_loop_laws.specs.Gesture.{copied_to, looks_taken, taken_out, sent_to_caret, drawn_in}
 use Rattle.event_loop_laws.specs.Seen.{seen, seen_text}
 use Rattle.event_loop_laws.specs.SeenLaws.{new_read}
 use Rattle.event_loop_laws.specs.Step.{settled}
-use Rattle.event_loop_laws.specs.Sound.{IsBuilt, IsOver}
+use Rattle.event_loop_laws.specs.Sound.{IsOver}
 use Rattle.event_loop_laws.specs.Changed.{texts_shown, IsChanged, Counts}
 use Rattle.event_loop_laws.specs.Outcome.{codes, IsAnswered}
 use Rattle.event_loop_laws.specs.OutcomeLaws.{refused, seen_grown, length_in_look}
 use Rattle.event_loop_laws.specs.RowLaws.{has_space, row_answered, rest_answered, changed_answered, full_answered}
 use Rattle.event_loop_laws.specs.RowLaws.{full_rest_answered, over_built, changed_as, changed_under, changed_further}
-use Rattle.event_loop_laws.specs.RowLaws.{main_kept, main_seen, same_main, text_held}
+use Rattle.event_loop_laws.specs.RowLaws.{main_seen, same_main, text_held}
 use Rattle.event_loop_laws.specs.MarkLaws.{with_caret_changed, with_selection_changed, escaped_changed}
 use Rattle.event_loop_laws.specs.RowPartLaws.{kept_main, kept_main_seen, kept_main_long, copy_seen, copy_long}
 use Rattle.event_loop_laws.specs.RowPartLaws.{selected_long, text_within, copied_changed, deleted_changed}
@@ -79,19 +78,11 @@ module _ (d : Desktop) where
     unfolding pressed
     back_none = rw none refl
 
-    pub paste_none : pressed d Paste ≡ Err no_caret
-    unfolding pressed
-    paste_none = rw none refl
-
   module _ (c : Caret) (some : d.caret ≡ Some c) where
     pub typed_some : (bytes : List ℕ)
         → typed d bytes ≡ Ok (more_written (put_at_caret d (in_look d.look bytes) c) (length bytes))
     unfolding typed
     typed_some bytes = rw some refl
-
-    pub paste_some : pressed d Paste ≡ Ok (put_at_caret d d.copied c)
-    unfolding pressed
-    paste_some = rw some refl
 
     pub back_first : c.position ≡ 0 → pressed d Back ≡ Ok d
     unfolding pressed
@@ -234,20 +225,6 @@ module _ (H : Type 0) (old new : List ℕ) (before after : KeptDesktop) (over : 
       (cut_out (seen old before) (record { viewer = c.viewer; beg = c.position - 1; end = c.position }))
       0 (c.position - (c.position - 1)) (omega arith) over long same changed)
       (back_some (seen old before) c is low)
-
-  pub paste_answered : (c : Caret) (copy : List Piece) → before.caret ≡ Some c → flat copy ≡ flat before.copied
-      → IsChanged H old before after (put_at_caret (seen old before) (seen_text old copy) c) (length (flat copy)) 0
-      → ((all : List ℕ) → has_space (seen all before) 0 (length (flat before.copied)) 0 ≡ true)
-      → IsAnswered H old new before after (settled (seen old before) (pressed (seen old before) Paste)) Done
-  unfolding seen
-  paste_answered c copy is copy_is changed space = row_as (seen old before) (pressed (seen old before) Paste)
-      (rest_answered H old new before after (put_at_caret (seen old before) (seen old before).copied c)
-      (length (flat before.copied)) 0 over long same
-      (subst (λ n. IsChanged H old before after (put_at_caret (seen old before) (seen old before).copied c) n 0)
-      (ap length copy_is)
-      (changed_as (put_at_caret (seen old before) (seen old before).copied c) changed
-      (λ h k. put_at_caret (seen old before) (contents old (copy_is k)) c))) space)
-      (paste_some (seen old before) c is)
 
   pub copied_to_answered : (v p : ℕ) (s : Selection) (copy : List Piece) → newest before ≡ Some s → s.beg ≤ s.end
       → s.end ≤ length (flat (kept_main before s.viewer))
@@ -416,16 +393,6 @@ module _ (H : Type 0) (old : List ℕ) (d : KeptDesktop) (over : IsOver old d) w
         (length_in_look d.look bytes)
         (put_at_caret_counts (seen old d) (in_look d.look bytes) c (main_there_seen old d c.viewer over placed))) none)
         (typed_some (seen old d) c is bytes)
-
-    pub paste_full : has_space (seen old d) 0 (length (flat d.copied)) 0 ≡ false
-        → IsAnswered H old old d d (settled (seen old d) (pressed (seen old d) Paste)) (No full)
-    unfolding seen
-    paste_full none = row_as (seen old d) (pressed (seen old d) Paste)
-        (full_rest_answered H old d (put_at_caret (seen old d) (seen old d).copied c) (length (flat d.copied)) 0 over
-        (subst (λ n. Counts (seen old d) (put_at_caret (seen old d) (seen old d).copied c) n 0)
-        (length_seen_text old d.copied)
-        (put_at_caret_counts (seen old d) (seen old d).copied c (main_there_seen old d c.viewer over placed))) none)
-        (paste_some (seen old d) c is)
 
     pub sent_full : (s : Selection) → s.beg < s.end → s.end ≤ length (flat (kept_main d s.viewer))
         → has_space (seen old d) 0 (s.end - s.beg) 0 ≡ false

@@ -23,7 +23,6 @@ use Rattle.event_loop_laws.specs.Viewers.{without_viewer}
 use Rattle.event_loop_laws.specs.Opening.{is_shown, dropped}
 use Rattle.event_loop_laws.specs.Seen.{seen, seen_text, seen_table}
 use Rattle.event_loop_laws.specs.PlaceLaws.{at_is}
-use Rattle.event_loop_laws.specs.HeldLaws.{filter_alike}
 
 -- whether a viewer is the one that goes
 abbrev pub is_taken : Option ℕ → ℕ → Bool

@@ -2,7 +2,12 @@
 use Rattle.std.specs.Prelude.{ℕ}
 use Rattle.event_loop_laws.specs.declared.limits.TheConstants.{MOST_WRITTEN, MOST_HELD, MOST_FILES, MOST_PATTERN}
 use Rattle.event_loop_laws.specs.declared.codes.TheConstants.{NO_CARET, NO_SELECTION, NO_COMMAND, NO_FILE, FULL}
-use Rattle.event_loop_laws.specs.declared.codes.TheConstants.{TOO_MANY_FILES, OUTSIDE}
+use Rattle.event_loop_laws.specs.declared.codes.TheConstants.{TOO_MANY_FILES, OUTSIDE, WRONG_SYMBOL, NO_VIEWER}
+use Rattle.event_loop_laws.specs.declared.codes.TheConstants.{NOT_FOUND, BAD_VALUE, TOO_LOW}
+
+-- the first version of the table of commands
+abbrev pub first_version : ℕ
+first_version = 1
 
 -- characters ever written
 abbrev pub most_written : ℕ
@@ -40,3 +45,18 @@ no_file = NO_FILE
 
 abbrev pub outside : ℕ
 outside = OUTSIDE
+
+abbrev pub wrong_symbol : ℕ
+wrong_symbol = WRONG_SYMBOL
+
+abbrev pub no_viewer : ℕ
+no_viewer = NO_VIEWER
+
+abbrev pub not_found : ℕ
+not_found = NOT_FOUND
+
+abbrev pub bad_value : ℕ
+bad_value = BAD_VALUE
+
+abbrev pub too_low : ℕ
+too_low = TOO_LOW

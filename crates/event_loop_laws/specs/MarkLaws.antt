@@ -13,44 +13,23 @@ use Rattle.std.proofs.lemmas.Bool.Decides.{eqb_tells}
 use Rattle.std.proofs.lemmas.List.Elements.{All-append, All-filter}
 use Rattle.std.proofs.lemmas.List.Sums.{sum_by-cons, sum_by-append}
 use Rattle.std.proofs.lemmas.Map.{keys-set_value}
-use Rattle.piece_ring.specs.declared.piece.Piece.{Piece}
 use Rattle.piece_ring.specs.Flat.{flat}
-use Rattle.piece_ring.specs.Text.{Text}
 use Rattle.viewer_tracks.specs.declared.display.TheConstants.{ROWS, COLUMNS}
 use Rattle.viewer_tracks.specs.Columns.{Columns, IsPlaced}
 use Rattle.event_loop_laws.specs.declared.viewer.Viewer.{Viewer}
 use Rattle.event_loop_laws.specs.declared.viewer.Caret.{Caret}
 use Rattle.event_loop_laws.specs.declared.viewer.Selection.{Selection}
-use Rattle.event_loop_laws.specs.Tables.{Texts}
-use Rattle.event_loop_laws.specs.TableLaws.{lookup_seen, is_some_map, length_seen_text}
+use Rattle.event_loop_laws.specs.TableLaws.{is_some_map}
 use Rattle.event_loop_laws.specs.Desktop.{Desktop, KeptDesktop, held}
 use Rattle.event_loop_laws.specs.Viewers.{no_viewer, viewer_in, viewer_or_none, text_in, main_length}
 use Rattle.event_loop_laws.specs.Viewers.{selections_outside, with_org, with_caret, unselected, with_selection}
 use Rattle.event_loop_laws.specs.Keys.{escaped}
 use Rattle.event_loop_laws.specs.Gesture.{is_some_stretch, drawn_in}
-use Rattle.event_loop_laws.specs.Seen.{seen_text, seen_table, seen}
+use Rattle.event_loop_laws.specs.Seen.{seen_table, seen}
 use Rattle.event_loop_laws.specs.Step.{marked}
 use Rattle.event_loop_laws.specs.Sound.{IsViewer, IsCaret, IsSelection, AreMarks, IsShaped, IsBuilt}
 use Rattle.event_loop_laws.specs.Changed.{texts_shown, IsChanged}
-
--- ---- texts that are seen
-
-of_found : (characters : List ℕ) (found : Option (List Piece))
-    → unwrap_or (option_map (seen_text characters) found) [] ≡ seen_text characters (unwrap_or found [])
-of_found characters None = refl
-of_found characters (Some text) = refl
-
-pub text_seen : (characters : List ℕ) (texts : Texts (List Piece)) (n : ℕ)
-    → text_in (seen_table characters texts) n ≡ seen_text characters (text_in texts n)
-text_seen characters texts n =
-    ap (λ (o : Option (Text ℕ)). unwrap_or o []) (lookup_seen (seen_text characters) (is_at (nat_cmp n)) texts)
-    ∙ of_found characters (lookup (is_at (nat_cmp n)) texts)
-
--- how long a text is doesn't depend on the characters
-pub long_seen : (characters : List ℕ) (texts : Texts (List Piece)) (n : ℕ)
-    → length (text_in (seen_table characters texts) n) ≡ length (flat (text_in texts n))
-long_seen characters texts n =
-    ap length (text_seen characters texts n) ∙ length_seen_text characters (text_in texts n)
+use Rattle.event_loop_laws.specs.TextLaws.{long_seen}
 
 -- ---- one selection in each viewer
 

@@ -1,37 +1,33 @@
 -- Laws of what opens: numbers that are free, how many are taken, and that a desktop with a new viewer stays shaped.
-use Rattle.std.specs.Prelude.{◌≡◌, ℕ, suc, ◌+◌, ◌*◌, ◌<◌, ◌≤◌, ◌==◌, ◌||◌, not, Bool, true, false, cond, IsTrue}
+use Rattle.std.specs.Prelude.{◌≡◌, ℕ, ◌+◌, ◌<◌, ◌≤◌, ◌==◌, ◌||◌, not, Bool, true, false, cond}
 use Rattle.std.specs.Prelude.{IsSome, is_some}
-use Rattle.std.specs.Prelude.{All, if◌then◌else◌, List, [], ◌∷◌, ◌++◌, length, filter, map, sum_by, Option, Some, None}
+use Rattle.std.specs.Prelude.{List, [], ◌∷◌, length, Option, Some, None}
 use Rattle.std.specs.Prelude.{slice_index_or}
-use Rattle.std.specs.Option.{ForSome, unwrap_or}
-use Rattle.std.specs.List.{AllByRecursion, list_any, position_or_len, range_with_len}
+use Rattle.std.specs.Option.{unwrap_or}
+use Rattle.std.specs.List.{list_any, range_with_len}
 use Rattle.std.specs.List.Sorted.{IsStrictlySortedBy}
-use Rattle.std.specs.Map.{lookup, keys_of, values_of, remove_entry}
+use Rattle.std.specs.Map.{lookup, keys_of}
 use Rattle.std.specs.Ordering.{nat_cmp, match_ordering, is_eq}
 use Rattle.std.specs.declared.cmp.Ordering.TheVariants.{Less, Equal, Greater}
 use Rattle.std.specs.BTreeMap.{is_at, insert_entry}
 use Rattle.std.proofs.Common.{refl, sym, ap, subst, ◌∙◌, arith, ⊎_elim}
 use Rattle.std.proofs.Math.Dec.{eqb}
-use Rattle.std.proofs.lemmas.Bool.{eqb-true, eqb-false, eq-eqb, ne_eqb, cases_lt}
+use Rattle.std.proofs.lemmas.Bool.{cases_lt}
 use Rattle.std.proofs.lemmas.Bool.Decides.{nat_tests}
-use Rattle.std.proofs.lemmas.Cmp.{nat_cmp_total}
 use Rattle.std.proofs.lemmas.List.FromFn.{length-range_with_len, get_or-range_with_len}
-use Rattle.std.proofs.lemmas.List.Sums.{prefix_len-le-length, passes_at_first, fails_before_first, sum_by-cons}
+use Rattle.std.proofs.lemmas.List.Sums.{prefix_len-le-length, passes_at_first, fails_before_first}
 use Rattle.std.proofs.lemmas.Map.Made.{is_some-lookup}
 use Rattle.std.proofs.lemmas.Map.Steps.{le-length_from_below}
 use Rattle.event_loop_laws.specs.declared.viewer.Viewer.{Viewer}
 use Rattle.event_loop_laws.specs.declared.viewer.Caret.{Caret}
 use Rattle.event_loop_laws.specs.declared.viewer.Selection.{Selection}
 use Rattle.event_loop_laws.specs.declared.viewer.Kept.{Kept}
-use Rattle.viewer_tracks.specs.Columns.{Columns, IsColumns, IsPlaced, times_placed, times_meant}
-use Rattle.piece_ring.specs.Text.{Text}
-use Rattle.event_loop_laws.specs.Tables.{Texts, numbered, lengths}
-use Rattle.event_loop_laws.specs.TableLaws.{rising_put}
-use Rattle.event_loop_laws.specs.Desktop.{Desktop, DesktopOf, held}
+use Rattle.viewer_tracks.specs.Columns.{Columns, IsPlaced}
+use Rattle.event_loop_laws.specs.Tables.{Texts, numbered}
 use Rattle.event_loop_laws.specs.Viewers.{viewer_in, text_in, main_length, viewer_or_none, no_viewer}
-use Rattle.event_loop_laws.specs.Opening.{least_unused, with_new}
-use Rattle.event_loop_laws.specs.Sound.{IsViewer, AreViewers, ArePlaces, AreMarks, times_there, IsShaped}
-use Rattle.event_loop_laws.specs.PlaceLaws.{any_at, at_itself, at_other, by_number, IsPlacedAnew}
+use Rattle.event_loop_laws.specs.Opening.{least_unused}
+use Rattle.event_loop_laws.specs.Sound.{IsViewer, AreViewers, ArePlaces, AreMarks, times_there}
+use Rattle.event_loop_laws.specs.PlaceLaws.{any_at, at_itself, at_other, by_number}
 
 passed : (b : Bool) → not b ≡ true → b ≡ false
 passed true is = absurd cc
@@ -139,131 +135,152 @@ module _ {X : Type 0} where
   apart_from es n k x none found same =
       let here : look es k ≡ None = subst (λ m. look es m ≡ None) (sym same) none in absurd cc
 
--- ---- a viewer more, with its texts
-
--- Texts and viewers, and the same with two new texts and a new viewer that shows them.
-pub record IsOneMore {X : Type 0} (texts new_texts : Texts (List X)) (viewers new_viewers : List (ℕ × Viewer))
-    (v menu main : ℕ) : Type 0 where
-  pub no_main : numbered texts main ≡ None
-  pub no_menu : numbered texts menu ≡ None
-  pub no_viewer : viewer_in viewers v ≡ None
-  pub apart : ¬ (main ≡ menu)
-  pub main_there : IsSome (numbered new_texts main)
-  pub menu_there : IsSome (numbered new_texts menu)
-  pub other_texts : (n : ℕ) → ¬ (n ≡ main) → ¬ (n ≡ menu) → numbered new_texts n ≡ numbered texts n
-  pub there : viewer_in new_viewers v ≡ Some (record { menu = menu; main = main; org = 0 })
-  pub other_viewers : (w : ℕ) → ¬ (w ≡ v) → viewer_in new_viewers w ≡ viewer_in viewers w
-  pub numbers : IsStrictlySortedBy nat_cmp (keys_of new_texts)
-  pub ids : IsStrictlySortedBy nat_cmp (keys_of new_viewers)
+-- ---- a text more
 
 is_there : {A : Type 0} (o : Option A) → IsSome o → (a : A) × (o ≡ Some a)
 is_there None some = absurd cc
 is_there (Some a) some = (a, refl)
 
-module _ {X : Type 0} (texts new_texts : Texts (List X)) (viewers new_viewers : List (ℕ × Viewer)) (v menu main : ℕ)
-    (more : IsOneMore texts new_texts viewers new_viewers v menu main) (are : AreViewers texts viewers) where
-  abbrev new : Viewer
-  new = record { menu = menu; main = main; org = 0 }
-
-  not_main : (n : ℕ) → IsSome (numbered texts n) → ¬ (n ≡ main)
-  not_main n some = let found = is_there (numbered texts n) some in apart_from texts main n found.0 more.no_main found.1
-
-  not_menu : (n : ℕ) → IsSome (numbered texts n) → ¬ (n ≡ menu)
-  not_menu n some = let found = is_there (numbered texts n) some in apart_from texts menu n found.0 more.no_menu found.1
-
-  text_stays : (n : ℕ) → IsSome (numbered texts n) → numbered new_texts n ≡ numbered texts n
-  text_stays n some = more.other_texts n (not_main n some) (not_menu n some)
-
-  some_stays : (n : ℕ) → IsSome (numbered texts n) → IsSome (numbered new_texts n)
-  some_stays n some = subst (λ (o : Option (List X)). IsSome o) (sym (text_stays n some)) some
-
-  length_stays : (n : ℕ) → IsSome (numbered texts n) → length (text_in new_texts n) ≡ length (text_in texts n)
-  length_stays n some = ap (λ (o : Option (List X)). length (unwrap_or o [])) (text_stays n some)
-
-  old_or_new : (w : ℕ) (viewer : Viewer) (P : Type 0) → viewer_in new_viewers w ≡ Some viewer
-      → (w ≡ v → new ≡ viewer → P) → (viewer_in viewers w ≡ Some viewer → P) → P
-  old_or_new w viewer P found is_new is_old = by_number w v P
-      (λ same. is_new same (let here : viewer_in new_viewers v ≡ Some viewer
-      = subst (λ (n : ℕ). viewer_in new_viewers n ≡ Some viewer) same found in
-      let both : Some new ≡ Some viewer = sym more.there ∙ here in cc))
-      (λ other. is_old (sym (more.other_viewers w other) ∙ found))
-
-  old_viewer : (w : ℕ) (viewer : Viewer) → viewer_in viewers w ≡ Some viewer → IsViewer new_texts new_viewers w viewer
-  old_viewer w viewer found =
-      let old = are.each w viewer found in
+-- marks stand where the main text of each viewer on the display is as long as before
+pub same_marks : (columns : Columns) (long other : ℕ → ℕ) (caret : Option Caret) (selections : List Selection)
+    → ((w : ℕ) → IsPlaced w columns → other w ≡ long w) → AreMarks columns long caret selections
+    → AreMarks columns other caret selections
+same_marks columns long other caret selections same marks = record {
+  caret_stands = λ c here.
+      let stands = marks.caret_stands c here in
       record {
-        menu = some_stays viewer.menu old.menu;
-        main = some_stays viewer.main old.main;
-        org = subst (λ n. viewer.org ≤ n) (sym (length_stays viewer.main old.main)) old.org;
+        placed = stands.placed;
+        within = subst (λ n. c.position ≤ n) (sym (same c.viewer stands.placed)) stands.within;
+      };
+  all_stand = λ i s low.
+      let stands = marks.all_stand i s low in
+      record {
+        placed = stands.placed;
+        some = stands.some;
+        within = subst (λ n. (slice_index_or selections i s).end ≤ n) (sym (same _ stands.placed)) stands.within;
+      };
+  one_each = marks.one_each;
+}
+
+-- Texts, and the same with one of a number that none of them has.
+pub record IsTextMore {X : Type 0} (texts new : Texts (List X)) (n : ℕ) : Type 0 where
+  pub none : numbered texts n ≡ None
+  pub others : (k : ℕ) → ¬ (k ≡ n) → numbered new k ≡ numbered texts k
+  pub numbers : IsStrictlySortedBy nat_cmp (keys_of new)
+
+module _ {X : Type 0} (texts new : Texts (List X)) (n : ℕ) (more : IsTextMore texts new n) where
+  pub not_new : (k : ℕ) → IsSome (numbered texts k) → ¬ (k ≡ n)
+  not_new k some = let found = is_there (numbered texts k) some in apart_from texts n k found.0 more.none found.1
+
+  pub text_stays : (k : ℕ) → IsSome (numbered texts k) → numbered new k ≡ numbered texts k
+  text_stays k some = more.others k (not_new k some)
+
+  pub some_stays : (k : ℕ) → IsSome (numbered texts k) → IsSome (numbered new k)
+  some_stays k some = subst (λ (o : Option (List X)). IsSome o) (sym (text_stays k some)) some
+
+  pub length_stays : (k : ℕ) → IsSome (numbered texts k) → length (text_in new k) ≡ length (text_in texts k)
+  length_stays k some = ap (λ (o : Option (List X)). length (unwrap_or o [])) (text_stays k some)
+
+  module _ (viewers : List (ℕ × Viewer)) (are : AreViewers texts viewers) where
+    pub text_viewers : AreViewers new viewers
+    text_viewers = record {
+      log = some_stays 0 are.log;
+      numbers = more.numbers;
+      ids = are.ids;
+      each = λ v viewer found.
+          let old = are.each v viewer found in
+          record {
+            menu = some_stays viewer.menu old.menu;
+            main = some_stays viewer.main old.main;
+            org = subst (λ n. viewer.org ≤ n) (sym (length_stays viewer.main old.main)) old.org;
+            not_log = old.not_log;
+            no_main = old.no_main;
+            own = old.own;
+          };
+    }
+
+    pub text_long : (w : ℕ) → IsSome (viewer_in viewers w) → main_length new viewers w ≡ main_length texts viewers w
+    text_long w some =
+        let found = is_there (viewer_in viewers w) some in
+        length_stays (viewer_or_none viewers w).main
+        (subst (λ (o : Option Viewer). IsSome (numbered texts (unwrap_or o no_viewer).main)) (sym found.1)
+        (are.each w found.0 found.1).main)
+
+-- ---- a viewer more
+
+-- Viewers, and the same with one of an id that none of them has: it shows texts that are there, and its menu is
+-- nobody else's.
+pub record IsViewerMore {X : Type 0} (texts : Texts (List X)) (viewers new : List (ℕ × Viewer)) (v : ℕ)
+    (viewer : Viewer) : Type 0 where
+  pub none : viewer_in viewers v ≡ None
+  pub there : viewer_in new v ≡ Some viewer
+  pub others : (w : ℕ) → ¬ (w ≡ v) → viewer_in new w ≡ viewer_in viewers w
+  pub ids : IsStrictlySortedBy nat_cmp (keys_of new)
+  pub menu : IsSome (numbered texts viewer.menu)
+  pub main : IsSome (numbered texts viewer.main)
+  pub org : viewer.org ≤ length (text_in texts viewer.main)
+  pub not_log : ¬ (viewer.menu ≡ 0)
+  pub apart : ¬ (viewer.main ≡ viewer.menu)
+  pub main_no_menu : (w : ℕ) (other : Viewer) → viewer_in viewers w ≡ Some other → ¬ (viewer.main ≡ other.menu)
+  pub menu_no_main : (w : ℕ) (other : Viewer) → viewer_in viewers w ≡ Some other → ¬ (other.main ≡ viewer.menu)
+  pub menu_own : (w : ℕ) (other : Viewer) → viewer_in viewers w ≡ Some other → ¬ (other.menu ≡ viewer.menu)
+
+module _ {X : Type 0} (texts : Texts (List X)) (viewers new : List (ℕ × Viewer)) (v : ℕ) (viewer : Viewer)
+    (more : IsViewerMore texts viewers new v viewer) (are : AreViewers texts viewers) where
+  old_or_new : (w : ℕ) (x : Viewer) (P : Type 0) → viewer_in new w ≡ Some x → (w ≡ v → viewer ≡ x → P)
+      → (viewer_in viewers w ≡ Some x → P) → P
+  old_or_new w x P found is_new is_old = by_number w v P
+      (λ same. is_new same (let here : viewer_in new v ≡ Some x
+      = subst (λ (n : ℕ). viewer_in new n ≡ Some x) same found in
+      let both : Some viewer ≡ Some x = sym more.there ∙ here in cc))
+      (λ other. is_old (sym (more.others w other) ∙ found))
+
+  old_viewer : (w : ℕ) (x : Viewer) → viewer_in viewers w ≡ Some x → IsViewer texts new w x
+  old_viewer w x found =
+      let old = are.each w x found in
+      record {
+        menu = old.menu;
+        main = old.main;
+        org = old.org;
         not_log = old.not_log;
         no_main = λ u other here is. old_or_new u other ⊥ here
-            (λ same shown. not_main viewer.menu old.menu
-            (let number : other.main ≡ main = ap (λ (x : Viewer). x.main) (sym shown) in sym is ∙ number))
+            (λ same shown. more.main_no_menu w x found (ap (λ (y : Viewer). y.main) shown ∙ is))
             (λ before. old.no_main u other before is);
         own = λ u other here is. old_or_new u other (u ≡ w) here
-            (λ same shown. absurd (not_menu viewer.menu old.menu
-            (let number : other.menu ≡ menu = ap (λ (x : Viewer). x.menu) (sym shown) in sym is ∙ number)))
+            (λ same shown. absurd (more.menu_own w x found (sym (ap (λ (y : Viewer). y.menu) shown ∙ is))))
             (λ before. old.own u other before is);
       }
 
-  new_viewer : IsViewer new_texts new_viewers v new
+  new_viewer : IsViewer texts new v viewer
   new_viewer = record {
-    menu = more.menu_there;
-    main = more.main_there;
-    org = omega arith;
-    not_log = λ is. not_menu 0 are.log (sym is);
+    menu = more.menu;
+    main = more.main;
+    org = more.org;
+    not_log = more.not_log;
     no_main = λ u other here is. old_or_new u other ⊥ here
-        (λ same shown. more.apart
-        (let number : other.main ≡ main = ap (λ (x : Viewer). x.main) (sym shown) in sym number ∙ is))
-        (λ before. not_menu other.main (are.each u other before).main is);
+        (λ same shown. more.apart (ap (λ (y : Viewer). y.main) shown ∙ is))
+        (λ before. more.menu_no_main u other before is);
     own = λ u other here is. old_or_new u other (u ≡ v) here
         (λ same shown. same)
-        (λ before. absurd (not_menu other.menu (are.each u other before).menu is));
+        (λ before. absurd (more.menu_own u other before is));
   }
 
-  pub more_viewers : AreViewers new_texts new_viewers
-  more_viewers = record {
-    log = some_stays 0 are.log;
-    numbers = more.numbers;
+  pub viewer_viewers : AreViewers texts new
+  viewer_viewers = record {
+    log = are.log;
+    numbers = are.numbers;
     ids = more.ids;
-    each = λ w viewer found. old_or_new w viewer (IsViewer new_texts new_viewers w viewer) found
-        (λ same shown. subst (λ (u : ℕ). IsViewer new_texts new_viewers u viewer) (sym same)
-        (subst (λ (x : Viewer). IsViewer new_texts new_viewers v x) shown new_viewer))
-        (λ before. old_viewer w viewer before);
+    each = λ w x found. old_or_new w x (IsViewer texts new w x) found
+        (λ same shown. subst (λ (u : ℕ). IsViewer texts new u x) (sym same)
+        (subst (λ (y : Viewer). IsViewer texts new v y) shown new_viewer))
+        (λ before. old_viewer w x before);
   }
 
-  -- the main text of each viewer that was there is as long as before
-  long_stays : (w : ℕ) → IsSome (viewer_in viewers w) → main_length new_texts new_viewers w
-      ≡ main_length texts viewers w
-  long_stays w some =
+  pub viewer_long : (w : ℕ) → IsSome (viewer_in viewers w) → main_length texts new w ≡ main_length texts viewers w
+  viewer_long w some =
       let found = is_there (viewer_in viewers w) some in
-      let same = more.other_viewers w (apart_from viewers v w found.0 more.no_viewer found.1) in
-      ap (λ (o : Option Viewer). length (text_in new_texts (unwrap_or o no_viewer).main)) same
-      ∙ length_stays (viewer_or_none viewers w).main
-      (subst (λ (o : Option Viewer). IsSome (numbered texts (unwrap_or o no_viewer).main)) (sym found.1)
-      (are.each w found.0 found.1).main)
-
-  pub more_marks : (columns : Columns) (caret : Option Caret) (selections : List Selection)
-      → ((w : ℕ) → IsPlaced w columns → IsSome (viewer_in viewers w))
-      → AreMarks columns (main_length texts viewers) caret selections
-      → AreMarks columns (main_length new_texts new_viewers) caret selections
-  more_marks columns caret selections known marks = record {
-    caret_stands = λ c here.
-        let stands = marks.caret_stands c here in
-        record {
-          placed = stands.placed;
-          within = subst (λ n. c.position ≤ n) (sym (long_stays c.viewer (known c.viewer stands.placed))) stands.within;
-        };
-    all_stand = λ i s low.
-        let stands = marks.all_stand i s low in
-        record {
-          placed = stands.placed;
-          some = stands.some;
-          within = subst (λ n. (slice_index_or selections i s).end ≤ n)
-              (sym (long_stays _ (known _ stands.placed))) stands.within;
-        };
-    one_each = marks.one_each;
-  }
+      ap (λ (o : Option Viewer). length (text_in texts (unwrap_or o no_viewer).main))
+      (more.others w (apart_from viewers v w found.0 more.none found.1))
 
 -- ---- who stands on the display has an entry
 

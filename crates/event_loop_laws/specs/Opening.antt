@@ -1,5 +1,5 @@
 -- New texts and viewers, and texts that nobody shows any more.
-use Rattle.std.specs.Prelude.{ℕ, ◌+◌, ◌==◌, ◌||◌, not, Bool, List, ◌++◌, length, filter, codes}
+use Rattle.std.specs.Prelude.{ℕ, ◌==◌, ◌||◌, not, Bool, List, ◌++◌, length, filter, codes}
 use Rattle.std.specs.List.{list_any, position_or_len, range_with_len}
 use Rattle.std.specs.Map.{keys_of}
 use Rattle.std.specs.Ordering.{nat_cmp}
@@ -21,18 +21,21 @@ module _ {T : Type 0} where
   abbrev pub with_new : Texts T → T → Texts T
   with_new texts text = insert_entry nat_cmp texts (least_unused (keys_of texts)) text
 
-  -- A new viewer at a cell shows a new text from its beginning, under a new menu. The main text takes its number first,
-  -- and what the event gives up still has its own.
-  unfoldable pub opening : DesktopOf T → T → T → ℕ × ℕ → DesktopOf T
-  opening d menu main cell =
-      let main_number = least_unused (keys_of d.texts) in
-      let texts = with_new d.texts main in
-      let menu_number = least_unused (keys_of texts) in
+  -- A new viewer at a cell shows the text of a number, which is there, from a position on, under a new menu. What the
+  -- event gives up still has its numbers.
+  unfoldable pub opening_on : DesktopOf T → T → ℕ → ℕ → ℕ × ℕ → DesktopOf T
+  opening_on d menu main org cell =
+      let menu_number = least_unused (keys_of d.texts) in
       let v = least_unused (keys_of d.viewers) in
       opened_at (record d {
-        texts = with_new texts menu;
-        viewers = insert_entry nat_cmp d.viewers v (record { menu = menu_number; main = main_number; org = 0 });
+        texts = with_new d.texts menu;
+        viewers = insert_entry nat_cmp d.viewers v (record { menu = menu_number; main = main; org = org });
       }) v cell
+
+  -- A new viewer at a cell shows a new text from its beginning, under a new menu. The main text takes its number first.
+  unfoldable pub opening : DesktopOf T → T → T → ℕ × ℕ → DesktopOf T
+  opening d menu main cell =
+      opening_on (record d { texts = with_new d.texts main }) menu (least_unused (keys_of d.texts)) 0 cell
 
   -- a text is the log, or shown by a viewer
   abbrev pub is_shown : DesktopOf T → ℕ → Bool

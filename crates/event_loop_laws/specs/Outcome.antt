@@ -4,14 +4,15 @@ use Rattle.sector_disk.specs.Faults.{OneOf}
 use Rattle.event_loop_laws.specs.declared.reply.Reply.{Reply}
 use Rattle.event_loop_laws.specs.declared.reply.Reply.TheVariants.{Done, No}
 use Rattle.event_loop_laws.specs.Limits.{no_caret, no_selection, no_command, no_file, full, too_many_files}
-use Rattle.event_loop_laws.specs.Limits.{outside}
+use Rattle.event_loop_laws.specs.Limits.{outside, wrong_symbol, no_viewer, not_found, bad_value, too_low}
 use Rattle.event_loop_laws.specs.Desktop.{Desktop, KeptDesktop}
 use Rattle.event_loop_laws.specs.Seen.{seen}
 use Rattle.event_loop_laws.specs.Sound.{IsOver}
 
 -- the codes that there are
 abbrev pub codes : List ℕ
-codes = no_caret ∷ no_selection ∷ no_command ∷ no_file ∷ full ∷ too_many_files ∷ outside ∷ []
+codes = no_caret ∷ no_selection ∷ no_command ∷ no_file ∷ full ∷ too_many_files ∷ outside ∷ wrong_symbol ∷ no_viewer ∷
+    not_found ∷ bad_value ∷ too_low ∷ []
 
 -- Done, or a refusal with one of the codes
 abbrev pub IsReply : Reply → Type 0

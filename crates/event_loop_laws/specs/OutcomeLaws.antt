@@ -15,13 +15,13 @@ use Rattle.event_bytes.specs.Bytes.{is_name}
 use Rattle.event_bytes.specs.declared.event.Event.TheVariants.{File}
 use Rattle.event_loop_laws.specs.declared.reply.Reply.{Reply}
 use Rattle.event_loop_laws.specs.declared.reply.Reply.TheVariants.{Done, No}
-use Rattle.event_loop_laws.specs.Tables.{Files, name_cmp, put}
+use Rattle.event_loop_laws.specs.Tables.{Files, name_cmp, put, has_room}
 use Rattle.event_loop_laws.specs.TableLaws.{insert_seen, length_seen_text, longer, put_within}
 use Rattle.event_loop_laws.specs.Desktop.{Desktop, KeptDesktop}
 use Rattle.event_loop_laws.specs.Seen.{seen, seen_text, seen_table}
 use Rattle.event_loop_laws.specs.SeenLaws.{seen_longer, within_counted, new_read}
 use Rattle.event_loop_laws.specs.Change.{in_look, plain}
-use Rattle.event_loop_laws.specs.Step.{has_room, filed, fits, step}
+use Rattle.event_loop_laws.specs.Step.{filed, fits, step}
 use Rattle.event_loop_laws.specs.StepLaws.{file_done, filed_sound}
 use Rattle.event_loop_laws.specs.Sound.{IsSound, AllWithin, IsWithin, IsOver}
 use Rattle.event_loop_laws.specs.Outcome.{codes, IsAnswered}

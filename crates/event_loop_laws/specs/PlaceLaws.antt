@@ -1,9 +1,9 @@
 -- Laws of places: a desktop stays shaped where viewers are placed anew, where a viewer goes, and where texts go that
 -- nobody shows.
-use Rattle.std.specs.Prelude.{◌≡◌, ℕ, suc, ◌+◌, ◌≤◌, ◌==◌, ◌||◌, not, Bool, true, false, cond, IsTrue, IsSome}
+use Rattle.std.specs.Prelude.{◌≡◌, ℕ, ◌+◌, ◌≤◌, ◌==◌, ◌||◌, not, Bool, true, false, cond, IsTrue, IsSome}
 use Rattle.std.specs.Prelude.{is_some, All}
-use Rattle.std.specs.Prelude.{◌<◌, if◌then◌else◌, List, [], ◌∷◌, slice_index_or, length, filter, count_by, Option}
-use Rattle.std.specs.Prelude.{Some, None, map}
+use Rattle.std.specs.Prelude.{◌<◌, if◌then◌else◌, List, [], ◌∷◌, slice_index_or, length, filter, Option}
+use Rattle.std.specs.Prelude.{Some, None}
 use Rattle.std.specs.Option.{ForSome, unwrap_or}
 use Rattle.std.specs.List.{AllByRecursion, list_any}
 use Rattle.std.specs.List.Sorted.{IsStrictlySortedBy}
@@ -14,13 +14,11 @@ use Rattle.std.specs.BTreeMap.{is_at}
 use Rattle.std.proofs.Common.{refl, sym, ap, subst, ◌∙◌, arith}
 use Rattle.std.proofs.lemmas.Bool.{eqb-true, eqb-false, eq-eqb, ne_eqb}
 use Rattle.std.proofs.lemmas.Bool.Decides.{nat_tests}
-use Rattle.std.proofs.lemmas.Cmp.{nat_cmp_total}
 use Rattle.std.proofs.lemmas.List.Elements.{All-filter, All-tail, filter_passes}
 use Rattle.std.proofs.lemmas.List.Filters.{sum_by-filter_both}
 use Rattle.std.proofs.lemmas.List.Kept.{IsStrictlySortedBy-filter}
 use Rattle.std.proofs.lemmas.List.Sums.{sum_by-cons}
 use Rattle.std.proofs.lemmas.Map.Entries.{lookup-filter-keys}
-use Rattle.std.proofs.lemmas.Map.Keys.{sorted_head, sorted_tail}
 use Rattle.std.proofs.lemmas.Map.Lookups.{exact_unsigned}
 use Rattle.std.proofs.lemmas.Map.Views.{tells_apart}
 use Rattle.viewer_tracks.specs.declared.display.TheConstants.{ROWS, COLUMNS}
@@ -33,9 +31,9 @@ use Rattle.event_loop_laws.specs.Tables.{Texts, numbered, lengths}
 use Rattle.piece_ring.specs.Text.{Text}
 use Rattle.event_loop_laws.specs.Desktop.{Desktop, DesktopOf, held}
 use Rattle.event_loop_laws.specs.Viewers.{viewer_in, text_in, main_length, caret_outside, selections_outside}
-use Rattle.event_loop_laws.specs.Viewers.{without_viewer, no_viewer, viewer_or_none}
+use Rattle.event_loop_laws.specs.Viewers.{without_viewer, no_viewer}
 use Rattle.event_loop_laws.specs.Opening.{is_shown, dropped}
-use Rattle.event_loop_laws.specs.Sound.{IsViewer, AreViewers, times_there, IsKeptPlace, ArePlaces, IsCaret, IsSelection}
+use Rattle.event_loop_laws.specs.Sound.{AreViewers, times_there, IsKeptPlace, IsCaret, IsSelection}
 use Rattle.event_loop_laws.specs.Sound.{AreMarks, AreFiles, IsShaped}
 use Rattle.event_loop_laws.specs.StepLaws.{AllShown}
 

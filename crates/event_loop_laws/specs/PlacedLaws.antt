@@ -11,7 +11,6 @@ use Rattle.piece_ring.specs.Flat.{flat}
 use Rattle.piece_ring.specs.Offsets.{AreWithin}
 use Rattle.viewer_tracks.specs.Columns.{Columns, IsColumns, IsPlaced, times_placed, times_meant}
 use Rattle.viewer_tracks.specs.Columns.{after_change as columns_changed, after_close, after_open, replaced_at}
-use Rattle.event_loop_laws.specs.declared.reply.Reply.{Reply}
 use Rattle.event_loop_laws.specs.declared.reply.Reply.TheVariants.{Done}
 use Rattle.event_loop_laws.specs.Limits.{most_written, most_held}
 use Rattle.event_loop_laws.specs.Tables.{Texts, with_values}

@@ -18,13 +18,13 @@ use Rattle.piece_ring.specs.Flat.{flat}
 use Rattle.viewer_tracks.specs.Columns.{Columns, IsPlaced}
 use Rattle.event_loop_laws.specs.declared.viewer.Viewer.{Viewer}
 use Rattle.event_loop_laws.specs.declared.viewer.Kept.{Kept}
-use Rattle.event_loop_laws.specs.declared.reply.Reply.{Reply}
 use Rattle.event_loop_laws.specs.declared.reply.Reply.TheVariants.{Done, No}
 use Rattle.event_loop_laws.specs.Limits.{most_written, most_held, no_caret, no_selection, no_command, no_file, full}
-use Rattle.event_loop_laws.specs.Limits.{too_many_files, outside}
-use Rattle.event_loop_laws.specs.Tables.{Texts, numbered, lengths}
+use Rattle.event_loop_laws.specs.Limits.{too_many_files, outside, wrong_symbol, no_viewer as viewer_missing}
+use Rattle.event_loop_laws.specs.Limits.{not_found, bad_value, too_low}
+use Rattle.event_loop_laws.specs.Tables.{Texts, numbered}
 use Rattle.event_loop_laws.specs.TableLaws.{lookup_seen, is_some_map, kept_lengths, lengths_seen}
-use Rattle.event_loop_laws.specs.Desktop.{DesktopOf, Desktop, KeptDesktop, held}
+use Rattle.event_loop_laws.specs.Desktop.{Desktop, KeptDesktop, held}
 use Rattle.event_loop_laws.specs.Viewers.{viewer_in, viewer_or_none, text_in, no_viewer}
 use Rattle.event_loop_laws.specs.Opening.{is_shown}
 use Rattle.event_loop_laws.specs.Change.{more_written}
@@ -33,7 +33,7 @@ use Rattle.event_loop_laws.specs.SeenLaws.{within_counted}
 use Rattle.event_loop_laws.specs.Step.{fits, settled}
 use Rattle.event_loop_laws.specs.StepLaws.{AllShown, settled_done, settled_full}
 use Rattle.event_loop_laws.specs.Sound.{AreViewers, ArePlaces, IsSound, IsWithin, IsBuilt, IsOver}
-use Rattle.event_loop_laws.specs.Changed.{texts_shown, IsRest, IsChanged, Counts}
+use Rattle.event_loop_laws.specs.Changed.{texts_shown, IsChanged, Counts}
 use Rattle.event_loop_laws.specs.Outcome.{codes, IsAnswered}
 use Rattle.event_loop_laws.specs.OutcomeLaws.{refused, acted, within_longer}
 
@@ -62,7 +62,22 @@ pub known_too_many_files : OneOf codes too_many_files
 known_too_many_files = inr (inr (inr (inr (inr (inl refl)))))
 
 pub known_outside : OneOf codes outside
-known_outside = inr (inr (inr (inr (inr (inr refl)))))
+known_outside = inr (inr (inr (inr (inr (inr (inl refl))))))
+
+pub known_wrong_symbol : OneOf codes wrong_symbol
+known_wrong_symbol = inr (inr (inr (inr (inr (inr (inr (inl refl)))))))
+
+pub known_no_viewer : OneOf codes viewer_missing
+known_no_viewer = inr (inr (inr (inr (inr (inr (inr (inr (inl refl))))))))
+
+pub known_not_found : OneOf codes not_found
+known_not_found = inr (inr (inr (inr (inr (inr (inr (inr (inr (inl refl)))))))))
+
+pub known_bad_value : OneOf codes bad_value
+known_bad_value = inr (inr (inr (inr (inr (inr (inr (inr (inr (inr (inl refl))))))))))
+
+pub known_too_low : OneOf codes too_low
+known_too_low = inr (inr (inr (inr (inr (inr (inr (inr (inr (inr (inr refl))))))))))
 
 -- ---- texts that are shown
 

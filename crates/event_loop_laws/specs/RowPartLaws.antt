@@ -1,15 +1,12 @@
 -- Laws of edits that several rows have: copies of stretches, both buffers, what is put in and taken out beside the
 -- caret, and where the marks of a desktop stand that is kept.
-use Rattle.std.specs.Prelude.{◌≡◌, ◌<◌, ◌≤◌, ℕ, suc, ◌+◌, ◌-◌, ◌==◌, ◌&&◌, nat_lt, Bool, true, false, if◌then◌else◌}
-use Rattle.std.specs.Prelude.{All, List, [], ◌∷◌, length, slice_get, slice_index, Option, Some, None, IfSome}
+use Rattle.std.specs.Prelude.{◌≡◌, ◌<◌, ◌≤◌, ℕ, suc, ◌+◌, ◌-◌, true}
+use Rattle.std.specs.Prelude.{All, List, [], ◌∷◌, length, slice_get, slice_index, Option, Some, None}
 use Rattle.std.specs.Prelude.{IsSome, Ok}
-use Rattle.std.specs.Option.{unwrap_or, option_map, ForSome}
+use Rattle.std.specs.Option.{ForSome}
 use Rattle.std.specs.List.{last_or}
-use Rattle.std.specs.Ordering.{nat_cmp}
-use Rattle.std.specs.BTreeMap.{is_at}
 use Rattle.std.proofs.Common.{refl, sym, ap, subst, ◌∙◌, arith}
 use Rattle.std.proofs.lemmas.Bool.{and_from, le-leb}
-use Rattle.std.proofs.lemmas.Map.Views.{IfSome-lookup_from_All}
 use Rattle.piece_ring.specs.declared.piece.Piece.{Piece}
 use Rattle.piece_ring.specs.Flat.{flat}
 use Rattle.piece_ring.specs.Lengths.{length-stretch}
@@ -23,15 +20,16 @@ use Rattle.event_loop_laws.specs.declared.viewer.Selection.{Selection}
 use Rattle.event_loop_laws.specs.declared.reply.Reply.TheVariants.{Done}
 use Rattle.event_loop_laws.specs.Limits.{most_written, most_held}
 use Rattle.event_loop_laws.specs.Tables.{numbered}
-use Rattle.event_loop_laws.specs.TableLaws.{lookup_seen, length_seen_text}
+use Rattle.event_loop_laws.specs.TableLaws.{length_seen_text}
 use Rattle.event_loop_laws.specs.Desktop.{Desktop, KeptDesktop, held}
 use Rattle.event_loop_laws.specs.Viewers.{viewer_of, viewer_or_none, text_in, text_of, main_of, selected}
 use Rattle.event_loop_laws.specs.Viewers.{with_selection}
 use Rattle.event_loop_laws.specs.Change.{insertion, deletion, caret_shown, put_in, put_at_caret, cut_out}
 use Rattle.event_loop_laws.specs.ChangeLaws.{counts_none, insertion_counts, caret_shown_counts, with_selection_counts}
 use Rattle.event_loop_laws.specs.Seen.{seen, seen_text}
+use Rattle.event_loop_laws.specs.TextLaws.{text_in_seen, text_within as within_table}
 use Rattle.event_loop_laws.specs.Step.{settled}
-use Rattle.event_loop_laws.specs.Sound.{IsCaret, IsSelection, IsShaped, IsSound, IsWithin, IsBuilt, IsOver}
+use Rattle.event_loop_laws.specs.Sound.{IsSelection, IsSound, IsWithin, IsBuilt, IsOver}
 use Rattle.event_loop_laws.specs.Changed.{IsChanged, Counts}
 use Rattle.event_loop_laws.specs.Outcome.{IsAnswered}
 use Rattle.event_loop_laws.specs.RowLaws.{has_space, changed_as, changed_further, counts_then, rest_answered}
@@ -42,17 +40,10 @@ kept_main d v = text_in d.texts (viewer_or_none d.viewers v).main
 
 -- ---- texts as they are seen
 
-or_empty : (characters : List ℕ) (found : Option (List Piece))
-    → unwrap_or (option_map (seen_text characters) found) [] ≡ seen_text characters (unwrap_or found [])
-or_empty characters None = refl
-or_empty characters (Some text) = refl
-
 pub kept_text_seen : (characters : List ℕ) (d : KeptDesktop) (n : ℕ)
     → text_of (seen characters d) n ≡ seen_text characters (text_in d.texts n)
 unfolding seen
-kept_text_seen characters d n =
-    ap (λ (o : Option (Text ℕ)). unwrap_or o []) (lookup_seen (seen_text characters) (is_at (nat_cmp n)) d.texts)
-    ∙ or_empty characters (numbered d.texts n)
+kept_text_seen characters d n = text_in_seen characters d.texts n
 
 pub kept_main_seen : (characters : List ℕ) (d : KeptDesktop) (v : ℕ)
     → main_of (seen characters d) v ≡ seen_text characters (kept_main d v)
@@ -85,14 +76,8 @@ selected_long characters d s order within =
     let long = kept_main_long characters d s.viewer in
     length-stretch s.beg s.end (main_of (seen characters d) s.viewer) order (omega (arith, within, long))
 
-or_none_within : (n : ℕ) (found : Option (List Piece)) → IfSome found (λ pieces. AreWithin n (flat pieces))
-    → AreWithin n (flat (unwrap_or found []))
-or_none_within n None holds = λ i d low. absurd (omega (arith, low))
-or_none_within n (Some text) holds = holds
-
 pub text_within : (n : ℕ) (d : KeptDesktop) (m : ℕ) → IsWithin n d → AreWithin n (flat (text_in d.texts m))
-text_within n d m within = or_none_within n (numbered d.texts m)
-    (IfSome-lookup_from_All (λ pieces. AreWithin n (flat pieces)) (is_at (nat_cmp m)) d.texts within.texts)
+text_within n d m within = within_table n d.texts m within.texts
 
 -- ---- marks
 

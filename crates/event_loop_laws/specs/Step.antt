@@ -1,13 +1,12 @@
 -- What an event does to the desktop, and the reply to it.
-use Rattle.std.specs.Prelude.{ℕ, ◌+◌, ◌&&◌, ◌||◌, nat_le, nat_lt, Bool, if◌then◌else◌, List, length, fold}
-use Rattle.std.specs.Prelude.{Some, is_some, Result, Ok, Err}
+use Rattle.std.specs.Prelude.{ℕ, ◌+◌, ◌&&◌, nat_le, Bool, if◌then◌else◌, List, length, fold, Some, Result, Ok, Err}
 use Rattle.piece_ring.specs.Text.{Text}
 use Rattle.event_bytes.specs.declared.event.Event.{Event}
 use Rattle.event_bytes.specs.declared.event.Event.TheVariants.{Typed, Key, Mark, Point, File}
 use Rattle.event_loop_laws.specs.declared.reply.Reply.{Reply}
 use Rattle.event_loop_laws.specs.declared.reply.Reply.TheVariants.{Done, No}
-use Rattle.event_loop_laws.specs.Limits.{most_written, most_held, most_files, full, too_many_files, outside}
-use Rattle.event_loop_laws.specs.Tables.{Files, named, put}
+use Rattle.event_loop_laws.specs.Limits.{first_version, most_written, most_held, full, too_many_files, outside}
+use Rattle.event_loop_laws.specs.Tables.{put, has_room}
 use Rattle.event_loop_laws.specs.Desktop.{Desktop, DesktopOf, held}
 use Rattle.event_loop_laws.specs.Needs.{unless}
 use Rattle.event_loop_laws.specs.Change.{plain}
@@ -16,10 +15,6 @@ use Rattle.event_loop_laws.specs.Opening.{dropped}
 use Rattle.event_loop_laws.specs.Gesture.{is_on_display, area_at, pointed}
 
 -- ---- a file
-
--- there is a file of that name, or room for one more
-abbrev pub has_room : Files (Text ℕ) → List ℕ → Bool
-has_room files name = is_some (named files name) || nat_lt (length files) most_files
 
 -- the file of that name becomes this text, which was written anew
 unfoldable pub filed : Desktop → List ℕ → Text ℕ → Desktop
@@ -42,17 +37,22 @@ unfoldable pub settled : Desktop → Result Desktop ℕ → Desktop × Reply
 settled d (Err code) = (d, No code)
 settled d (Ok new) = if fits (dropped new) then (dropped new, Done) else (d, No full)
 
--- what an event does but for texts that go and the limits on characters, or the code of its refusal
-unfoldable pub raw : Desktop → Event → Result Desktop ℕ
-raw d (Typed bytes) = typed d bytes
-raw d (Key key) = pressed d key
-raw d (Mark x y) = unless (is_on_display x y) outside (Ok (marked d x y))
-raw d (Point keys x0 y0 x1 y1) =
-    unless (is_on_display x0 y0 && is_on_display x1 y1) outside (pointed d (area_at d x0 y0) keys x0 y0 x1 y1)
-raw d (File name bytes) = unless (has_room d.files name) too_many_files (Ok (filed d name (plain bytes)))
+-- what an event does but for texts that go and the limits on characters, or the code of its refusal, by the version of
+-- the table of commands
+unfoldable pub raw : ℕ → Desktop → Event → Result Desktop ℕ
+raw version d (Typed bytes) = typed d bytes
+raw version d (Key key) = pressed d key
+raw version d (Mark x y) = unless (is_on_display x y) outside (Ok (marked d x y))
+raw version d (Point keys x0 y0 x1 y1) =
+    unless (is_on_display x0 y0 && is_on_display x1 y1) outside (pointed version d (area_at d x0 y0) keys x0 y0 x1 y1)
+raw version d (File name bytes) = unless (has_room d.files name) too_many_files (Ok (filed d name (plain bytes)))
 
+unfoldable pub step_in : ℕ → Desktop → Event → Desktop × Reply
+step_in version d event = settled d (raw version d event)
+
+-- a step in the only version so far
 unfoldable pub step : Desktop → Event → Desktop × Reply
-step d event = settled d (raw d event)
+step d event = step_in first_version d event
 
 -- the desktop after events, one after another
 abbrev pub steps : Desktop → List Event → Desktop

@@ -14,12 +14,12 @@ use Rattle.event_bytes.specs.Bytes.{is_name}
 use Rattle.event_bytes.specs.declared.event.Event.TheVariants.{File}
 use Rattle.event_loop_laws.specs.declared.reply.Reply.TheVariants.{Done, No}
 use Rattle.event_loop_laws.specs.Limits.{most_written, most_held, full, too_many_files}
-use Rattle.event_loop_laws.specs.Tables.{Texts, name_cmp, put, lengths}
+use Rattle.event_loop_laws.specs.Tables.{Texts, name_cmp, put, has_room, lengths}
 use Rattle.event_loop_laws.specs.TableLaws.{rising_put, put_few}
 use Rattle.event_loop_laws.specs.Desktop.{Desktop, empty_desktop, held}
 use Rattle.event_loop_laws.specs.Opening.{is_shown, dropped}
 use Rattle.event_loop_laws.specs.Change.{plain}
-use Rattle.event_loop_laws.specs.Step.{has_room, filed, fits, settled, raw, step}
+use Rattle.event_loop_laws.specs.Step.{filed, fits, settled, raw, step, step_in}
 use Rattle.event_loop_laws.specs.Sound.{IsShaped, IsSound}
 
 -- ---- the end of an event
@@ -52,17 +52,17 @@ settled_full d new all unfit = rw (all_stay new all, unfit) refl
 
 module _ (d : Desktop) (name bytes : List ℕ) (all : AllShown d) where
   pub file_no_room : has_room d.files name ≡ false → (d, No too_many_files) ≡ step d (File name bytes)
-  unfolding step settled raw
+  unfolding step step_in settled raw
   file_no_room none = rw none refl
 
   pub file_full : has_room d.files name ≡ true → fits (filed d name (plain bytes)) ≡ false
       → (d, No full) ≡ step d (File name bytes)
-  unfolding step raw filed
+  unfolding step step_in raw filed
   file_full room unfit = rw room (sym (settled_full d (filed d name (plain bytes)) all unfit))
 
   pub file_done : has_room d.files name ≡ true → fits (filed d name (plain bytes)) ≡ true
       → (filed d name (plain bytes), Done) ≡ step d (File name bytes)
-  unfolding step raw filed
+  unfolding step step_in raw filed
   file_done room fit = rw room (sym (settled_done d (filed d name (plain bytes)) all fit))
 
 -- ---- the limits

@@ -24,10 +24,9 @@ use Rattle.piece_ring.specs.Flat.{flat}
 use Rattle.piece_ring.specs.Offsets.{AreWithin, AreWithin-longer}
 use Rattle.piece_ring.specs.Text.{Text}
 use Rattle.event_loop_laws.specs.Limits.{most_files}
-use Rattle.event_loop_laws.specs.Tables.{Files, name_cmp, named, put, with_values, lengths}
+use Rattle.event_loop_laws.specs.Tables.{Files, name_cmp, named, put, has_room, with_values, lengths}
 use Rattle.event_loop_laws.specs.Seen.{seen_text, seen_table}
 use Rattle.event_loop_laws.specs.Sound.{AllWithin}
-use Rattle.event_loop_laws.specs.Step.{has_room}
 
 -- ---- f of each text
 
@@ -61,6 +60,10 @@ pub length_seen_text : (characters : List ℕ) (pieces : List Piece)
     → length (seen_text characters pieces) ≡ length (flat pieces)
 length_seen_text characters pieces = length-map {B = ℕ × Look} (flat pieces)
     (λ (c : ℕ × Look). (slice_index characters c.0, c.1))
+
+-- how many characters a text has that is kept
+abbrev pub kept_length : List Piece → ℕ
+kept_length pieces = length (flat pieces)
 
 -- how many characters the texts of a table have that is kept
 abbrev pub kept_lengths : {K : Type 0} → List (K × List Piece) → ℕ
@@ -165,24 +168,21 @@ module _ (files : Files (List Piece)) (name : List ℕ) (characters : List ℕ) 
   gone = sum_by-insert_entry length (lists_total nat_cmp_total) (seen_table characters files) name text
       (subst (IsStrictlySortedBy name_cmp) (sym (keys_of-map_values (seen_text characters) files)) rising)
 
-  pub gone_none : named files name ≡ None
-      → lengths (put (seen_table characters files) name text) + 0 ≡ lengths (seen_table characters files) + length text
-  gone_none none = subst
-      (λ (found : Option (Text ℕ)). lengths (put (seen_table characters files) name text)
-      + unwrap_or (option_map length found) 0 ≡ lengths (seen_table characters files) + length text)
-      (missing_seen (is_at (name_cmp name)) characters files none) gone
+  size_seen : (found : Option (List Piece))
+      → unwrap_or (option_map length (option_map (seen_text characters) found)) 0
+      ≡ unwrap_or (option_map kept_length found) 0
+  size_seen None = refl
+  size_seen (Some old) = length_seen_text characters old
 
-  pub gone_some : (old : List Piece) (size : ℕ) → named files name ≡ Some old → size ≡ length (flat old)
-      → lengths (put (seen_table characters files) name text) + size
-      ≡ lengths (seen_table characters files) + length text
-  gone_some old size found is =
-      let long = length_seen_text characters old in
-      let sum : lengths (put (seen_table characters files) name text) + length (seen_text characters old)
-      ≡ lengths (seen_table characters files) + length text =
-      subst (λ (found : Option (Text ℕ)). lengths (put (seen_table characters files) name text)
-      + unwrap_or (option_map length found) 0 ≡ lengths (seen_table characters files) + length text)
-      (found_seen (is_at (name_cmp name)) characters files old found) gone in
-      omega (arith, sum, is, long)
+  -- what a put of a name holds more, and what the old file of that name held
+  pub gone_size : lengths (put (seen_table characters files) name text)
+      + unwrap_or (option_map kept_length (named files name)) 0 ≡ lengths (seen_table characters files) + length text
+  gone_size =
+      let same : unwrap_or (option_map length (named (seen_table characters files) name)) 0
+      ≡ unwrap_or (option_map kept_length (named files name)) 0 =
+      ap (λ (found : Option (Text ℕ)). unwrap_or (option_map length found) 0)
+      (lookup_seen (seen_text characters) (is_at (name_cmp name)) files) ∙ size_seen (named files name) in
+      omega (arith, gone, same)
 
 -- ---- characters within
 

@@ -1,10 +1,11 @@
 -- Texts by number and files by name. T is the type of a text. A table rises by its keys, and has one text of a key.
-use Rattle.std.specs.Prelude.{ℕ, List, map, sum_by, length, Option}
+use Rattle.std.specs.Prelude.{ℕ, ◌||◌, nat_lt, Bool, List, map, sum_by, length, Option, is_some}
 use Rattle.std.specs.Map.{lookup, values_of}
 use Rattle.std.specs.Ordering.{nat_cmp}
 use Rattle.std.specs.declared.cmp.Ordering.{Ordering}
 use Rattle.std.specs.Cmp.Lexicographic.{slice_cmp}
 use Rattle.std.specs.BTreeMap.{is_at, insert_entry}
+use Rattle.event_loop_laws.specs.Limits.{most_files}
 
 abbrev pub Texts : Type 0 → Type 0
 Texts T = List (ℕ × T)
@@ -28,6 +29,10 @@ module _ {T : Type 0} where
   -- the file of that name has this text, and each other file its own
   abbrev pub put : Files T → List ℕ → T → Files T
   put files name text = insert_entry name_cmp files name text
+
+  -- there is a file of that name, or room for one more
+  abbrev pub has_room : Files T → List ℕ → Bool
+  has_room files name = is_some (named files name) || nat_lt (length files) most_files
 
 -- a table with f of each text
 abbrev pub with_values : {K T U : Type 0} → (T → U) → List (K × T) → List (K × U)

@@ -1,13 +1,11 @@
 -- Laws of what is shown and listed: each text that a viewer names is there, and reads as it is seen.
 use Rattle.std.specs.Prelude.{◌≡◌, ℕ, zero, suc, ◌+◌, ◌*◌, ◌<◌, ◌≤◌, ◌==◌, IsSome, is_some, All, Bool, true, false}
 use Rattle.std.specs.Prelude.{cond, if◌then◌else◌, List, [], ◌∷◌, ◌++◌, length, map, take, drop, sum_by, count_by}
-use Rattle.std.specs.Prelude.{slice_get, Option, Some, None, not, IfSome}
-use Rattle.std.specs.Option.{option_map, unwrap_or}
+use Rattle.std.specs.Prelude.{slice_get, Option, Some, None, not}
 use Rattle.std.specs.List.{slice_index_or}
 use Rattle.std.specs.List.Sorted.{IsStrictlySortedBy}
 use Rattle.std.specs.Map.{keys_of}
 use Rattle.std.specs.Ordering.{nat_cmp}
-use Rattle.std.specs.BTreeMap.{is_at}
 use Rattle.std.proofs.Common.{refl, sym, ap, ◌∙◌, append_assoc, append-nil, arith}
 use Rattle.std.proofs.lemmas.Bool.{eq-eqb, eqb-true}
 use Rattle.std.proofs.lemmas.Bool.Decides.{nat_tests}
@@ -16,11 +14,8 @@ use Rattle.std.proofs.lemmas.List.{drop_all}
 use Rattle.std.proofs.lemmas.List.Sums.{sum_by-cons, sum_by-le, take_while-cons}
 use Rattle.std.proofs.lemmas.Map.Entries.{lookup_from_place}
 use Rattle.std.proofs.lemmas.Map.Keys.{IsDistinct-from_sorted}
-use Rattle.std.proofs.lemmas.Map.Views.{IfSome-lookup_from_All}
 use Rattle.piece_ring.specs.declared.piece.Look.{Look}
-use Rattle.piece_ring.specs.declared.piece.Piece.{Piece}
 use Rattle.piece_ring.specs.Flat.{flat}
-use Rattle.piece_ring.specs.Offsets.{AreWithin}
 use Rattle.piece_ring.specs.Text.{Text}
 use Rattle.screen_cells.specs.Bytes.{space}
 use Rattle.viewer_tracks.specs.declared.display.Track.{Track}
@@ -36,43 +31,14 @@ use Rattle.event_loop_laws.specs.declared.viewer.Selection.{Selection}
 use Rattle.event_loop_laws.specs.declared.viewer.Kept.{Kept}
 use Rattle.event_loop_laws.specs.declared.entry.Entry.{Entry}
 use Rattle.event_loop_laws.specs.declared.entry.Entry.TheVariants.{Viewer as ViewerEntry}
-use Rattle.event_loop_laws.specs.Tables.{Texts, numbered}
-use Rattle.event_loop_laws.specs.TableLaws.{lookup_seen, is_some_map, length_seen_text}
+use Rattle.event_loop_laws.specs.TableLaws.{length_seen_text}
 use Rattle.event_loop_laws.specs.Desktop.{KeptDesktop}
 use Rattle.event_loop_laws.specs.Seen.{seen, seen_text, seen_table}
 use Rattle.event_loop_laws.specs.Viewers.{viewer_in, viewer_or_none, text_in}
 use Rattle.event_loop_laws.specs.Change.{bytes_of}
 use Rattle.event_loop_laws.specs.Listing.{name_in, viewer_entry}
-use Rattle.event_loop_laws.specs.Sound.{AllWithin, ArePlaces, AreMarks}
-
--- ---- texts, as they are seen
-
-seen_or_empty : (characters : List ℕ) (found : Option (List Piece))
-    → unwrap_or (option_map (seen_text characters) found) [] ≡ seen_text characters (unwrap_or found [])
-seen_or_empty characters None = refl
-seen_or_empty characters (Some pieces) = refl
-
-pub text_in_seen : (characters : List ℕ) (texts : Texts (List Piece)) (n : ℕ)
-    → text_in (seen_table characters texts) n ≡ seen_text characters (text_in texts n)
-text_in_seen characters texts n =
-    ap (λ (found : Option (Text ℕ)). unwrap_or found []) (lookup_seen (seen_text characters) (is_at (nat_cmp n)) texts)
-    ∙ seen_or_empty characters (numbered texts n)
-
-pub text_there : (characters : List ℕ) (texts : Texts (List Piece)) (n : ℕ)
-    → IsSome (numbered (seen_table characters texts) n) → IsSome (numbered texts n)
-text_there characters texts n there =
-    sym (is_some_map (seen_text characters) (numbered texts n))
-    ∙ ap is_some (sym (lookup_seen (seen_text characters) (is_at (nat_cmp n)) texts)) ∙ there
-
-within_or_empty : (n : ℕ) (found : Option (List Piece)) → IfSome found (λ pieces. AreWithin n (flat pieces))
-    → AreWithin n (flat (unwrap_or found []))
-within_or_empty n None holds = λ i d low. absurd (omega (arith, low))
-within_or_empty n (Some pieces) holds = holds
-
-pub text_within : (n m : ℕ) (texts : Texts (List Piece)) → AllWithin n texts → AreWithin n (flat (text_in texts m))
-text_within n m texts all =
-    within_or_empty n (numbered texts m)
-    (IfSome-lookup_from_All (λ pieces. AreWithin n (flat pieces)) (is_at (nat_cmp m)) texts all)
+use Rattle.event_loop_laws.specs.Sound.{ArePlaces, AreMarks}
+use Rattle.event_loop_laws.specs.TextLaws.{text_in_seen}
 
 -- ---- viewers
 

@@ -21,3 +21,18 @@ pub const NO_FILE: u8 = 5;
 
 /// A point lies outside the display.
 pub const OUTSIDE: u8 = 9;
+
+/// A parameter, or the first symbol of a menu, is of another kind than the command takes; or a list has no name.
+pub const WRONG_SYMBOL: u8 = 3;
+
+/// No viewer is at the marker, or none is kept.
+pub const NO_VIEWER: u8 = 7;
+
+/// What was searched isn't in the text from there on.
+pub const NOT_FOUND: u8 = 10;
+
+/// There is no such font, or the number of a colour or an offset is out of range.
+pub const BAD_VALUE: u8 = 11;
+
+/// A viewer of one row can't be parted.
+pub const TOO_LOW: u8 = 13;

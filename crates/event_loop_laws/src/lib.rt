@@ -7,6 +7,7 @@
 #![tactic(auto)]
 
 mod area;
+mod call;
 pub mod codes;
 mod entry;
 mod laws;
@@ -15,8 +16,12 @@ mod reply;
 mod viewer;
 
 pub use area::Area;
+pub use call::Call;
 pub use entry::{Entry, MenuName};
 pub use laws::{empty_is_sound, more_change_nothing, steps_of_more};
-pub use limits::{MOST_FILES, MOST_HELD, MOST_PATTERN, MOST_WRITTEN};
+pub use limits::{
+    COLOURS, FONTS, GREATEST_OFFSET, LEAST_OFFSET, MOST_FILES, MOST_HELD, MOST_PATTERN,
+    MOST_WRITTEN,
+};
 pub use reply::Reply;
 pub use viewer::{Caret, Kept, Selection, Viewer};

@@ -1,4 +1,3 @@
-pub mod Decimals
 pub mod Ends
 pub mod Escapes
 pub mod Feeds

@@ -9,16 +9,13 @@ ghost use Rattle.screen_cells.specs.Printed.{printed};
 ghost use Rattle.oberon_main.specs.Stretch.{bytes_in, is_in_another, count_in};
 
 use arrayvec::ArrayVec;
-use event_loop::{Entry, Reply};
+use event_loop::{Entry, Reply, decimal_digits};
 use piece_ring::Look;
 use screen_cells::Screen;
 use std::alloc::{AllocError, Global};
 
 /// A line that takes no memory.
 pub type ShortLine = ArrayVec<u8, 64>;
-
-/// The digits of a number.
-pub type Digits = ArrayVec<u8, 10>;
 
 /// A text and a line feed after it.
 pub fn short_line(text: &[u8]) -> ShortLine
@@ -66,21 +63,6 @@ fn numbered(word: &[u8], number: u32) -> ArrayVec<u8, 60>
     text.try_extend_from_slice(decimal_digits(number).as_slice())
         .unwrap();
     text
-}
-
-/// The number in decimal digits, without leading zeros.
-#[tactic(auto, using(crate::proofs::Decimals::digit_steps))]
-pub fn decimal_digits(number: u32) -> Digits
-    ensures { result.items ≡ decimal number }
-{
-    if number < 10 {
-        let mut digits = Digits::new();
-        digits.push(b'0' + number as u8);
-        return digits;
-    }
-    let mut digits = decimal_digits(number / 10);
-    digits.push(b'0' + (number % 10) as u8);
-    digits
 }
 
 /// The lines of a file's text: one for each longest stretch of one look, and `end`.

@@ -5,11 +5,12 @@ ghost use Rattle.oberon_main.specs.declared.playing.PlayEnd.TheVariants as ends;
 ghost use Rattle.screen_cells.specs.Sent.{AppendsFront};
 ghost use Rattle.oberon_main.specs.Report.{check_line, refusal_line, refusal_status, end_status};
 
-use crate::answer::{ShortLine, decimal_digits, numbered_line, short_line};
+use crate::answer::{ShortLine, numbered_line, short_line};
 use crate::playing::PlayEnd;
 use crate::sending::{OutputFault, send};
 use arrayvec::ArrayVec;
 use desk_journal::{Error, Store};
+use event_loop::decimal_digits;
 use sector_disk::Disk;
 use std::io::Write;
 

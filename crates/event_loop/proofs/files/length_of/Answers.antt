@@ -1,12 +1,10 @@
-use Rattle.std.proofs.Common.{sym}
-use Rattle.event_loop_laws.specs.TableLaws.{gone_none, gone_some}
+use Rattle.std.proofs.Common.{◌+◌, ◌∙◌, ap}
+use Rattle.event_loop_laws.specs.Tables.{put, lengths}
+use Rattle.event_loop_laws.specs.TableLaws.{gone_size}
+use Rattle.event_loop_laws.specs.Seen.{seen_table}
 use Rattle.event_loop.proofs.files.length_of.Goals as goal
 
-pub returns-in-None : goal.returns-in-None
-returns-in-None c = λ characters text.
-    gone_none c.args.files.now.entries c.args.name.now characters text c.len.ensures.ordered (sym c.in-None.ensures)
-
-pub returns-in-Some : goal.returns-in-Some
-returns-in-Some c = λ characters text.
-    gone_some c.args.files.now.entries c.args.name.now characters text c.len.ensures.ordered c.in-Some.text.now
-    c.len-in-Some.result (sym c.in-Some.ensures) c.len-in-Some.ensures
+pub returns : goal.returns
+returns c = λ characters text.
+    ap (λ n. lengths (put (seen_table characters c.args.files.now.entries) c.args.name.now text) + n) c.size_of.ensures
+    ∙ gone_size c.args.files.now.entries c.args.name.now characters text c.len.ensures.ordered

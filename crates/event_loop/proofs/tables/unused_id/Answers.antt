@@ -1,4 +1,4 @@
-use Rattle.std.proofs.Common.{ℕ, ◌==◌, not, length, unwrap_or, ap, ◌∙◌, arith, rules, tests}
+use Rattle.std.proofs.Common.{◌==◌, not, length, unwrap_or, ap, ◌∙◌, arith, rules, tests}
 use Rattle.std.specs.List.{list_any}
 use Rattle.std.proofs.lemmas.Iterator.{YieldsList-from_range}
 use Rattle.std.proofs.lemmas.Iterator.Search.{position_from_yields_List}

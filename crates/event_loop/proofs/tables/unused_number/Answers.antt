@@ -1,4 +1,4 @@
-use Rattle.std.proofs.Common.{ℕ, not, length, unwrap_or, is_some, ap, ◌∙◌, arith, rules, tests}
+use Rattle.std.proofs.Common.{ℕ, not, unwrap_or, is_some, ap, ◌∙◌, arith, rules, tests}
 use Rattle.std.specs.List.{position_or_len, range_with_len}
 use Rattle.std.specs.Map.{lookup}
 use Rattle.std.specs.Ordering.{nat_cmp}

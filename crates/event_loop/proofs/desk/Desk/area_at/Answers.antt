@@ -1,4 +1,4 @@
-use Rattle.std.proofs.Common.{◌≡◌, ◌∙◌, ◌+◌, ap, if◌then◌else◌}
+use Rattle.std.proofs.Common.{◌∙◌, ◌+◌, ap, if◌then◌else◌}
 use Rattle.std.specs.Prelude.{◌==◌}
 use Rattle.event_loop_laws.specs.declared.area.Area.TheVariants.{Menu, Bar, Body}
 use Rattle.event_loop_laws.specs.Gesture.{area_at, part_of}

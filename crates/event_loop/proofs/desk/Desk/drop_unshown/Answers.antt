@@ -1,7 +1,5 @@
 use Rattle.std.proofs.Common.{rules}
 use Rattle.std.proofs.lemmas.Map.Made.{filter_same_pairs}
-use Rattle.piece_ring.specs.declared.piece.Piece.{Piece}
-use Rattle.event_loop_laws.specs.Tables.{Texts}
 use Rattle.event_loop_laws.specs.Opening.{is_shown, dropped}
 use Rattle.event_loop.specs.Kept.{kept}
 use Rattle.event_loop.proofs.desk.Desk.drop_unshown.Goals as goal

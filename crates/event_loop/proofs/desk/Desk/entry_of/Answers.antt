@@ -10,7 +10,8 @@ use Rattle.event_loop_laws.specs.Tables.{numbered}
 use Rattle.event_loop_laws.specs.Viewers.{text_in}
 use Rattle.event_loop_laws.specs.Listing.{name_in}
 use Rattle.event_loop_laws.specs.SeenLaws.{within_counted}
-use Rattle.event_loop_laws.specs.ViewLaws.{text_within, viewer_entry_seen}
+use Rattle.event_loop_laws.specs.ViewLaws.{viewer_entry_seen}
+use Rattle.event_loop_laws.specs.TextLaws.{text_within}
 use Rattle.event_loop.specs.Kept.{kept}
 use Rattle.event_loop.proofs.ViewLemmas.{menu_there, main_there}
 use Rattle.event_loop.proofs.desk.Desk.entry_of.Goals as goal
@@ -30,7 +31,7 @@ menu_name-requires g c =
     let d = kept c.args.self.now in
     let n = length (g.S.CharSource.characters c.args.source.now) in
     subst (λ (pieces : List Piece). AreWithin n (flat pieces)) (sym c.text_there-menu.ensures)
-    (text_within n c.viewer_or_none-viewer.result.menu d.texts
+    (text_within n d.texts c.viewer_or_none-viewer.result.menu
     (within_counted (g.S.CharSource.characters c.args.source.now) d c.requires.over).texts)
 
 pub returns-clause-entry : goal.returns-clause-entry

@@ -1,6 +1,6 @@
 use Rattle.event_loop_laws.specs.KeyLaws.{escape_answered}
 use Rattle.event_loop_laws.specs.Keys.{escaped}
-use Rattle.std.proofs.Common.{sym, subst, List, None, ◌≡◌}
+use Rattle.std.proofs.Common.{sym, subst, List, None}
 use Rattle.event_loop_laws.specs.declared.viewer.Selection.{Selection}
 use Rattle.event_loop_laws.specs.declared.reply.Reply.TheVariants.{Done}
 use Rattle.event_bytes.specs.declared.keys.Key.TheVariants.{Escape}

@@ -1,4 +1,4 @@
-use Rattle.std.proofs.Common.{◌≡◌, ◌+◌, ◌&&◌, ◌∙◌, nat_le}
+use Rattle.std.proofs.Common.{◌+◌, ◌&&◌, ◌∙◌, nat_le}
 use Rattle.event_loop_laws.specs.Limits.{most_written, most_held}
 use Rattle.event_loop_laws.specs.Seen.{seen}
 use Rattle.event_loop_laws.specs.RowLaws.{has_space}

@@ -1,4 +1,4 @@
-use Rattle.std.proofs.Common.{[], arith, refl, ◌+◌, ◌≡◌, ◌==◌, ◌||◌, ℕ, ◌≤◌}
+use Rattle.std.proofs.Common.{[], arith, refl}
 use Rattle.viewer_tracks.specs.Viewers.{number_of}
 use Rattle.event_loop_laws.specs.Desktop.{held}
 use Rattle.event_loop_laws.specs.Seen.{seen}

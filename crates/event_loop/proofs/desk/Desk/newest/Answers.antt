@@ -1,4 +1,4 @@
-use Rattle.std.proofs.Common.{◌≡◌, ◌-◌, ◌∙◌, ap, List, length, None}
+use Rattle.std.proofs.Common.{◌-◌, ◌∙◌, ap, List, length}
 use Rattle.std.specs.Prelude.{slice_get}
 use Rattle.event_loop_laws.specs.declared.viewer.Selection.{Selection}
 use Rattle.event_loop_laws.specs.RowPartLaws.{last_newest}

@@ -1,5 +1,4 @@
-use Rattle.std.proofs.Common.{Option, ℕ, sym, ap, ◌∙◌}
-use Rattle.viewer_tracks.specs.Columns.{Columns}
+use Rattle.std.proofs.Common.{ap, ◌∙◌}
 use Rattle.event_loop_laws.specs.Opening.{dropped}
 use Rattle.event_loop_laws.specs.Viewers.{without_viewer, opened_at}
 use Rattle.event_loop_laws.specs.PlacedLaws.{at_columns}

@@ -1,12 +1,13 @@
-use Rattle.std.proofs.Common.{◌≡◌, ◌+◌, ℕ, Option, length, refl, ap, ◌∙◌, arith}
-use Rattle.std.specs.Map.{keys_of}
+use Rattle.std.proofs.Common.{◌≡◌, ◌+◌, ℕ, Option, length, refl, sym, ap, ◌∙◌, arith}
 use Rattle.viewer_tracks.specs.Columns.{after_open, replaced_at}
 use Rattle.event_loop_laws.specs.Desktop.{held}
-use Rattle.event_loop_laws.specs.Opening.{least_unused, dropped}
+use Rattle.event_loop_laws.specs.Opening.{dropped}
 use Rattle.event_loop_laws.specs.Viewers.{without_viewer}
 use Rattle.event_loop_laws.specs.Seen.{seen}
+use Rattle.event_loop_laws.specs.OpenedLaws.{new_id, held_opening}
+use Rattle.event_loop_laws.specs.OpeningDone.{new_fresh, whole_columns, fits_opening}
 use Rattle.event_loop.specs.Kept.{kept}
-use Rattle.event_loop.proofs.OpeningLemmas.{new_fresh, not_taken, fits_opening, whole_columns}
+use Rattle.event_loop.proofs.OpeningLemmas.{not_taken}
 use Rattle.event_loop.proofs.desk.Desk.opening_fits.Goals as goal
 
 pub returns-clause-fits : goal.returns-clause-fits
@@ -14,7 +15,7 @@ unfolding seen
 returns-clause-fits c = λ characters menu main menu_long main_long.
     let d = kept c.args.self.now in
     let x = seen characters d in
-    let v = least_unused (keys_of d.viewers) in
+    let v = new_id d in
     let there = replaced_at d.columns c.args.x c.args.y in
     let apart = not_taken d.columns (after_open d.columns (v + 1) c.args.x c.args.y) v there
     (new_fresh d c.requires.whole)
@@ -26,4 +27,5 @@ returns-clause-fits c = λ characters menu main menu_long main_long.
     ≡ held (dropped (without_viewer x there)) + length main + length menu = omega (arith, left, menu_long, main_long) in
     c.within_limits.ensures
     ∙ fits_opening x menu main (c.args.x, c.args.y) (c.args.self.now.written + c.args.menu)
-    (c.held_without.result + c.args.main + c.args.menu) c.args.menu apart refl all
+    (c.held_without.result + c.args.main + c.args.menu) c.args.menu refl
+    (all ∙ sym (held_opening x menu (c.args.x, c.args.y) apart main))

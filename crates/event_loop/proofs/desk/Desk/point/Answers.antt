@@ -1,4 +1,4 @@
-use Rattle.std.proofs.Common.{◌∙◌, refl, sym, arith}
+use Rattle.std.proofs.Common.{◌∙◌, refl, sym}
 use Rattle.std.specs.Prelude.{◌&&◌}
 use Rattle.event_loop_laws.specs.declared.area.Area.TheVariants.{Filler, Menu, Bar, Body}
 use Rattle.event_loop_laws.specs.Gesture.{is_on_display}

@@ -1,7 +1,7 @@
 use Rattle.event_loop.specs.Mouse.{done_in_menu}
 use Rattle.event_loop.specs.Kept.{kept}
 use Rattle.event_loop.proofs.ReadLemmas.{rest_done}
-use Rattle.event_loop.proofs.GestureLemmas.{menu_rest, no_command_answered}
+use Rattle.event_loop.proofs.GestureLemmas.{menu_rest}
 use Rattle.event_loop.proofs.desk.Desk.point_menu.Goals as goal
 
 pub returns-in-Left-clause-answered : goal.returns-in-Left-clause-answered
@@ -17,11 +17,7 @@ returns-in-LeftMiddle-clause-answered g c =
 pub returns-in-Middle-clause-answered : goal.returns-in-Middle-clause-answered
 unfolding done_in_menu
 returns-in-Middle-clause-answered g c =
-    let s = g.S.CharSource in
-    let old = s.characters c.args.source.now in
-    let d = kept c.args.self.now in
-    rw c.in-Middle.is
-    (no_command_answered (s.honest c.args.source.now) old d c.requires.over)
+    rw c.in-Middle.is c.call_in_menu.ensures.answered
 
 pub returns-in_default-clause-answered : goal.returns-in_default-clause-answered
 returns-in_default-clause-answered g c =

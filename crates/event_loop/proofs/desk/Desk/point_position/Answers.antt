@@ -19,6 +19,11 @@ unfolding done_at
 returns-in-LeftRight-clause-answered g c =
     rw c.in-LeftRight.is c.take_looks.ensures.answered
 
+pub returns-in-Middle-clause-answered : goal.returns-in-Middle-clause-answered
+unfolding done_at
+returns-in-Middle-clause-answered g c =
+    rw c.in-Middle.is c.call.ensures.answered
+
 pub returns-in_default-clause-answered : goal.returns-in_default-clause-answered
 returns-in_default-clause-answered g c =
     let s = g.S.CharSource in
@@ -26,4 +31,4 @@ returns-in_default-clause-answered g c =
     let d = kept c.args.self.now in
     rest_done (s.honest c.args.source.now) old d _ c.requires.over
     (at_rest _ c.args.keys c.args.id c.args.pos c.in_default.not-Left c.in_default.not-LeftMiddle
-    c.in_default.not-LeftRight)
+    c.in_default.not-LeftRight c.in_default.not-Middle)

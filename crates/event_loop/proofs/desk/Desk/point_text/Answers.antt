@@ -1,19 +1,8 @@
-use Rattle.event_loop_laws.specs.Gesture.{pointed}
 use Rattle.event_loop_laws.specs.Seen.{seen}
 use Rattle.event_loop.specs.Kept.{kept}
-use Rattle.event_loop.proofs.GestureLemmas.{pointed_at, pointed_with, pointed_rest, no_command_answered}
+use Rattle.event_loop.proofs.GestureLemmas.{pointed_at, pointed_with, pointed_rest}
 use Rattle.event_loop.proofs.ReadLemmas.{outcome_as, rest_done}
 use Rattle.event_loop.proofs.desk.Desk.point_text.Goals as goal
-
-pub returns-in-Middle-clause-answered : goal.returns-in-Middle-clause-answered
-unfolding pointed
-returns-in-Middle-clause-answered g c =
-    let s = g.S.CharSource in
-    let old = s.characters c.args.source.now in
-    let d = kept c.args.self.now in
-    rw c.in-Middle.is
-    (no_command_answered (s.honest c.args.source.now) old
-    d c.requires.over)
 
 pub returns-in-Left-clause-answered : goal.returns-in-Left-clause-answered
 returns-in-Left-clause-answered g c =

@@ -1,10 +1,10 @@
-use Rattle.std.proofs.Common.{◌+◌, ◌∙◌, ℕ, List, length, refl, sym, ap, subst, rules}
+use Rattle.std.proofs.Common.{◌+◌, ◌∙◌, ℕ, List, length, sym, ap, subst, rules}
 use Rattle.event_bytes.specs.declared.event.Event.TheVariants.{File}
 use Rattle.event_loop_laws.specs.declared.reply.Reply.TheVariants.{Done}
 use Rattle.piece_ring.specs.Look.{default_look}
 use Rattle.event_loop_laws.specs.Limits.{full, too_many_files}
 use Rattle.event_loop_laws.specs.Seen.{seen}
-use Rattle.event_loop_laws.specs.Step.{step}
+use Rattle.event_loop_laws.specs.Step.{step, step_in}
 use Rattle.event_loop_laws.specs.Change.{plain}
 use Rattle.event_loop_laws.specs.StepLaws.{file_no_room, file_full}
 use Rattle.event_loop_laws.specs.Outcome.{IsAnswered}
@@ -13,7 +13,7 @@ use Rattle.event_loop.specs.Kept.{kept}
 use Rattle.event_loop.proofs.desk.Desk.put_file.Goals as goal
 
 pub returns-then-not-has_room-clause-answered : goal.returns-then-not-has_room-clause-answered
-unfolding seen
+unfolding seen step step_in
 returns-then-not-has_room-clause-answered g c =
     let old = g.S.CharSource.characters c.args.source.now in
     let d = kept c.args.self.now in
@@ -22,7 +22,7 @@ returns-then-not-has_room-clause-answered g c =
     (sym (c.has_room.ensures old) ∙ c.if-not-has_room.true))
 
 pub returns-then-not-file_fits-clause-answered : goal.returns-then-not-file_fits-clause-answered
-unfolding seen
+unfolding seen step step_in
 returns-then-not-file_fits-clause-answered g c =
     let old = g.S.CharSource.characters c.args.source.now in
     let d = kept c.args.self.now in
@@ -34,7 +34,7 @@ returns-then-not-file_fits-clause-answered g c =
     (length_in_look default_look bytes ∙ ap length (sym c.as_bytes-bytes.ensures.value))) ∙ c.if-not-file_fits.true))
 
 pub returns-clause-answered : goal.returns-clause-answered
-unfolding seen
+unfolding seen step step_in
 returns-clause-answered g c =
     let old = g.S.CharSource.characters c.args.source.now in
     let new = g.S.CharSource.characters c.append.new.self in

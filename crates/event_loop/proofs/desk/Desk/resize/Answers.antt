@@ -1,5 +1,5 @@
-use Rattle.std.proofs.Common.{◌≡◌, ◌+◌, ℕ, None, Ok, sym, subst, arith}
-use Rattle.viewer_tracks.specs.Columns.{Columns, IsColumns, times_placed, times_meant}
+use Rattle.std.proofs.Common.{◌+◌, Ok, sym, subst, arith}
+use Rattle.viewer_tracks.specs.Columns.{Columns, IsColumns}
 use Rattle.event_loop_laws.specs.declared.reply.Reply.TheVariants.{Done}
 use Rattle.event_loop_laws.specs.Gesture.{resized}
 use Rattle.event_loop_laws.specs.Seen.{seen}

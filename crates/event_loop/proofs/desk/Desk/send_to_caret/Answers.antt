@@ -1,4 +1,4 @@
-use Rattle.std.proofs.Common.{◌≡◌, ◌∙◌, ℕ, length, sym, subst, arith}
+use Rattle.std.proofs.Common.{◌≡◌, ◌∙◌, length, sym, subst, arith}
 use Rattle.piece_ring.specs.Flat.{flat}
 use Rattle.piece_ring.specs.Offsets.{AreWithin, stretch-AreWithin}
 use Rattle.event_loop_laws.specs.Limits.{no_selection, no_caret}

@@ -1,5 +1,4 @@
-use Rattle.std.proofs.Common.{◌∙◌, ℕ, List, Some, None, if◌then◌else◌, sym, ap, length, arith}
-use Rattle.piece_ring.specs.declared.piece.Piece.{Piece}
+use Rattle.std.proofs.Common.{◌∙◌, ℕ, List, Some, None, if◌then◌else◌, sym, ap, arith}
 use Rattle.piece_ring.specs.Flat.{flat}
 use Rattle.readers_scanners.specs.Reading.{bytes}
 use Rattle.text_frames.specs.Cells.{cell_of}

@@ -4,19 +4,21 @@ use Rattle.event_loop_laws.specs.declared.reply.Reply.{Reply}
 use Rattle.event_loop_laws.specs.declared.reply.Reply.TheVariants.{No}
 use Rattle.event_loop_laws.specs.Desktop.{KeptDesktop}
 use Rattle.event_loop_laws.specs.Seen.{seen}
-use Rattle.event_loop_laws.specs.Step.{step}
+use Rattle.event_loop_laws.specs.Step.{step, step_in}
 use Rattle.event_loop_laws.specs.Outcome.{IsAnswered, IsUnchanged}
 use Rattle.event_loop.specs.declared.stop.Stop.{Stop}
 use Rattle.event_loop.specs.Kept.{kept}
 use Rattle.event_loop.proofs.desktop.Desktop.step.Goals as goal
 
 pub returns-clause-done : goal.returns-clause-done
+unfolding step step_in
 returns-clause-done g c = IfOk-weaker c.act.result _ _ (λ reply answered. λ honest.
     answered.exact honest
     ∙ ap (λ (d : KeptDesktop). step
     (seen (g.S.CharSource.characters c.args.source.now) d) c.args.event.now) c.self.view_is) c.act.ensures.answered
 
 pub returns-clause-refusal : goal.returns-clause-refusal
+unfolding step step_in
 returns-clause-refusal g c = λ code is.
     let old = g.S.CharSource.characters c.args.source.now in
     let new = g.S.CharSource.characters c.act.new.source in

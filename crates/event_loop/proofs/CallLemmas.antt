@@ -1,0 +1,150 @@
+-- What commands do, by what they take.
+use Rattle.std.specs.Prelude.{◌≡◌, ◌⊎◌, ℕ, ℤ, Bool, List, Option, Some, None, Result, Ok, Err}
+use Rattle.std.specs.Option.{ok_or}
+use Rattle.std.proofs.Common.{refl, sym, ap, ◌∙◌, inl, inr}
+use Rattle.readers_scanners.specs.declared.symbol.Symbol.{Symbol}
+use Rattle.command_table.specs.Parameters.{name_in}
+use Rattle.command_table.specs.declared.command.Command.{Command}
+use Rattle.command_table.specs.declared.command.Command.TheVariants.{EditOpen, SystemOpen, SystemClose, SystemCopy}
+use Rattle.command_table.specs.declared.command.Command.TheVariants.{SystemSetFont, SystemSetColor, SystemSetOffset}
+use Rattle.command_table.specs.declared.command.Command.TheVariants.{EditChangeFont, EditChangeColor}
+use Rattle.command_table.specs.declared.command.Command.TheVariants.{EditChangeOffset, EditStore, EditSearch}
+use Rattle.event_loop_laws.specs.declared.call.Call.{Call}
+use Rattle.event_loop_laws.specs.Limits.{first_version, no_command, wrong_symbol, no_viewer}
+use Rattle.event_loop_laws.specs.Needs.{needs, given}
+use Rattle.event_loop_laws.specs.Desktop.{Desktop, KeptDesktop}
+use Rattle.event_loop_laws.specs.Change.{bytes_of}
+use Rattle.event_loop_laws.specs.Seen.{seen}
+use Rattle.event_loop_laws.specs.Call.{text_called, meant, number_in, value_of, name_of, number_of}
+use Rattle.event_loop_laws.specs.Commands.{command_at, commanded, called}
+use Rattle.event_loop.specs.Calls.{done_with_name, done_with_number, done_with_viewer}
+
+-- ---- the rows, by what they take
+
+pub row_with_name : (d : Desktop) (command : Command) (call : Call)
+    → (command ≡ EditOpen) ⊎ ((command ≡ SystemOpen) ⊎ ((command ≡ SystemSetFont) ⊎ (command ≡ EditChangeFont)))
+    → given (name_of d call) (done_with_name d command) ≡ commanded d command call
+unfolding commanded done_with_name
+row_with_name d command call is = elim is [
+  | inl a ↦ rw a refl
+  | inr other ↦ elim other [
+    | inl b ↦ rw b refl
+    | inr more ↦ elim more [ inl e ↦ rw e refl | inr f ↦ rw f refl ]
+  ]
+]
+
+pub row_with_number : (d : Desktop) (command : Command) (call : Call)
+    → (command ≡ SystemSetColor) ⊎ ((command ≡ SystemSetOffset) ⊎ ((command ≡ EditChangeColor)
+    ⊎ (command ≡ EditChangeOffset)))
+    → given (number_of d call) (done_with_number d command) ≡ commanded d command call
+unfolding commanded done_with_number
+row_with_number d command call is = elim is [
+  | inl a ↦ rw a refl
+  | inr other ↦ elim other [
+    | inl b ↦ rw b refl
+    | inr more ↦ elim more [ inl e ↦ rw e refl | inr f ↦ rw f refl ]
+  ]
+]
+
+pub row_with_viewer : (d : Desktop) (command : Command) (call : Call)
+    → (command ≡ SystemClose) ⊎ ((command ≡ SystemCopy) ⊎ ((command ≡ EditStore) ⊎ (command ≡ EditSearch)))
+    → needs (meant d call) no_viewer (done_with_viewer d command) ≡ commanded d command call
+unfolding commanded done_with_viewer
+row_with_viewer d command call is = elim is [
+  | inl a ↦ rw a refl
+  | inr other ↦ elim other [
+    | inl b ↦ rw b refl
+    | inr more ↦ elim more [ inl e ↦ rw e refl | inr f ↦ rw f refl ]
+  ]
+]
+
+-- ---- what isn't among them
+
+pub name_rest : (d : Desktop) (command : Command) (name : List ℕ) → ¬ (command ≡ EditOpen) → ¬ (command ≡ SystemOpen)
+    → ¬ (command ≡ SystemSetFont) → ¬ (command ≡ EditChangeFont) → done_with_name d command name ≡ Ok d
+unfolding done_with_name
+name_rest d EditOpen name a b e f = absurd (a refl)
+name_rest d SystemOpen name a b e f = absurd (b refl)
+name_rest d SystemSetFont name a b e f = absurd (e refl)
+name_rest d EditChangeFont name a b e f = absurd (f refl)
+name_rest d command name a b e f = refl
+
+pub number_rest : (d : Desktop) (command : Command) (z : ℤ) → ¬ (command ≡ SystemSetColor)
+    → ¬ (command ≡ SystemSetOffset) → ¬ (command ≡ EditChangeColor) → ¬ (command ≡ EditChangeOffset)
+    → done_with_number d command z ≡ Ok d
+unfolding done_with_number
+number_rest d SystemSetColor z a b e f = absurd (a refl)
+number_rest d SystemSetOffset z a b e f = absurd (b refl)
+number_rest d EditChangeColor z a b e f = absurd (e refl)
+number_rest d EditChangeOffset z a b e f = absurd (f refl)
+number_rest d command z a b e f = refl
+
+pub viewer_rest : (d : Desktop) (command : Command) (v : ℕ) → ¬ (command ≡ SystemClose) → ¬ (command ≡ SystemCopy)
+    → ¬ (command ≡ EditStore) → ¬ (command ≡ EditSearch) → done_with_viewer d command v ≡ Ok d
+unfolding done_with_viewer
+viewer_rest d SystemClose v a b e f = absurd (a refl)
+viewer_rest d SystemCopy v a b e f = absurd (b refl)
+viewer_rest d EditStore v a b e f = absurd (e refl)
+viewer_rest d EditSearch v a b e f = absurd (f refl)
+viewer_rest d command v a b e f = refl
+
+-- ---- the symbol after the word
+
+same_wanted : {A : Type 0} (o : Option A) → ok_or o wrong_symbol ≡ needs o wrong_symbol (λ a. Ok a)
+same_wanted None = refl
+same_wanted (Some a) = refl
+
+pub name_found : (d : Desktop) (call : Call) (symbol : Symbol) → Ok symbol ≡ value_of d call
+    → ok_or (name_in symbol) wrong_symbol ≡ name_of d call
+unfolding name_of
+name_found d call symbol is =
+    same_wanted (name_in symbol)
+    ∙ ap (λ (r : Result Symbol ℕ). given r (λ s. needs (name_in s) wrong_symbol (λ name. Ok name))) is
+
+pub name_refused : (d : Desktop) (call : Call) (code : ℕ) → Err code ≡ value_of d call → Err code ≡ name_of d call
+unfolding name_of
+name_refused d call code is =
+    ap (λ (r : Result Symbol ℕ). given r (λ s. needs (name_in s) wrong_symbol (λ name. Ok name))) is
+
+pub number_found : (d : Desktop) (call : Call) (symbol : Symbol) → Ok symbol ≡ value_of d call
+    → ok_or (number_in symbol) wrong_symbol ≡ number_of d call
+unfolding number_of
+number_found d call symbol is =
+    same_wanted (number_in symbol)
+    ∙ ap (λ (r : Result Symbol ℕ). given r (λ s. needs (number_in s) wrong_symbol (λ z. Ok z))) is
+
+pub number_refused : (d : Desktop) (call : Call) (code : ℕ) → Err code ≡ value_of d call
+    → Err code ≡ number_of d call
+unfolding number_of
+number_refused d call code is =
+    ap (λ (r : Result Symbol ℕ). given r (λ s. needs (number_in s) wrong_symbol (λ z. Ok z))) is
+
+-- ---- the viewer that is meant
+
+pub meant_row : (characters : List ℕ) (d : KeptDesktop) (command : Command) (call : Call) (found : Option ℕ) (v : ℕ)
+    → found ≡ Some v → found ≡ meant d call
+    → done_with_viewer (seen characters d) command v
+    ≡ needs (meant (seen characters d) call) no_viewer (done_with_viewer (seen characters d) command)
+unfolding seen
+meant_row characters d command call found v is found_is =
+    λ k. needs ((sym is ∙ found_is) k) no_viewer (done_with_viewer (seen characters d) command)
+
+pub meant_none : (characters : List ℕ) (d : KeptDesktop) (command : Command) (call : Call) (found : Option ℕ)
+    → found ≡ None → found ≡ meant d call
+    → needs (meant (seen characters d) call) no_viewer (done_with_viewer (seen characters d) command) ≡ Err no_viewer
+unfolding seen
+meant_none characters d command call found is found_is =
+    λ k. needs ((sym found_is ∙ is) k) no_viewer (done_with_viewer (seen characters d) command)
+
+-- ---- the word that is called
+
+-- what a call does, by the command that was found and the position after its word
+abbrev pub called_by : ℕ → Bool → Desktop → Option (Command × ℕ) → Result Desktop ℕ
+called_by v in_menu x found =
+    needs found no_command (λ f. commanded x f.0 (record { viewer = v; in_menu = in_menu; after = f.1 }))
+
+pub called_none : (x : Desktop) (v : ℕ) (in_menu : Bool) (p : ℕ) (found : Option (Command × ℕ)) → found ≡ None
+    → found ≡ command_at first_version (bytes_of (text_called x v in_menu)) p
+    → called first_version x v in_menu p ≡ Err no_command
+unfolding called
+called_none x v in_menu p found is found_is = λ k. called_by v in_menu x ((sym found_is ∙ is) k)

@@ -1,0 +1,12 @@
+//! Calls of commands.
+
+/// A call: the word of a command stood in a text of a viewer.
+#[derive(Clone, Copy, Debug, PartialEq, Eq)]
+pub struct Call {
+    /// The viewer's id.
+    pub viewer: u8,
+    /// Whether it stood in the menu; otherwise in the main text.
+    pub in_menu: bool,
+    /// The position after the word, where the parameters begin.
+    pub after: u32,
+}
