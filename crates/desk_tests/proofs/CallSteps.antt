@@ -373,7 +373,11 @@ limits =
     refused nearly_full (Point Middle 52 15 52 15) no_file ∷
     []
 
-pub calls_are_done : map replied calls ≡ map wanted calls
+-- all of them
+abbrev pub all_calls : List Case
+all_calls = calls ++ more_calls ++ bare_calls ++ more_bare_calls ++ low_calls ++ menu_calls ++ lists ++ limits
+
+pub calls_are_done : map replied all_calls ≡ map wanted all_calls
 unfolding area_at resized carried text_position scrolled_to_row scrolled_to_share drawn_in copied_to looks_taken
     taken_out sent_to_caret tool_opened pointed opening opening_on dropped opened_at after_change insertion deletion
     looks_set showing filed marked settled raw step_in step file_of held typed escaped pressed viewer_at opened
@@ -383,80 +387,3 @@ unfolding area_at resized carried text_position scrolled_to_row scrolled_to_shar
     files_deleted stored look_set selection_set searched commanded names_on value names form symbol is_blank is_inside
     number_of digits free_row
 calls_are_done = refl
-
-pub more_calls_are_done : map replied more_calls ≡ map wanted more_calls
-unfolding area_at resized carried text_position scrolled_to_row scrolled_to_share drawn_in copied_to looks_taken
-    taken_out sent_to_caret tool_opened pointed opening opening_on dropped opened_at after_change insertion deletion
-    looks_set showing filed marked settled raw step_in step file_of held typed escaped pressed viewer_at opened
-    replaced changed closed track_of after_open after_close columns_changed called menu_position word_begin called_at
-    commands command_named is_name_byte is_letter is_digit logged all_logged value_of name_of number_called names_of
-    file_opened document_opened log_opened put_away brought_back viewer_copied log_cleared directory_logged
-    files_deleted stored look_set selection_set searched commanded names_on value names form symbol is_blank is_inside
-    number_of digits free_row
-more_calls_are_done = refl
-
-pub bare_calls_are_done : map replied bare_calls ≡ map wanted bare_calls
-unfolding area_at resized carried text_position scrolled_to_row scrolled_to_share drawn_in copied_to looks_taken
-    taken_out sent_to_caret tool_opened pointed opening opening_on dropped opened_at after_change insertion deletion
-    looks_set showing filed marked settled raw step_in step file_of held typed escaped pressed viewer_at opened
-    replaced changed closed track_of after_open after_close columns_changed called menu_position word_begin called_at
-    commands command_named is_name_byte is_letter is_digit logged all_logged value_of name_of number_called names_of
-    file_opened document_opened log_opened put_away brought_back viewer_copied log_cleared directory_logged
-    files_deleted stored look_set selection_set searched commanded names_on value names form symbol is_blank is_inside
-    number_of digits free_row
-bare_calls_are_done = refl
-
-pub more_bare_calls_are_done : map replied more_bare_calls ≡ map wanted more_bare_calls
-unfolding area_at resized carried text_position scrolled_to_row scrolled_to_share drawn_in copied_to looks_taken
-    taken_out sent_to_caret tool_opened pointed opening opening_on dropped opened_at after_change insertion deletion
-    looks_set showing filed marked settled raw step_in step file_of held typed escaped pressed viewer_at opened
-    replaced changed closed track_of after_open after_close columns_changed called menu_position word_begin called_at
-    commands command_named is_name_byte is_letter is_digit logged all_logged value_of name_of number_called names_of
-    file_opened document_opened log_opened put_away brought_back viewer_copied log_cleared directory_logged
-    files_deleted stored look_set selection_set searched commanded names_on value names form symbol is_blank is_inside
-    number_of digits free_row
-more_bare_calls_are_done = refl
-
-pub low_calls_are_done : map replied low_calls ≡ map wanted low_calls
-unfolding area_at resized carried text_position scrolled_to_row scrolled_to_share drawn_in copied_to looks_taken
-    taken_out sent_to_caret tool_opened pointed opening opening_on dropped opened_at after_change insertion deletion
-    looks_set showing filed marked settled raw step_in step file_of held typed escaped pressed viewer_at opened
-    replaced changed closed track_of after_open after_close columns_changed called menu_position word_begin called_at
-    commands command_named is_name_byte is_letter is_digit logged all_logged value_of name_of number_called names_of
-    file_opened document_opened log_opened put_away brought_back viewer_copied log_cleared directory_logged
-    files_deleted stored look_set selection_set searched commanded names_on value names form symbol is_blank is_inside
-    number_of digits free_row
-low_calls_are_done = refl
-
-pub menu_calls_are_done : map replied menu_calls ≡ map wanted menu_calls
-unfolding area_at resized carried text_position scrolled_to_row scrolled_to_share drawn_in copied_to looks_taken
-    taken_out sent_to_caret tool_opened pointed opening opening_on dropped opened_at after_change insertion deletion
-    looks_set showing filed marked settled raw step_in step file_of held typed escaped pressed viewer_at opened
-    replaced changed closed track_of after_open after_close columns_changed called menu_position word_begin called_at
-    commands command_named is_name_byte is_letter is_digit logged all_logged value_of name_of number_called names_of
-    file_opened document_opened log_opened put_away brought_back viewer_copied log_cleared directory_logged
-    files_deleted stored look_set selection_set searched commanded names_on value names form symbol is_blank is_inside
-    number_of digits free_row
-menu_calls_are_done = refl
-
-pub lists_are_done : map replied lists ≡ map wanted lists
-unfolding area_at resized carried text_position scrolled_to_row scrolled_to_share drawn_in copied_to looks_taken
-    taken_out sent_to_caret tool_opened pointed opening opening_on dropped opened_at after_change insertion deletion
-    looks_set showing filed marked settled raw step_in step file_of held typed escaped pressed viewer_at opened
-    replaced changed closed track_of after_open after_close columns_changed called menu_position word_begin called_at
-    commands command_named is_name_byte is_letter is_digit logged all_logged value_of name_of number_called names_of
-    file_opened document_opened log_opened put_away brought_back viewer_copied log_cleared directory_logged
-    files_deleted stored look_set selection_set searched commanded names_on value names form symbol is_blank is_inside
-    number_of digits free_row
-lists_are_done = refl
-
-pub limits_are_done : map replied limits ≡ map wanted limits
-unfolding area_at resized carried text_position scrolled_to_row scrolled_to_share drawn_in copied_to looks_taken
-    taken_out sent_to_caret tool_opened pointed opening opening_on dropped opened_at after_change insertion deletion
-    looks_set showing filed marked settled raw step_in step file_of held typed escaped pressed viewer_at opened
-    replaced changed closed track_of after_open after_close columns_changed called menu_position word_begin called_at
-    commands command_named is_name_byte is_letter is_digit logged all_logged value_of name_of number_called names_of
-    file_opened document_opened log_opened put_away brought_back viewer_copied log_cleared directory_logged
-    files_deleted stored look_set selection_set searched commanded names_on value names form symbol is_blank is_inside
-    number_of digits free_row
-limits_are_done = refl
