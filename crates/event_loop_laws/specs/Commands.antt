@@ -167,7 +167,7 @@ searched d v =
 
 -- ---- the table of commands
 
--- what a command does that takes a value, a list or the viewer that is meant
+-- what each command does where it is called
 unfoldable pub commanded : Desktop → Command → Call → Result Desktop ℕ
 commanded d EditOpen call = given (name_of d call) λ name. Ok (document_opened d name)
 commanded d SystemOpen call = given (name_of d call) (file_opened d)
