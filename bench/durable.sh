@@ -1,6 +1,7 @@
 #!/usr/bin/env bash
 # Durable events per second of `play` over a file, against a bare loop of the same writes and syncs, turn by turn in one run:
-# on a store that has just been made, and on one whose journal was filled before. `bench/durable.sh [ROUNDS] [FOLDER]`
+# on a store that has just been made, on one whose journal was filled before, and through ten journals with the checkpoints between them.
+# `bench/durable.sh [ROUNDS] [FOLDER]`
 set -eu
 top=$(cd "$(dirname "$0")/.." && pwd)
 rounds=${1:-5}
@@ -10,6 +11,7 @@ cc -O2 -o "$folder/bare" "$top/bench/durable.c"
 "$top/oberon" < /dev/null
 program=$top/crates/oberon/out/oberon
 for k in $(seq 256); do echo 'file A.Text hello'; done > "$folder/script"
+for k in $(seq 2560); do echo 'file A.Text hello'; done > "$folder/long"
 
 # Nanoseconds that a command takes.
 took() {
@@ -19,11 +21,13 @@ took() {
     echo $(($(date +%s%N) - begun))
 }
 posts() { "$program" play "$folder/desk" < "$folder/script" > "$folder/replies"; }
-bare() { "$folder/bare" "$folder/plain"; }
-report() { awk -v what="$1" -v n="$((256 * rounds))" -v play="$2" -v loop="$3" 'BEGIN {
+bare() { "$folder/bare" "$folder/plain" 1; }
+long_posts() { "$program" play "$folder/desk" < "$folder/long" > "$folder/replies"; }
+long_bare() { "$folder/bare" "$folder/plain" 10; }
+report() { awk -v what="$1" -v n="$((${4:-256} * rounds))" -v play="$2" -v loop="$3" 'BEGIN {
     printf "%s: play %.0f events/s, bare loop %.0f events/s, ratio %.2f\n", what, n * 1e9 / play, n * 1e9 / loop, loop / play }'; }
 
-new_play=0 new_loop=0 used_play=0 used_loop=0
+new_play=0 new_loop=0 used_play=0 used_loop=0 long_play=0 long_loop=0
 for round in $(seq "$rounds"); do
     "$program" format "$folder/desk" > /dev/null
     head -c 15995904 /dev/zero > "$folder/plain" && sync -d "$folder/plain"
@@ -36,6 +40,12 @@ for round in $(seq "$rounds"); do
     used_play=$((used_play + $(took posts)))
     used_loop=$((used_loop + $(took bare)))
     [ "$(grep -c '^ok$' "$folder/replies")" = 256 ]
+    "$program" format "$folder/desk" > /dev/null
+    head -c 15995904 /dev/zero > "$folder/plain" && sync -d "$folder/plain"
+    long_play=$((long_play + $(took long_posts)))
+    long_loop=$((long_loop + $(took long_bare)))
+    [ "$(grep -c '^ok$' "$folder/replies")" = 2560 ]
 done
 report 'a new store' "$new_play" "$new_loop"
 report 'a used store' "$used_play" "$used_loop"
+report 'ten journals' "$long_play" "$long_loop" 2560

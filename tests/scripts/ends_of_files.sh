@@ -1,8 +1,9 @@
-# A file that ends within a sector reads as zeros from there on: the record of the one event is the first 11 bytes of sector 6.
+# A file that ends within a sector reads as zeros from there on: of the image in sector 1029 the first 7 bytes must be
+# there, and the others are zeros.
 "$OBERON" format desk.disk
 echo 'file A.Text a' | "$OBERON" play desk.disk
-for bytes in 12 11 10 0; do
-    head -c $((6 * 1024 + bytes)) desk.disk > short.disk
+for bytes in 8 7 6 0; do
+    head -c $((1029 * 1024 + bytes)) desk.disk > short.disk
     "$OBERON" check short.disk
     echo "$?"
 done

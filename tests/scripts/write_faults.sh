@@ -8,5 +8,5 @@ for error in 5 28 30; do
         echo "$1 $2: $?"
     }
     for number in 0 1 2 3; do try play $number; done
-    for number in 0 7000 15620 15621 15625 15626; do try format $number; done
+    for number in 0 7000 15620 15621 15627 15628; do try format $number; done
 done

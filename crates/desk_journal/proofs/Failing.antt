@@ -1,7 +1,6 @@
 -- How failures are counted where one call stands on others.
-use Rattle.std.proofs.Common.{◌≡◌, ℕ, Result, Ok, Err, refl, sym, ◌∙◌, ap, subst}
-use Rattle.std.specs.Prelude.{◌<◌, IfErr, IsErrOf}
-use Rattle.std.proofs.lemmas.Result.{IfErr-at_err}
+use Rattle.std.proofs.Common.{◌≡◌, ℕ, Result, Ok, Err, ◌∙◌, ap, subst}
+use Rattle.std.specs.Prelude.{◌<◌}
 use Rattle.sector_disk.specs.Faults.{FailsAs}
 
 -- no failure where the call returned a value

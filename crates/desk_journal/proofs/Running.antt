@@ -1,9 +1,9 @@
--- How a run of posts goes on, answer by answer.
-use Rattle.std.proofs.Common.{◌≡◌, ◌⊎◌, inl, inr, ℕ, ◌+◌, ◌<◌, ◌≤◌, Bool, true, false, List, [], ◌∷◌, ◌++◌, length}
-use Rattle.std.proofs.Common.{take, drop, map, filter, get_or, Ok, Err, refl, sym, ◌∙◌, ap, subst, arith, length-append}
-use Rattle.std.specs.Prelude.{IfOk, OnOk, IsErrOf, ◌↔◌}
+-- How a run of calls goes on, answer by answer, as the trails of an honest disk show it.
+use Rattle.std.proofs.Common.{◌≡◌, ◌⊎◌, inl, inr, ℕ, ◌≤◌, Bool, true, false, List, [], ◌∷◌, ◌++◌, length}
+use Rattle.std.proofs.Common.{take, drop, Ok, Err, refl, sym, ◌∙◌, ap, subst, arith, length-append}
+use Rattle.std.specs.Prelude.{IfOk, OnOk, IsErrOf}
 use Rattle.std.specs.List.{list_any}
-use Rattle.std.proofs.lemmas.List.{append-nil, take_more, map-append, take_at, drop_at}
+use Rattle.std.proofs.lemmas.List.{append-nil, map-append, take_at, drop_at}
 use Rattle.std.proofs.lemmas.List.Elements.{filter-append}
 use Rattle.std.proofs.Math.Seq.{take-length, drop-length}
 use Rattle.std.proofs.Math.ListN.{drop_of_length-le}
@@ -12,12 +12,12 @@ use Rattle.event_bytes.specs.declared.event.Event.{Event}
 use Rattle.event_loop_laws.specs.declared.reply.Reply.{Reply}
 use Rattle.event_loop_laws.specs.Desktop.{Desktop}
 use Rattle.event_loop_laws.specs.Step.{step, steps}
+use Rattle.store_layout.specs.Bits.{true_or_false, clash}
+use Rattle.store_layout.specs.Meaning.{Means, MeansEither, Shows}
 use Rattle.desk_journal.specs.declared.error.Error.{Error}
-use Rattle.desk_journal.specs.declared.error.Error.TheVariants.{NoMemory, Fault, MustReopen, JournalFull}
-use Rattle.desk_journal.specs.Meaning.{Means, MeansEither, Shows}
+use Rattle.desk_journal.specs.declared.error.Error.TheVariants.{NoMemory, Fault, MustReopen, Worn}
 use Rattle.desk_journal.specs.Run.{Answer, Post, is_acknowledged, lets_in_at, accepted, events_of, MeansPrefix}
-use Rattle.desk_journal.specs.Run.{Survives, none, one_more, posts_of}
-use Rattle.desk_journal.proofs.Bits.{true_or_false, clash}
+use Rattle.desk_journal.specs.Run.{Survives, none, one_more, renewed}
 use Rattle.desk_journal.proofs.Recording.{steps_on}
 
 abbrev pub led_to : Desktop → List Post → Desktop
@@ -46,8 +46,13 @@ carried {size = size} {first = first} {old = old} {new = new} {to = to}
     (each t above below))
     (subst (λ m. Leaves m (MeansPrefix size first (posts ++ post ∷ []) (posts ++ post ∷ [])))
     (sym (kept to (omega arith))) last)
+carried {size = size} {first = first} {old = old} {new = new} {to = to}
+    (renewed {mid = mid} {posts = posts} before later each) kept = renewed
+    (carried before (λ t le. kept t (omega (arith, le, later)))) later
+    (λ t above below. subst (λ m. Leaves m (MeansPrefix size first posts posts)) (sym (kept t below))
+    (each t above below))
 
--- what is known between two posts
+-- what is known between two calls
 pub record IsRunning (size : ℕ) (first : Desktop) (disk : Trail) (from : ℕ) (desktop : Desktop) (broken : Bool)
     (posts : List Post) : Type 0 where
   pub survived : Survives size first disk from disk.clock posts
@@ -55,7 +60,7 @@ pub record IsRunning (size : ℕ) (first : Desktop) (disk : Trail) (from : ℕ) 
   pub is : broken ≡ false → desktop ≡ led_to first posts
   pub shown : broken ≡ false → Leaves (now disk) (Means size desktop)
 
--- no post yet
+-- no call yet
 pub begins_running : (size : ℕ) (disk : Trail) (desktop : Desktop) → Leaves (now disk) (Means size desktop)
     → IsRunning size desktop disk disk.clock desktop false []
 begins_running size disk desktop shown = record {
@@ -74,10 +79,10 @@ pub record Posted (size : ℕ) (event : Event) (answer : Answer) (old new : Trai
   pub memory : IsErrOf answer NoMemory → broken ≡ false → LeavesOnly old new (Means size desktop)
   pub broken_by_memory : IsErrOf answer NoMemory → broken' ≡ true
   pub broken_by_fault : IsErrOf answer Fault → broken' ≡ true
-  pub full : IsErrOf answer JournalFull → (new ≡ old) × (desktop' ≡ desktop) × (broken' ≡ broken)
+  pub worn : IsErrOf answer Worn → (new ≡ old) × (desktop' ≡ desktop) × (broken' ≡ broken)
   pub reopen : IsErrOf answer MustReopen → (new ≡ old) × (desktop' ≡ desktop) × (broken' ≡ broken)
   pub must_reopen : broken ≡ true → IsErrOf answer MustReopen
-  pub named : (e : Error) → IsErrOf answer e → (e ≡ NoMemory) ⊎ ((e ≡ Fault) ⊎ ((e ≡ MustReopen) ⊎ (e ≡ JournalFull)))
+  pub named : (e : Error) → IsErrOf answer e → (e ≡ NoMemory) ⊎ ((e ≡ Fault) ⊎ ((e ≡ MustReopen) ⊎ (e ≡ Worn)))
 
 module _ (size : ℕ) (first : Desktop) (old new : Trail) (from : ℕ) (desktop desktop' : Desktop)
     (broken broken' : Bool) (posts : List Post) (event : Event)
@@ -260,23 +265,60 @@ module _ (size : ℕ) (first : Desktop) (old new : Trail) (from : ℕ) (desktop 
     | inr (inr (inl is)) ↦ unchanged (Err e) (ap (λ x. accepted (answered (Err x) ∷ [])) is)
         (post.reopen (ap (λ x. Err x) is))
     | inr (inr (inr is)) ↦ unchanged (Err e) (ap (λ x. accepted (answered (Err x) ∷ [])) is)
-        (post.full (ap (λ x. Err x) is))
+        (post.worn (ap (λ x. Err x) is))
   ]
 
-pub none_answered : (events : List Event) → posts_of events [] ≡ []
-none_answered [] = refl
-none_answered (event ∷ events) = refl
+-- what a checkpoint's contract says, of a store before and after
+pub record Checkpointed (size : ℕ) (answer : Answer) (old new : Trail) (desktop desktop' : Desktop)
+    (broken broken' : Bool) : Type 0 where
+  pub any_moment : broken ≡ false → LeavesOnly old new (Means size desktop)
+  pub same : OnOk answer (desktop' ≡ desktop)
+  pub broken_by_fault : IsErrOf answer Fault → broken' ≡ true
+  pub worn : IsErrOf answer Worn → (new ≡ old) × (desktop' ≡ desktop) × (broken' ≡ broken)
+  pub reopen : IsErrOf answer MustReopen → (new ≡ old) × (desktop' ≡ desktop) × (broken' ≡ broken)
+  pub must_reopen : broken ≡ true → IsErrOf answer MustReopen
+  pub named : (e : Error) → IsErrOf answer e → (e ≡ Fault) ⊎ ((e ≡ MustReopen) ⊎ (e ≡ Worn))
 
--- one event and one answer more
-pub posts_grow : (events : List Event) (answers : List Answer) (answer : Answer) (d : Event)
-    → length answers < length events
-    → posts_of events (answers ++ answer ∷ []) ≡ posts_of events answers
-    ++ record { event = get_or events (length answers) d; answer = answer } ∷ []
-posts_grow [] answers answer d room = absurd (omega arith)
-posts_grow (event ∷ events) [] answer d room = ap (λ ps. record { event = event; answer = answer } ∷ ps)
-    (none_answered events)
-posts_grow (event ∷ events) (a ∷ answers) answer d room = ap (λ ps. record { event = event; answer = a } ∷ ps)
-    (posts_grow events answers answer d (omega (arith, room)))
+module _ (size : ℕ) (first : Desktop) (old new : Trail) (from : ℕ) (desktop desktop' : Desktop)
+    (broken broken' : Bool) (posts : List Post) (was : IsRunning size first old from desktop broken posts) where
+  abbrev Next : Type 0
+  Next = IsRunning size first new from desktop' broken' posts
+
+  -- a checkpoint that was begun: each image means the desktop
+  began : broken ≡ false → LeavesOnly old new (Means size desktop) → (broken' ≡ false → desktop' ≡ desktop) → Next
+  began usable run same =
+      let each : (t : ℕ) → old.clock ≤ t → t ≤ new.clock → Leaves (new.at t) (MeansPrefix size first posts posts) =
+      λ t above below c image. whole size first posts posts c (omega arith)
+      (subst (λ d. Means size d c) (was.is usable) (run.each t above below c image)) in
+      record {
+        survived = renewed (carried was.survived run.kept) run.later each;
+        prefix = each new.clock run.later (omega arith);
+        is = λ still. same still ∙ was.is usable;
+        shown = λ still c image. subst (λ d. Means size d c) (sym (same still))
+            (run.each new.clock run.later (omega arith) c image);
+      }
+
+  -- nothing of the store or its disk changed
+  stayed : (new ≡ old) × (desktop' ≡ desktop) × (broken' ≡ broken) → Next
+  stayed same = subst (λ (t : Trail). IsRunning size first t from desktop' broken' posts) (sym same.0)
+      (subst (λ d. IsRunning size first old from d broken' posts) (sym same.1)
+      (subst (λ b. IsRunning size first old from desktop b posts) (sym same.2) was))
+
+  pub checkpoint_on : (answer : Answer) → Checkpointed size answer old new desktop desktop' broken broken' → Next
+  checkpoint_on (Ok reply) made = elim (true_or_false broken) [
+    | inl must ↦ absurd (let never : IsErrOf (Ok reply) MustReopen = made.must_reopen must in cc)
+    | inr usable ↦ began usable (made.any_moment usable) (λ still. made.same)
+  ]
+  checkpoint_on (Err e) made = elim (made.named e refl) [
+    | inl is ↦
+        let failed : broken' ≡ true = made.broken_by_fault (ap (λ x. Err x) is) in
+        elim (true_or_false broken) [
+          | inl must ↦ stayed (made.reopen (made.must_reopen must))
+          | inr usable ↦ began usable (made.any_moment usable) (λ still. absurd (clash failed still))
+        ]
+    | inr (inl is) ↦ stayed (made.reopen (ap (λ x. Err x) is))
+    | inr (inr is) ↦ stayed (made.worn (ap (λ x. Err x) is))
+  ]
 
 -- what is shown is meant
 pub shows_means : (size number count : ℕ) (desktop : Desktop) (c : Content) → Shows size number count desktop c

@@ -1,5 +1,5 @@
 -- What a call leaves of the disk that a store stands on. `d` is what is known of a disk: size, trail, failures, honest.
-use Rattle.std.specs.Prelude.{◌≡◌, ℕ, Result, Ok, Err}
+use Rattle.std.specs.Prelude.{◌≡◌, Result, Ok, Err}
 use Rattle.sector_disk.specs.declared.disk.Disk.{Ghosts}
 use Rattle.sector_disk.specs.Trail.{Trail, now, IsImage, LeavesOnly}
 use Rattle.desk_journal.specs.declared.error.Error.{Error}

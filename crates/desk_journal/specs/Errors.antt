@@ -1,9 +1,9 @@
 -- Which errors each call of a store has.
-use Rattle.std.specs.Prelude.{◌≡◌, ◌⊎◌, ℕ, List, [], ◌∷◌}
+use Rattle.std.specs.Prelude.{◌≡◌, ◌⊎◌, ℕ, [], ◌∷◌}
 use Rattle.sector_disk.specs.Faults.{OneOf}
 use Rattle.desk_journal.specs.declared.error.Error.{Error}
 use Rattle.desk_journal.specs.declared.error.Error.TheVariants.{NoMemory, Fault, MustReopen}
-use Rattle.desk_journal.specs.declared.error.Error.TheVariants.{NotAStore, Damaged, TooSmall, JournalFull}
+use Rattle.desk_journal.specs.declared.error.Error.TheVariants.{NotAStore, Damaged, TooSmall, Worn}
 
 abbrev pub OfDesktop : Error → Type 0
 OfDesktop = OneOf (NoMemory ∷ Fault ∷ [])
@@ -12,7 +12,10 @@ abbrev pub OfLook : Error → Type 0
 OfLook = OneOf (NoMemory ∷ Fault ∷ MustReopen ∷ [])
 
 abbrev pub OfPost : Error → Type 0
-OfPost = OneOf (NoMemory ∷ Fault ∷ MustReopen ∷ JournalFull ∷ [])
+OfPost = OneOf (NoMemory ∷ Fault ∷ MustReopen ∷ Worn ∷ [])
+
+abbrev pub OfCheckpoint : Error → Type 0
+OfCheckpoint = OneOf (Fault ∷ MustReopen ∷ Worn ∷ [])
 
 abbrev pub OfFormat : Error → Type 0
 OfFormat = OneOf (TooSmall ∷ Fault ∷ [])

@@ -1,14 +1,10 @@
-pub mod Layout
-pub mod Meaning
-pub mod Footprint
-pub mod Finding
 pub mod Device
 pub mod Errors
 pub mod View
 pub mod Opening
 pub mod Posting
+pub mod Checkpointing
 pub mod Looking
-pub mod Record
 pub mod Load
 pub mod Run
 pub mod Stops

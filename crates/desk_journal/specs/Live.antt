@@ -13,8 +13,9 @@ shown live = seen live.characters live.desktop
 abbrev pub IsLive : LiveDesktop → Type 0
 IsLive live = IsOver live.characters live.desktop
 
--- a look: it shows the same where the disk is honest, and keeps the same over every disk
+-- a look: it shows the same among the same characters where the disk is honest, and keeps the same over every disk
 pub record StaysLive (honest : Type 0) (old new : LiveDesktop) : Type 0 where
+  pub characters_same : honest → new.characters ≡ old.characters
   pub shown_same : honest → shown new ≡ shown old
   pub kept_same : new.desktop ≡ old.desktop
   pub over : IsLive new

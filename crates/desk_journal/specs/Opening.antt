@@ -1,11 +1,11 @@
 -- What formatting and opening promise, outcome by outcome. `d` is what is known of a disk.
-use Rattle.std.specs.Prelude.{◌≡◌, ◌<◌, ℕ, false, Result, Ok, Err, IsErrOf}
+use Rattle.std.specs.Prelude.{◌≡◌, ℕ, false}
 use Rattle.sector_disk.specs.declared.disk.Disk.{Ghosts}
 use Rattle.sector_disk.specs.Trail.{now}
 use Rattle.desk_journal.specs.declared.error.Error.{Error}
 use Rattle.desk_journal.specs.declared.error.Error.TheVariants.{NotAStore, Damaged}
-use Rattle.desk_journal.specs.Finding.{IsForeign, IsDamagedAt}
-use Rattle.desk_journal.specs.Meaning.{Shows}
+use Rattle.store_layout.specs.Finding.{IsForeign, IsDamagedAt}
+use Rattle.store_layout.specs.Meaning.{Shows}
 use Rattle.desk_journal.specs.View.{StoreView, IsDurable}
 
 module _ {D : Type 0} (d : Ghosts D) where

@@ -1,5 +1,5 @@
 -- What a post promises, outcome by outcome. `d` is what is known of a disk.
-use Rattle.std.specs.Prelude.{◌≡◌, ◌<◌, ◌≤◌, ◌+◌, ◌↔◌, ℕ, true, false, Result, Ok, Err, IfOk, IsErrOf}
+use Rattle.std.specs.Prelude.{◌≡◌, ◌<◌, ◌≤◌, ◌+◌, ℕ, true, false, Result, IfOk, IsErrOf}
 use Rattle.sector_disk.specs.declared.disk.Disk.{Ghosts}
 use Rattle.sector_disk.specs.Trail.{LeavesOnly}
 use Rattle.sector_disk.specs.Faults.{FailsAs}
@@ -9,11 +9,11 @@ use Rattle.event_loop_laws.specs.declared.reply.Reply.TheVariants.{No}
 use Rattle.event_loop_laws.specs.Outcome.{IsReply}
 use Rattle.event_loop_laws.specs.Step.{step}
 use Rattle.desk_journal.specs.declared.error.Error.{Error}
-use Rattle.desk_journal.specs.declared.error.Error.TheVariants.{NoMemory, Fault, MustReopen, JournalFull}
-use Rattle.desk_journal.specs.declared.layout.TheConstants.{JOURNAL_EVENTS}
+use Rattle.desk_journal.specs.declared.error.Error.TheVariants.{NoMemory, Fault, MustReopen, Worn}
+use Rattle.store_layout.specs.declared.layout.TheConstants.{JOURNAL_EVENTS, LAST_EPOCH}
 use Rattle.desk_journal.specs.Device.{IsSameDevice}
 use Rattle.desk_journal.specs.Errors.{OfPost}
-use Rattle.desk_journal.specs.Meaning.{Means, MeansEither}
+use Rattle.store_layout.specs.Meaning.{Means, MeansEither}
 use Rattle.desk_journal.specs.View.{StoreView, IsDurable}
 
 -- an error that comes exactly in one state of the store, and changes nothing of store and disk
@@ -26,13 +26,16 @@ pub record TurnsAway {D : Type 0} (refused when : Type 0) (old new : StoreView D
 abbrev pub IsBroken : {D : Type 0} → StoreView D → Type 0
 IsBroken new = new.must_reopen ≡ true
 
--- JournalFull: at a full journal
-abbrev pub IsFull : {D : Type 0} → Result Reply Error → StoreView D → StoreView D → Type 0
-IsFull answer old new =
-    TurnsAway (IsErrOf answer JournalFull) ((old.must_reopen ≡ false) × (JOURNAL_EVENTS ≤ old.events)) old new
+-- no epoch comes after that of the slot in use
+abbrev pub IsLast : {D : Type 0} → StoreView D → Type 0
+IsLast store = (store.must_reopen ≡ false) × (store.epoch ≡ LAST_EPOCH)
 
--- MustReopen: after NoMemory or Fault of an earlier post
-abbrev pub IsUnusable : {D : Type 0} → Result Reply Error → StoreView D → StoreView D → Type 0
+-- Worn: a checkpoint is due, and the epoch is the last one
+abbrev pub IsWorn : {D : Type 0} → Result Reply Error → StoreView D → StoreView D → Type 0
+IsWorn answer old new = TurnsAway (IsErrOf answer Worn) (IsLast old × (JOURNAL_EVENTS ≤ old.events)) old new
+
+-- MustReopen: after NoMemory or Fault of an earlier post, or Fault of an earlier checkpoint
+abbrev pub IsUnusable : {D T : Type 0} → Result T Error → StoreView D → StoreView D → Type 0
 IsUnusable answer old new = TurnsAway (IsErrOf answer MustReopen) (old.must_reopen ≡ true) old new
 
 module _ {D : Type 0} (d : Ghosts D) where
@@ -48,9 +51,9 @@ module _ {D : Type 0} (d : Ghosts D) where
     pub stepped : d.honest old.disk → (new.desktop, reply) ≡ step old.desktop event
     -- from now on a crash leaves that desktop
     pub durable : IsDurable d new
-    -- the journal has one event more
-    pub epoch : new.epoch ≡ old.epoch
-    pub events : new.events ≡ old.events + 1
+    -- the journal has one event more, or, where it was full, is a new one with this event
+    pub more : old.events < JOURNAL_EVENTS → (new.epoch ≡ old.epoch) × (new.events ≡ old.events + 1)
+    pub anew : JOURNAL_EVENTS ≤ old.events → (new.epoch ≡ old.epoch + 1) × (new.events ≡ 1)
     pub usable : new.must_reopen ≡ false
     -- over every disk: the reply is one that there is, and a refusal leaves the desktop as it is kept
     pub known : IsReply reply
@@ -68,7 +71,7 @@ module _ {D : Type 0} (d : Ghosts D) where
     pub ok : IfOk answer (λ reply. IsAcknowledged event reply old new)
     pub memory : IsErrOf answer NoMemory → IsStarved old new
     pub fault : IsErrOf answer Fault → IsBroken new
-    pub full : IsFull answer old new
+    pub worn : IsWorn answer old new
     pub reopen : IsUnusable answer old new
     pub faults : FailsAs Fault OfPost answer (d.failures old.disk) (d.failures new.disk)
     pub device : IsSameDevice d old.disk new.disk

@@ -28,9 +28,9 @@ pub enum Error {
     /// The disk has fewer sectors than a store needs.
     #[error("too small")]
     TooSmall,
-    /// The journal has as many events as it holds.
-    #[error("full")]
-    JournalFull,
+    /// The journal is full and the epoch is the last one, so no checkpoint is possible.
+    #[error("worn")]
+    Worn,
 }
 
 impl From<Fault> for Error {

@@ -1,20 +1,26 @@
 //! A new store.
-ghost use Rattle.std.specs.Prelude.{◌≡◌, ◌<◌, ◌≤◌, ℕ, true, false, OnOk};
-ghost use Rattle.sector_disk.specs.Trail.{Only, CountsFault, now};
+ghost use Rattle.std.specs.Prelude.{◌≡◌, ◌<◌, ◌≤◌, ℕ, List, [], take, true, false, OnOk};
+ghost use Rattle.sector_disk.specs.Trail.{CountsFault, now};
 ghost use Rattle.sector_disk.specs.Confined.{IsConfined};
 ghost use Rattle.event_loop_laws.specs.Desktop.{empty_desktop};
-ghost use Rattle.desk_journal.specs.Layout.{is_label, is_open, slot_gate, gate};
-ghost use Rattle.desk_journal.specs.View.{IsKept};
+ghost use Rattle.store_layout.specs.Layout.{is_label, is_open, slot_gate};
+ghost use Rattle.desk_image.specs.Laws.{empty_bytes};
+ghost use Rattle.store_layout.specs.Kept.{IsNewSlot, IsKept, IsFront};
 
-use crate::layout::{LABEL, LIVE_SLOT, STORE_SECTORS, gate, slot_gate};
-use crate::sectors::{closed_gate, label, open_gate};
-use sector_disk::{Disk, Fault};
+use crate::checkpoint::open_slot;
+use desk_image::{EMPTY_IMAGE, empty_image};
+use sector_disk::{Disk, Fault, Sector};
+use store_layout::{
+    Head, LABEL, LAYOUT, STORE_SECTORS, closed_gate, gate, image_at, label, slot_gate, slot_head,
+};
 
 /// Closes the gates of both slots, so that whatever is there is no store from now on.
 fn close_slots<D: Disk>(disk: &mut D) -> Result<(), Fault>
     requires { STORE_SECTORS ≤ D.size disk.old }
     ensures kept { IsConfined D.size D.honest D.trail (λ n. n < STORE_SECTORS) disk.old disk.new }
     ensures cause { CountsFault result (D.failures disk.old) (D.failures disk.new) }
+    ensures closed { OnOk result (D.honest disk.old
+        → is_open ((now (D.trail disk.new)).reads (slot_gate 1)) ≡ false) }
 {
     disk.write(slot_gate(0), &closed_gate())?;
     disk.write(slot_gate(1), &closed_gate())?;
@@ -22,29 +28,36 @@ fn close_slots<D: Disk>(disk: &mut D) -> Result<(), Fault>
     Ok(())
 }
 
-/// Writes the label and closes the journal's first gate.
-fn write_start<D: Disk>(disk: &mut D) -> Result<(), Fault>
-    requires { STORE_SECTORS ≤ D.size disk.old }
-    ensures kept { IsConfined D.size D.honest D.trail (λ n. n < STORE_SECTORS) disk.old disk.new }
-    ensures cause { CountsFault result (D.failures disk.old) (D.failures disk.new) }
-    ensures label { OnOk result (D.honest disk.old → is_label ((now (D.trail disk.new)).reads LABEL) ≡ true) }
-    ensures closed { OnOk result (D.honest disk.old → is_open ((now (D.trail disk.new)).reads (gate 0 0)) ≡ false) }
+/// The image of the empty desktop, and then zeros.
+fn first_image() -> Sector
+    ensures { take 27 result ≡ empty_bytes }
 {
-    disk.write(gate(LIVE_SLOT, 0), &closed_gate())?;
-    disk.write(LABEL, &label())?;
-    disk.sync()?;
-    Ok(())
+    let mut image = [0; 1024];
+    image[..27].copy_from_slice(&EMPTY_IMAGE);
+    image
 }
 
-/// Opens the gate of the slot in use: from here on the disk is a store.
-fn open_slot<D: Disk>(disk: &mut D) -> Result<(), Fault>
+/// Writes slot 0 with the empty desktop, and the label.
+fn write_start<D: Disk>(disk: &mut D) -> Result<(), Fault>
     requires { STORE_SECTORS ≤ D.size disk.old }
-    ensures kept { IsConfined D.size D.honest D.trail (Only (slot_gate 0)) disk.old disk.new }
+    ensures kept { IsConfined D.size D.honest D.trail
+        (λ n. (n < STORE_SECTORS) × ¬ (n ≡ slot_gate 1)) disk.old disk.new }
     ensures cause { CountsFault result (D.failures disk.old) (D.failures disk.new) }
-    ensures opened { OnOk result (D.honest disk.old → is_open ((now (D.trail disk.new)).reads (slot_gate 0)) ≡ true) }
-    ensures quiet { OnOk result (D.honest disk.old → (n : ℕ) → (now (D.trail disk.new)).pending n ≡ false) }
+    ensures label { OnOk result (D.honest disk.old → is_label ((now (D.trail disk.new)).reads LABEL) ≡ true) }
+    ensures start { OnOk result (D.honest disk.old → IsNewSlot (now (D.trail disk.new)).reads 0 1 empty_desktop) }
+    ensures front { OnOk result (D.honest disk.old → IsFront (now (D.trail disk.new)).reads 0 0 []) }
 {
-    disk.write(slot_gate(LIVE_SLOT), &open_gate())?;
+    let head = Head {
+        version: LAYOUT,
+        epoch: 1,
+        written: 0,
+        extent: EMPTY_IMAGE.len() as u32,
+    };
+    empty_image();
+    disk.write(image_at(0), &first_image())?;
+    disk.write(slot_head(0), &head.sector())?;
+    disk.write(gate(0, 0), &closed_gate())?;
+    disk.write(LABEL, &label())?;
     disk.sync()?;
     Ok(())
 }
@@ -54,10 +67,9 @@ pub fn lay_out<D: Disk>(disk: &mut D) -> Result<(), Fault>
     requires { STORE_SECTORS ≤ D.size disk.old }
     ensures kept { IsConfined D.size D.honest D.trail (λ n. n < STORE_SECTORS) disk.old disk.new }
     ensures cause { CountsFault result (D.failures disk.old) (D.failures disk.new) }
-    ensures empty { OnOk result (D.honest disk.old → IsKept (D.size disk.new) (D.trail disk.new) 1 0 empty_desktop) }
+    ensures empty { OnOk result (D.honest disk.old → IsKept (D.size disk.new) (D.trail disk.new) 0 1 0 empty_desktop) }
 {
     close_slots(disk)?;
     write_start(disk)?;
-    open_slot(disk)?;
-    Ok(())
+    open_slot(disk, 0)
 }

@@ -1,25 +1,29 @@
 //! The desktop that a store has in memory, with its characters.
-ghost use Rattle.std.specs.Prelude.{◌≡◌, ℕ, Ok, IfOk, OnOk, option_map};
+ghost use Rattle.std.specs.Prelude.{◌≡◌, ◌≤◌, ℕ, Ok, IfOk, OnOk, option_map, length};
 ghost use Rattle.sector_disk.specs.Trail.{Nowhere};
 ghost use Rattle.sector_disk.specs.Confined.{IsConfined};
 ghost use Rattle.sector_disk.specs.Faults.{FailsAs};
 ghost use Rattle.event_loop_laws.specs.declared.reply.Reply.TheVariants.{No};
-ghost use Rattle.event_loop_laws.specs.Desktop.{empty_desktop, file_of};
+ghost use Rattle.event_loop_laws.specs.Desktop.{file_of};
 ghost use Rattle.event_loop_laws.specs.Outcome.{IsReply};
 ghost use Rattle.event_loop_laws.specs.Listing.{entries_of};
 ghost use Rattle.event_loop_laws.specs.Shown.{shown_screen};
+ghost use Rattle.event_loop_laws.specs.Sound.{Grows, IsOver};
 ghost use Rattle.event_loop_laws.specs.Step.{step};
+ghost use Rattle.desk_image.specs.Image.{image_of, image_bytes, IsSpellable};
+ghost use Rattle.desk_image.specs.Streams.{Puts};
 ghost use Rattle.desk_journal.specs.Errors.{OfDesktop};
 ghost use Rattle.desk_journal.specs.Live.{shown, IsLive, StaysLive};
 
 use crate::Error;
 use crate::reading::read_all;
 use char_file::CharFile;
+use desk_image::ByteSink;
 use event_bytes::{Event, Name};
-use event_loop::{Desktop, Entry, NoMemory, Reply};
+use event_loop::{Desktop, Entry, Reply};
 use piece_ring::Look;
 use screen_cells::Screen;
-use sector_disk::Disk;
+use sector_disk::{Disk, Fault};
 use std::alloc::Global;
 
 /// A desktop and the characters that its texts name.
@@ -34,15 +38,34 @@ pub struct LiveDesktop {
 }
 
 impl LiveDesktop {
-    /// The empty desktop.
-    pub fn empty(alloc: Global) -> Result<LiveDesktop, NoMemory>
-        ensures empty { IfOk result (λ live. shown live ≡ empty_desktop) }
-        ensures over { IfOk result (λ live. IsLive live) }
+    /// A desktop over its characters.
+    pub fn over(desktop: Desktop, characters: CharFile) -> LiveDesktop
+        requires { IsOver characters desktop }
+        ensures desktop { result.desktop ≡ desktop }
+        ensures characters { result.characters ≡ characters }
+        ensures over { IsLive result }
     {
-        Ok(LiveDesktop {
-            desktop: Desktop::empty(alloc)?,
-            characters: CharFile::new(alloc),
-        })
+        LiveDesktop {
+            desktop,
+            characters,
+        }
+    }
+
+    /// All its characters.
+    pub fn characters(&self) -> &[u8]
+        ensures { result.now ≡ self.now.characters }
+    {
+        self.characters.bytes()
+    }
+
+    /// Puts its image, and returns how many bytes that has. It takes no memory.
+    pub fn put_image<K: ByteSink>(&self, sink: &mut K) -> Result<u32, Fault>
+        requires { IsLive self.now }
+        ensures spelled { IfOk result (λ n. IsSpellable self.now.desktop
+            × (n ≡ length (image_bytes (image_of self.now.desktop)))) }
+        ensures puts { Puts K.ByteSink result (image_bytes (image_of self.now.desktop)) sink.old sink.new }
+    {
+        self.desktop.put_image(sink)
     }
 
     /// Does the event.
@@ -58,6 +81,8 @@ impl LiveDesktop {
         ensures replies { IfOk result IsReply }
         ensures refusal { (code : ℕ) → result ≡ Ok (No code) → self.new.desktop ≡ self.old.desktop }
         ensures over { OnOk result (IsLive self.new) }
+        ensures grows { OnOk result (D.honest disk.old → Grows self.old.characters self.new.characters) }
+        ensures longer { OnOk result (length self.old.characters ≤ length self.new.characters) }
         ensures disk { IsConfined D.size D.honest D.trail Nowhere disk.old disk.new }
         ensures faults { FailsAs Error.Fault OfDesktop result (D.failures disk.old) (D.failures disk.new) }
     {

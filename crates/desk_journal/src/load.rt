@@ -1,77 +1,68 @@
-//! Reading what a disk shows. Nothing is written here.
-ghost use Rattle.std.specs.Prelude.{◌≡◌, ◌⊎◌, ◌<◌, ◌≤◌, ◌+◌, [], ◌∷◌};
-ghost use Rattle.std.specs.Prelude.{true, false, ℕ, IfOk, IfNone, IfSome, OnOk, IsErrOf};
+//! Opening a disk: the slot in use, the desktop that it starts from, and the events of its journal.
+ghost use Rattle.std.specs.Prelude.{◌≡◌, ◌*◌, ◌<◌, ◌≤◌, ◌∷◌, [], ℕ, true, false, OnOk, IfOk, IfSome, IfNone, IsErrOf};
+ghost use Rattle.std.specs.Prelude.{length};
 ghost use Rattle.sector_disk.specs.Trail.{Nowhere, now};
 ghost use Rattle.sector_disk.specs.Confined.{IsConfined};
 ghost use Rattle.sector_disk.specs.Faults.{FailsAs, OneOf};
 ghost use Rattle.event_bytes.specs.declared.event.Event.{Event};
 ghost use Rattle.event_bytes.specs.Spelling.{Begins};
-ghost use Rattle.event_loop_laws.specs.Desktop.{empty_desktop};
+ghost use Rattle.event_loop_laws.specs.Sound.{Grows};
+ghost use Rattle.store_layout.specs.Layout.{is_open, gate, body};
+ghost use Rattle.store_layout.specs.Finding.{IsForeign, IsDamagedAt, IsNoEvent};
+ghost use Rattle.store_layout.specs.Meaning.{Shows};
+ghost use Rattle.store_layout.specs.Kept.{IsKept, IsFront};
 ghost use Rattle.desk_journal.specs.Errors.{OfOpen, OfReplay};
-ghost use Rattle.desk_journal.specs.Layout.{is_open, is_label, slot_gate, gate, body};
-ghost use Rattle.desk_journal.specs.Finding.{IsForeign, IsDamagedAt, IsNoEvent};
 ghost use Rattle.desk_journal.specs.Live.{shown, IsLive};
 ghost use Rattle.desk_journal.specs.Load.{IsReadWhole};
-ghost use Rattle.desk_journal.specs.Meaning.{Shows};
-ghost use Rattle.desk_journal.specs.View.{IsKept};
 
 use crate::Error;
-use crate::layout::{JOURNAL_EVENTS, LABEL, LIVE_SLOT, STORE_SECTORS, body, gate, slot_gate};
+use crate::characters::load_slot;
 use crate::live::LiveDesktop;
-use crate::sectors::{event_of, has_label, is_open_gate};
+use crate::slots::{check_label, find_slot};
+use desk_image::SECTOR_BYTES;
 use event_bytes::Event;
 use sector_disk::Disk;
 use std::alloc::Global;
+use store_layout::{JOURNAL_EVENTS, SLOTS, STORE_SECTORS, body, event_of, gate, is_open_gate};
 
-/// Tests the label and the gate of the slot.
-fn check_slot<D: Disk>(disk: &mut D) -> Result<(), Error>
-    requires { STORE_SECTORS ≤ D.size disk.old }
-    ensures kept { IsConfined D.size D.honest D.trail Nowhere disk.old disk.new }
-    ensures faults { FailsAs Error.Fault (OneOf (Error.Fault ∷ Error.NotAStore ∷ Error.Damaged (slot_gate 0) ∷ []))
-        result
-        (D.failures disk.old) (D.failures disk.new) }
-    ensures label { OnOk result (D.honest disk.old → is_label ((now (D.trail disk.old)).reads LABEL) ≡ true) }
-    ensures live { OnOk result (D.honest disk.old → is_open ((now (D.trail disk.old)).reads (slot_gate 0)) ≡ true) }
-    ensures foreign { IsErrOf result Error.NotAStore → D.honest disk.old
-        → is_label ((now (D.trail disk.old)).reads LABEL) ≡ false }
-    ensures damaged { (n : ℕ) → IsErrOf result (Error.Damaged n) → D.honest disk.old
-        → (n ≡ slot_gate 0) × (is_label ((now (D.trail disk.old)).reads LABEL) ≡ true)
-        × (is_open ((now (D.trail disk.old)).reads (slot_gate 0)) ≡ false) }
-{
-    let mut sector = [0; 1024];
-    disk.read(LABEL, &mut sector)?;
-    if !has_label(&sector) {
-        return Err(Error::NotAStore);
-    }
-    disk.read(slot_gate(LIVE_SLOT), &mut sector)?;
-    if !is_open_gate(&sector) {
-        return Err(Error::Damaged(slot_gate(LIVE_SLOT)));
-    }
-    Ok(())
+/// What was loaded of a disk.
+#[derive(Drop)]
+pub struct Loaded {
+    /// The desktop after the events of the journal.
+    pub desktop: LiveDesktop,
+    /// The slot in use.
+    pub slot: u32,
+    /// Its epoch.
+    pub epoch: u32,
+    /// How many events its journal has.
+    pub events: u32,
+    /// How many sectors of the area its head names.
+    pub saved: u32,
 }
 
 /// The event under gate k, or none where the gate is closed.
-fn read_event<D: Disk>(disk: &mut D, k: u32) -> Result<Option<Event>, Error>
+fn read_event<D: Disk>(disk: &mut D, slot: u32, k: u32) -> Result<Option<Event>, Error>
     requires room { STORE_SECTORS ≤ D.size disk.old }
+    requires two { slot < SLOTS }
     requires index { k < JOURNAL_EVENTS }
     ensures kept { IsConfined D.size D.honest D.trail Nowhere disk.old disk.new }
-    ensures faults { FailsAs Error.Fault (OneOf (Error.Fault ∷ Error.Damaged (body 0 k) ∷ [])) result
+    ensures faults { FailsAs Error.Fault (OneOf (Error.Fault ∷ Error.Damaged (body slot k) ∷ [])) result
         (D.failures disk.old) (D.failures disk.new) }
     ensures none { IfOk result (λ found. IfNone found (D.honest disk.old
-        → is_open ((now (D.trail disk.old)).reads (gate 0 k)) ≡ false)) }
+        → is_open ((now (D.trail disk.old)).reads (gate slot k)) ≡ false)) }
     ensures some { IfOk result (λ found. IfSome found (λ event. D.honest disk.old
-        → (is_open ((now (D.trail disk.old)).reads (gate 0 k)) ≡ true)
-        × Begins ((now (D.trail disk.old)).reads (body 0 k)) event)) }
-    ensures damaged { (n : ℕ) → IsErrOf result (Error.Damaged n) → D.honest disk.old → (n ≡ body 0 k)
-        × (is_open ((now (D.trail disk.old)).reads (gate 0 k)) ≡ true)
-        × ((event : Event) → Begins ((now (D.trail disk.old)).reads (body 0 k)) event → ⊥) }
+        → (is_open ((now (D.trail disk.old)).reads (gate slot k)) ≡ true)
+        × Begins ((now (D.trail disk.old)).reads (body slot k)) event)) }
+    ensures damaged { (n : ℕ) → IsErrOf result (Error.Damaged n) → D.honest disk.old → (n ≡ body slot k)
+        × (is_open ((now (D.trail disk.old)).reads (gate slot k)) ≡ true)
+        × ((event : Event) → Begins ((now (D.trail disk.old)).reads (body slot k)) event → ⊥) }
 {
     let mut sector = [0; 1024];
-    disk.read(gate(LIVE_SLOT, k), &mut sector)?;
+    disk.read(gate(slot, k), &mut sector)?;
     if !is_open_gate(&sector) {
         return Ok(None);
     }
-    let at = body(LIVE_SLOT, k);
+    let at = body(slot, k);
     disk.read(at, &mut sector)?;
     match event_of(&sector) {
         Some(event) => Ok(Some(event)),
@@ -80,20 +71,28 @@ fn read_event<D: Disk>(disk: &mut D, k: u32) -> Result<Option<Event>, Error>
 }
 
 /// Does the journal's events, and returns how many there are.
-fn replay<D: Disk>(alloc: Global, disk: &mut D, desktop: &mut LiveDesktop) -> Result<u32, Error>
+fn replay<D: Disk>(
+    alloc: Global,
+    disk: &mut D,
+    slot: u32,
+    desktop: &mut LiveDesktop,
+) -> Result<u32, Error>
     requires room { STORE_SECTORS ≤ D.size disk.old }
+    requires two { slot < SLOTS }
     requires over { IsLive desktop.old }
     ensures kept { IsConfined D.size D.honest D.trail Nowhere disk.old disk.new }
     ensures faults { FailsAs Error.Fault OfReplay result (D.failures disk.old) (D.failures disk.new) }
     ensures few { IfOk result (λ count. count ≤ JOURNAL_EVENTS) }
     ensures whole { IfOk result (λ count. D.honest disk.old
-        → IsReadWhole (now (D.trail disk.old)).reads 0 count (shown desktop.old) (shown desktop.new)) }
+        → IsReadWhole (now (D.trail disk.old)).reads slot count (shown desktop.old) (shown desktop.new)) }
     ensures over { OnOk result (IsLive desktop.new) }
+    ensures grows { OnOk result (D.honest disk.old → Grows desktop.old.characters desktop.new.characters) }
+    ensures longer { OnOk result (length desktop.old.characters ≤ length desktop.new.characters) }
     ensures damaged { (n : ℕ) → IsErrOf result (Error.Damaged n) → D.honest disk.old
-        → (k : ℕ) × (n ≡ body 0 k) × IsNoEvent (now (D.trail disk.old)).reads 0 k }
+        → (k : ℕ) × (n ≡ body slot k) × IsNoEvent (now (D.trail disk.old)).reads slot k }
 {
     for k in 0..JOURNAL_EVENTS {
-        match read_event(disk, k)? {
+        match read_event(disk, slot, k)? {
             Some(event) => {
                 let _ = desktop.step(alloc, &event, disk)?;
             }
@@ -103,34 +102,20 @@ fn replay<D: Disk>(alloc: Global, disk: &mut D, desktop: &mut LiveDesktop) -> Re
     Ok(JOURNAL_EVENTS)
 }
 
-/// Does the journal's events, from the empty desktop.
-fn rebuild<D: Disk>(alloc: Global, disk: &mut D) -> Result<(LiveDesktop, u32), Error>
-    requires { STORE_SECTORS ≤ D.size disk.old }
-    ensures kept { IsConfined D.size D.honest D.trail Nowhere disk.old disk.new }
-    ensures faults { FailsAs Error.Fault OfReplay result (D.failures disk.old) (D.failures disk.new) }
-    ensures few { IfOk result (λ x. x.1 ≤ JOURNAL_EVENTS) }
-    ensures whole { IfOk result (λ x. D.honest disk.old
-        → IsReadWhole (now (D.trail disk.old)).reads 0 x.1 empty_desktop (shown x.0)) }
-    ensures over { IfOk result (λ x. IsLive x.0) }
-    ensures damaged { (n : ℕ) → IsErrOf result (Error.Damaged n) → D.honest disk.old
-        → (k : ℕ) × (n ≡ body 0 k) × IsNoEvent (now (D.trail disk.old)).reads 0 k }
-{
-    let mut desktop = LiveDesktop::empty(alloc)?;
-    let count = replay(alloc, disk, &mut desktop)?;
-    Ok((desktop, count))
-}
-
-/// Reads the desktop that the disk shows, and how many events its journal has.
-pub fn load<D: Disk>(alloc: Global, disk: &mut D) -> Result<(LiveDesktop, u32), Error>
+/// Reads what the disk shows.
+pub fn load<D: Disk>(alloc: Global, disk: &mut D) -> Result<Loaded, Error>
     ensures kept { IsConfined D.size D.honest D.trail Nowhere disk.old disk.new }
     ensures faults { FailsAs Error.Fault OfOpen result (D.failures disk.old) (D.failures disk.new) }
     ensures large { OnOk result (STORE_SECTORS ≤ D.size disk.new) }
-    ensures few { IfOk result (λ x. x.1 ≤ JOURNAL_EVENTS) }
+    ensures two { IfOk result (λ x. x.slot < SLOTS) }
+    ensures few { IfOk result (λ x. x.events ≤ JOURNAL_EVENTS) }
+    ensures over { IfOk result (λ x. IsLive x.desktop) }
+    ensures saved { IfOk result (λ x. SECTOR_BYTES * x.saved ≤ length x.desktop.characters) }
     ensures found { IfOk result (λ x. D.honest disk.old
-        → Shows (D.size disk.old) 1 x.1 (shown x.0) (now (D.trail disk.old)).reads) }
+        → Shows (D.size disk.old) x.epoch x.events (shown x.desktop) (now (D.trail disk.old)).reads) }
     ensures shown { IfOk result (λ x. D.honest disk.old
-        → IsKept (D.size disk.old) (D.trail disk.new) 1 x.1 (shown x.0)) }
-    ensures over { IfOk result (λ x. IsLive x.0) }
+        → IsKept (D.size disk.old) (D.trail disk.new) x.slot x.epoch x.events (shown x.desktop)
+        × IsFront (now (D.trail disk.new)).reads x.slot x.saved x.desktop.characters) }
     ensures foreign { IsErrOf result Error.NotAStore → D.honest disk.old
         → IsForeign (D.size disk.old) (now (D.trail disk.old)).reads }
     ensures damaged { (n : ℕ) → IsErrOf result (Error.Damaged n) → D.honest disk.old
@@ -140,6 +125,15 @@ pub fn load<D: Disk>(alloc: Global, disk: &mut D) -> Result<(LiveDesktop, u32), 
     if disk.sectors() < STORE_SECTORS {
         return Err(Error::NotAStore);
     }
-    check_slot(disk)?;
-    rebuild(alloc, disk)
+    check_label(disk)?;
+    let (slot, head) = find_slot(disk)?;
+    let mut desktop = load_slot(alloc, disk, slot, &head)?;
+    let events = replay(alloc, disk, slot, &mut desktop)?;
+    Ok(Loaded {
+        desktop,
+        slot,
+        epoch: head.epoch,
+        events,
+        saved: head.written / SECTOR_BYTES,
+    })
 }

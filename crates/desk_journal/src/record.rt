@@ -1,5 +1,5 @@
 //! The two steps that put an event into the journal.
-ghost use Rattle.std.specs.Prelude.{◌≡◌, ◌+◌, ◌<◌, ◌≤◌, true, false, ℕ, Ok, OnOk, IfOk, IsErrOf};
+ghost use Rattle.std.specs.Prelude.{◌≡◌, ◌+◌, ◌*◌, ◌<◌, ◌≤◌, true, false, ℕ, List, length, Ok, OnOk, IfOk, IsErrOf};
 ghost use Rattle.sector_disk.specs.Trail.{LeavesOnly, Only, CountsFault, now};
 ghost use Rattle.sector_disk.specs.Confined.{IsConfined};
 ghost use Rattle.sector_disk.specs.Faults.{FailsAs};
@@ -10,84 +10,93 @@ ghost use Rattle.event_loop_laws.specs.Outcome.{IsReply};
 ghost use Rattle.event_loop_laws.specs.Step.{step};
 ghost use Rattle.desk_journal.specs.Device.{IsSameDevice};
 ghost use Rattle.desk_journal.specs.Errors.{OfDesktop};
-ghost use Rattle.desk_journal.specs.Layout.{is_open, gate, body};
+ghost use Rattle.store_layout.specs.Layout.{is_open, gate, body};
 ghost use Rattle.desk_journal.specs.Live.{shown, IsLive};
-ghost use Rattle.desk_journal.specs.Meaning.{Means, MeansEither};
-ghost use Rattle.desk_journal.specs.Record.{NextRecord};
-ghost use Rattle.desk_journal.specs.View.{IsKept};
+ghost use Rattle.store_layout.specs.Meaning.{Means, MeansEither};
+ghost use Rattle.store_layout.specs.Kept.{NextRecord, IsKept, IsFront};
 
 use crate::Error;
-use crate::layout::{JOURNAL_EVENTS, LIVE_SLOT, STORE_SECTORS, body, gate};
 use crate::live::LiveDesktop;
-use crate::sectors::{body_of, closed_gate, open_gate};
+use desk_image::SECTOR_BYTES;
 use event_bytes::Event;
 use event_loop::Reply;
 use sector_disk::{Disk, Fault};
 use std::alloc::Global;
+use store_layout::{
+    JOURNAL_EVENTS, SLOTS, STORE_SECTORS, body, body_of, closed_gate, gate, open_gate,
+};
 
 /// Closes the gate after gate k, where there is one.
-fn close_next<D: Disk>(disk: &mut D, k: u32) -> Result<(), Fault>
+fn close_next<D: Disk>(disk: &mut D, slot: u32, k: u32) -> Result<(), Fault>
     requires room { STORE_SECTORS ≤ D.size disk.old }
+    requires two { slot < SLOTS }
     requires index { k < JOURNAL_EVENTS }
-    ensures kept { IsConfined D.size D.honest D.trail (λ n. (n ≡ gate 0 (k + 1))
+    ensures kept { IsConfined D.size D.honest D.trail (λ n. (n ≡ gate slot (k + 1))
         × (k + 1 < JOURNAL_EVENTS)) disk.old disk.new }
     ensures cause { CountsFault result (D.failures disk.old) (D.failures disk.new) }
     ensures closed { OnOk result (k + 1 < JOURNAL_EVENTS → D.honest disk.old
-        → is_open ((now (D.trail disk.new)).reads (gate 0 (k + 1))) ≡ false) }
+        → is_open ((now (D.trail disk.new)).reads (gate slot (k + 1))) ≡ false) }
 {
     if k + 1 < JOURNAL_EVENTS {
-        return disk.write(gate(LIVE_SLOT, k + 1), &closed_gate());
+        return disk.write(gate(slot, k + 1), &closed_gate());
     }
     Ok(())
 }
 
 /// Writes the event under the closed gate k, and a closed gate after it.
-fn stage<D: Disk>(disk: &mut D, k: u32, event: &Event) -> Result<(), Fault>
+fn stage<D: Disk>(disk: &mut D, slot: u32, k: u32, event: &Event) -> Result<(), Fault>
     requires room { STORE_SECTORS ≤ D.size disk.old }
+    requires two { slot < SLOTS }
     requires index { k < JOURNAL_EVENTS }
-    ensures kept { IsConfined D.size D.honest D.trail (NextRecord 0 k) disk.old disk.new }
+    ensures kept { IsConfined D.size D.honest D.trail (NextRecord slot k) disk.old disk.new }
     ensures cause { CountsFault result (D.failures disk.old) (D.failures disk.new) }
-    ensures begins { OnOk result (D.honest disk.old → Begins ((now (D.trail disk.new)).reads (body 0 k)) event.now) }
+    ensures begins { OnOk result (D.honest disk.old → Begins ((now (D.trail disk.new)).reads (body slot k)) event.now) }
     ensures closed { OnOk result (k + 1 < JOURNAL_EVENTS → D.honest disk.old
-        → is_open ((now (D.trail disk.new)).reads (gate 0 (k + 1))) ≡ false) }
+        → is_open ((now (D.trail disk.new)).reads (gate slot (k + 1))) ≡ false) }
     ensures quiet { OnOk result (D.honest disk.old → (n : ℕ) → (now (D.trail disk.new)).pending n ≡ false) }
 {
-    disk.write(body(LIVE_SLOT, k), &body_of(event))?;
-    close_next(disk, k)?;
+    disk.write(body(slot, k), &body_of(event))?;
+    close_next(disk, slot, k)?;
     disk.sync()?;
     Ok(())
 }
 
 /// Opens gate k.
-fn seal<D: Disk>(disk: &mut D, k: u32) -> Result<(), Fault>
+fn seal<D: Disk>(disk: &mut D, slot: u32, k: u32) -> Result<(), Fault>
     requires room { STORE_SECTORS ≤ D.size disk.old }
+    requires two { slot < SLOTS }
     requires index { k < JOURNAL_EVENTS }
-    ensures kept { IsConfined D.size D.honest D.trail (Only (gate 0 k)) disk.old disk.new }
+    ensures kept { IsConfined D.size D.honest D.trail (Only (gate slot k)) disk.old disk.new }
     ensures cause { CountsFault result (D.failures disk.old) (D.failures disk.new) }
-    ensures opened { OnOk result (D.honest disk.old → is_open ((now (D.trail disk.new)).reads (gate 0 k)) ≡ true) }
+    ensures opened { OnOk result (D.honest disk.old → is_open ((now (D.trail disk.new)).reads (gate slot k)) ≡ true) }
     ensures quiet { OnOk result (D.honest disk.old → (n : ℕ) → (now (D.trail disk.new)).pending n ≡ false) }
 {
-    disk.write(gate(LIVE_SLOT, k), &open_gate())?;
+    disk.write(gate(slot, k), &open_gate())?;
     disk.sync()?;
     Ok(())
 }
 
 /// Puts the event into the journal after its first k events.
-fn add_record<D: Disk>(disk: &mut D, k: u32, event: &Event) -> Result<(), Fault>
+fn add_record<D: Disk>(disk: &mut D, slot: u32, k: u32, event: &Event) -> Result<(), Fault>
     requires room { STORE_SECTORS ≤ D.size disk.old }
+    requires two { slot < SLOTS }
     requires index { k < JOURNAL_EVENTS }
     ensures device { IsSameDevice D.Disk disk.old disk.new }
     ensures cause { CountsFault result (D.failures disk.old) (D.failures disk.new) }
     ensures any_moment { D.honest disk.old → (number : ℕ) (desktop : Desktop)
-        → IsKept (D.size disk.old) (D.trail disk.old) number k desktop
+        → IsKept (D.size disk.old) (D.trail disk.old) slot number k desktop
         → LeavesOnly (D.trail disk.old) (D.trail disk.new)
         (MeansEither (D.size disk.old) desktop (step desktop event.now).0) }
     ensures added { OnOk result (D.honest disk.old → (number : ℕ) (desktop : Desktop)
-        → IsKept (D.size disk.old) (D.trail disk.old) number k desktop
-        → IsKept (D.size disk.old) (D.trail disk.new) number (k + 1) (step desktop event.now).0) }
+        → IsKept (D.size disk.old) (D.trail disk.old) slot number k desktop
+        → IsKept (D.size disk.old) (D.trail disk.new) slot number (k + 1) (step desktop event.now).0) }
+    // the characters in the area stay
+    ensures front { OnOk result (D.honest disk.old → (saved : ℕ) (characters : List ℕ)
+        → IsFront (now (D.trail disk.old)).reads slot saved characters
+        → IsFront (now (D.trail disk.new)).reads slot saved characters) }
 {
-    stage(disk, k, event)?;
-    seal(disk, k)?;
+    stage(disk, slot, k, event)?;
+    seal(disk, slot, k)?;
     Ok(())
 }
 
@@ -96,31 +105,38 @@ pub fn record<D: Disk>(
     alloc: Global,
     desktop: &mut LiveDesktop,
     disk: &mut D,
+    slot: u32,
     k: u32,
     event: &Event,
 ) -> Result<Reply, Error>
     requires room { STORE_SECTORS ≤ D.size disk.old }
+    requires two { slot < SLOTS }
     requires index { k < JOURNAL_EVENTS }
     requires over { IsLive desktop.old }
     ensures any_moment { D.honest disk.old → (number : ℕ)
-        → IsKept (D.size disk.old) (D.trail disk.old) number k (shown desktop.old)
+        → IsKept (D.size disk.old) (D.trail disk.old) slot number k (shown desktop.old)
         → LeavesOnly (D.trail disk.old) (D.trail disk.new)
         (MeansEither (D.size disk.old) (shown desktop.old) (step (shown desktop.old) event.now).0) }
     ensures unrecorded { IsErrOf result Error.NoMemory → D.honest disk.old → (number : ℕ)
-        → IsKept (D.size disk.old) (D.trail disk.old) number k (shown desktop.old)
+        → IsKept (D.size disk.old) (D.trail disk.old) slot number k (shown desktop.old)
         → LeavesOnly (D.trail disk.old) (D.trail disk.new) (Means (D.size disk.old) (shown desktop.old)) }
     ensures added { OnOk result (D.honest disk.old → (number : ℕ)
-        → IsKept (D.size disk.old) (D.trail disk.old) number k (shown desktop.old)
-        → IsKept (D.size disk.old) (D.trail disk.new) number (k + 1) (shown desktop.new)) }
+        → IsKept (D.size disk.old) (D.trail disk.old) slot number k (shown desktop.old)
+        → IsKept (D.size disk.old) (D.trail disk.new) slot number (k + 1) (shown desktop.new)) }
     ensures stepped { IfOk result (λ reply. D.honest disk.old
         → (shown desktop.new, reply) ≡ step (shown desktop.old) event.now) }
     ensures replies { IfOk result IsReply }
     ensures refusal { (code : ℕ) → result ≡ Ok (No code) → desktop.new.desktop ≡ desktop.old.desktop }
     ensures over { OnOk result (IsLive desktop.new) }
+    // the characters in the area are the front of those that there are then
+    ensures front { OnOk result (D.honest disk.old → (saved : ℕ) → SECTOR_BYTES * saved ≤ length desktop.old.characters
+        → IsFront (now (D.trail disk.old)).reads slot saved desktop.old.characters
+        → IsFront (now (D.trail disk.new)).reads slot saved desktop.new.characters) }
+    ensures longer { OnOk result (length desktop.old.characters ≤ length desktop.new.characters) }
     ensures device { IsSameDevice D.Disk disk.old disk.new }
     ensures faults { FailsAs Error.Fault OfDesktop result (D.failures disk.old) (D.failures disk.new) }
 {
     let reply = desktop.step(alloc, event, disk)?;
-    add_record(disk, k, event)?;
+    add_record(disk, slot, k, event)?;
     Ok(reply)
 }

@@ -1,7 +1,7 @@
 //! The store and its calls.
 //!
 //! A clause sees a store as a `StoreView`. What each call promises is said in words, one for an outcome, of
-//! `specs/Opening.antt`, `specs/Posting.antt` and `specs/Looking.antt`.
+//! `specs/Opening.antt`, `specs/Posting.antt`, `specs/Checkpointing.antt` and `specs/Looking.antt`.
 ghost use Rattle.std.specs.Prelude.{◌≡◌, ◌<◌, ◌≤◌, ◌↔◌, true, false, Ok, Err, IfOk, IfErr, OnOk, IsErrOf, option_map};
 ghost use Rattle.sector_disk.specs.Trail.{Leaves, now};
 ghost use Rattle.sector_disk.specs.Confined.{IsConfined};
@@ -10,19 +10,22 @@ ghost use Rattle.event_loop_laws.specs.Desktop.{empty_desktop, file_of};
 ghost use Rattle.event_loop_laws.specs.Listing.{entries_of};
 ghost use Rattle.event_loop_laws.specs.Shown.{shown_screen};
 ghost use Rattle.desk_journal.specs.Device.{IsOnlyRead, IsSameDevice, disk_after, outcome};
-ghost use Rattle.desk_journal.specs.Errors.{OfFormat, OfOpen, OfPost};
+ghost use Rattle.desk_journal.specs.Errors.{OfFormat, OfOpen, OfPost, OfLook, OfCheckpoint};
 ghost use Rattle.desk_journal.specs.Looking.{OnlyLooks};
-ghost use Rattle.desk_journal.specs.Meaning.{Shows};
+ghost use Rattle.store_layout.specs.Meaning.{Shows};
+ghost use Rattle.desk_journal.specs.Checkpointing.{LeavesDesktop, IsRenewed};
 ghost use Rattle.desk_journal.specs.Opening.{IsOpened, IsNoStore};
-ghost use Rattle.desk_journal.specs.Posting.{LeavesEither, IsAcknowledged, IsStarved, IsBroken, IsFull, IsUnusable};
+ghost use Rattle.desk_journal.specs.Posting.{LeavesEither, IsAcknowledged, IsStarved, IsBroken, IsLast, IsWorn};
+ghost use Rattle.desk_journal.specs.Posting.{IsUnusable, TurnsAway};
 ghost use Rattle.desk_journal.specs.View.{IsDurable};
 
 use crate::Error;
+use crate::checkpoint::renew;
 use crate::format::lay_out;
-use crate::layout::{JOURNAL_EVENTS, STORE_SECTORS};
 use crate::live::LiveDesktop;
 use crate::load::load;
 use crate::record::record;
+use desk_image::SECTOR_BYTES;
 use event_bytes::{Event, Name};
 use event_loop::{Entry, Reply};
 use piece_ring::Look;
@@ -30,15 +33,10 @@ use screen_cells::Screen;
 use sector_disk::{Disk, Fault};
 use std::alloc::Global;
 use std::marker::Model;
+use store_layout::{JOURNAL_EVENTS, LAST_EPOCH, LAYOUT, STORE_SECTORS};
 
-/// The version of a store's layout.
-const LAYOUT: u32 = 1;
-
-/// The epoch of the one slot.
-const EPOCH: u32 = 1;
-
-/// What a store says of itself: the version of its layout, the epoch of its slot, the number of events in its journal,
-/// and the number of characters ever written.
+/// What a store says of itself: the version of its layout, the epoch of the slot in use, the number of events in its
+/// journal, and the number of characters ever written.
 #[derive(Clone, Copy, Debug, PartialEq, Eq)]
 pub struct Info {
     pub layout: u32,
@@ -49,21 +47,30 @@ pub struct Info {
 
 /// A desktop on a disk.
 ///
-/// After `NoMemory` or `Fault` of a post the store isn't used again: each call but `close` returns `MustReopen`, and
-/// what is on the disk is found by opening it.
+/// After `NoMemory` or `Fault` of a post, or `Fault` of a checkpoint, the store isn't used again: each call but `close`
+/// returns `MustReopen`, and what is on the disk is found by opening it.
 #[derive(Drop)]
 pub struct Store<D: Disk> {
     disk: D,
     desktop: LiveDesktop,
+    /// The slot in use, and its epoch.
+    slot: u32,
+    epoch: u32,
+    /// How many events its journal has.
     events: u32,
+    /// How many sectors of the area its head names.
+    saved: u32,
     must_reopen: bool,
 }
 
 impl<D: Disk> Model for Store<D> {
-    ghost use Rattle.std.specs.Prelude.{◌≡◌, ◌≤◌, false};
-    ghost use Rattle.desk_journal.specs.declared.layout.TheConstants.{JOURNAL_EVENTS, STORE_SECTORS};
+    ghost use Rattle.std.specs.Prelude.{◌≡◌, ◌<◌, ◌≤◌, ◌*◌, length, false};
+    ghost use Rattle.sector_disk.specs.Trail.{now};
+    ghost use Rattle.desk_image.specs.declared.limits.TheConstants.{SECTOR_BYTES};
+    ghost use Rattle.store_layout.specs.declared.layout.TheConstants.{JOURNAL_EVENTS, SLOTS, STORE_SECTORS};
+    ghost use Rattle.store_layout.specs.Kept.{IsKept, IsFront};
     ghost use Rattle.desk_journal.specs.Live.{shown, IsLive};
-    ghost use Rattle.desk_journal.specs.View.{StoreView, IsKept};
+    ghost use Rattle.desk_journal.specs.View.{StoreView};
 
     ghost Value = { StoreView D };
 
@@ -71,14 +78,17 @@ impl<D: Disk> Model for Store<D> {
       disk = s.disk;
       desktop = shown s.desktop;
       kept = s.desktop.desktop;
-      epoch = 1;
+      epoch = s.epoch;
       events = s.events;
       must_reopen = s.must_reopen;
     } };
 
-    ghost invariant = { λ s. s.must_reopen ≡ false → (s.events ≤ JOURNAL_EVENTS)
+    ghost invariant = { λ s. s.must_reopen ≡ false → (s.slot < SLOTS) × (s.events ≤ JOURNAL_EVENTS)
         × (STORE_SECTORS ≤ D.Disk.size s.disk) × IsLive s.desktop
-        × (D.Disk.honest s.disk → IsKept (D.Disk.size s.disk) (D.Disk.trail s.disk) 1 s.events (shown s.desktop)) };
+        × (SECTOR_BYTES * s.saved ≤ length s.desktop.characters)
+        × (D.Disk.honest s.disk
+        → IsKept (D.Disk.size s.disk) (D.Disk.trail s.disk) s.slot s.epoch s.events (shown s.desktop)
+        × IsFront (now (D.Disk.trail s.disk)).reads s.slot s.saved s.desktop.characters) };
 }
 
 impl<D: Disk> Store<D> {
@@ -106,11 +116,13 @@ impl<D: Disk> Store<D> {
         }
     }
 
-    /// Opens a disk and does the events of its journal. It begins with a sync and writes nothing.
+    /// Opens a disk: reads the image of the slot in use, and does the events of its journal. It begins with a sync and
+    /// writes nothing.
     ///
     /// Errors, each with the disk: `NotAStore` where it has fewer sectors than a store needs, or another label;
-    /// `Damaged(n)` where the slot's gate, sector n, isn't open, or where the body in sector n, under an open gate,
-    /// begins with no event; `Fault`; `NoMemory`.
+    /// `Damaged(n)`, in this order, where no slot is open (sector 1), where the head in sector n stands under an open
+    /// gate and isn't one of this layout, where the image that begins in sector n is none, or where the body in sector
+    /// n, under an open gate, begins with no event; `Fault`; `NoMemory`.
     pub fn open(alloc: Global, disk: D) -> Result<Store<D>, (Error, D)>
         ensures ok { IfOk result (λ store. IsOpened D.Disk disk store) }
         ensures no_store { IfErr result (λ e. IsNoStore D.Disk disk e.0) }
@@ -120,42 +132,99 @@ impl<D: Disk> Store<D> {
     {
         let mut disk = disk;
         match load(alloc, &mut disk) {
-            Ok((desktop, events)) => Ok(Store {
+            Ok(loaded) => Ok(Store {
                 disk,
-                desktop,
-                events,
+                desktop: loaded.desktop,
+                slot: loaded.slot,
+                epoch: loaded.epoch,
+                events: loaded.events,
+                saved: loaded.saved,
                 must_reopen: false,
             }),
             Err(error) => Err((error, disk)),
         }
     }
 
-    /// Takes one event: does it, and puts it into the journal. At `Ok` it is acknowledged, whatever the reply.
+    /// Takes one event: does it, and puts it into the journal. Where the journal is full a checkpoint comes first. At
+    /// `Ok` the event is acknowledged, whatever the reply.
     ///
-    /// Errors: `MustReopen` after an earlier `NoMemory` or `Fault`; `JournalFull` at 256 events; `NoMemory`, and the
-    /// event is on the disk in no image; `Fault`, and it may be there or not. The first two change nothing; after the
-    /// last two the store must be opened again.
+    /// Errors: `MustReopen` after an earlier `NoMemory` or `Fault`; `Worn` where the journal is full and the epoch is
+    /// the last one; `NoMemory`, and the event is on the disk in no image; `Fault`, and it may be there or not. The
+    /// first two change nothing; after the last two the store must be opened again.
     pub fn post(&mut self, alloc: Global, event: &Event) -> Result<Reply, Error>
         ensures any_moment { LeavesEither D.Disk event.now self.old self.new }
         ensures ok { IfOk result (λ reply. IsAcknowledged D.Disk event.now reply self.old self.new) }
         ensures memory { IsErrOf result Error.NoMemory → IsStarved D.Disk self.old self.new }
         ensures fault { IsErrOf result Error.Fault → IsBroken self.new }
-        ensures full { IsFull result self.old self.new }
+        ensures worn { IsWorn result self.old self.new }
         ensures reopen { IsUnusable result self.old self.new }
         ensures faults { FailsAs Error.Fault OfPost result (D.failures self.old.disk) (D.failures self.new.disk) }
+        ensures device { IsSameDevice D.Disk self.old.disk self.new.disk }
+    {
+        if self.events >= JOURNAL_EVENTS {
+            self.checkpoint()?;
+        }
+        self.put(alloc, event)
+    }
+
+    /// The rest of a post: the journal has room.
+    fn put(&mut self, alloc: Global, event: &Event) -> Result<Reply, Error>
+        requires { self.old.must_reopen ≡ false → self.old.events < JOURNAL_EVENTS }
+        ensures any_moment { LeavesEither D.Disk event.now self.old self.new }
+        ensures ok { IfOk result (λ reply. IsAcknowledged D.Disk event.now reply self.old self.new) }
+        ensures memory { IsErrOf result Error.NoMemory → IsStarved D.Disk self.old self.new }
+        ensures fault { IsErrOf result Error.Fault → IsBroken self.new }
+        ensures reopen { IsUnusable result self.old self.new }
+        ensures faults { FailsAs Error.Fault OfLook result (D.failures self.old.disk) (D.failures self.new.disk) }
         ensures device { IsSameDevice D.Disk self.old.disk self.new.disk }
     {
         if self.must_reopen {
             return Err(Error::MustReopen);
         }
-        if self.events >= JOURNAL_EVENTS {
-            return Err(Error::JournalFull);
-        }
         self.must_reopen = true;
-        let reply = record(alloc, &mut self.desktop, &mut self.disk, self.events, event)?;
+        let reply = record(
+            alloc,
+            &mut self.desktop,
+            &mut self.disk,
+            self.slot,
+            self.events,
+            event,
+        )?;
         self.events += 1;
         self.must_reopen = false;
         Ok(reply)
+    }
+
+    /// Puts the desktop whole into the slot that isn't in use, and makes that the slot in use, with an empty journal.
+    /// It takes no memory. At each moment a crash leaves the same desktop.
+    ///
+    /// Errors: `MustReopen` after an earlier `NoMemory` or `Fault`; `Worn` where the epoch is the last one. These
+    /// change nothing. `Fault`, after which the store must be opened again.
+    pub fn checkpoint(&mut self) -> Result<(), Error>
+        ensures any_moment { LeavesDesktop D.Disk self.old self.new }
+        ensures ok { OnOk result (IsRenewed D.Disk self.old self.new) }
+        ensures fault { IsErrOf result Error.Fault → IsBroken self.new }
+        ensures worn { TurnsAway (IsErrOf result Error.Worn) (IsLast self.old) self.old self.new }
+        ensures reopen { IsUnusable result self.old self.new }
+        ensures faults { FailsAs Error.Fault OfCheckpoint result (D.failures self.old.disk) (D.failures self.new.disk) }
+        ensures device { IsSameDevice D.Disk self.old.disk self.new.disk }
+    {
+        if self.must_reopen {
+            return Err(Error::MustReopen);
+        }
+        if self.epoch == LAST_EPOCH {
+            return Err(Error::Worn);
+        }
+        let idle = 1 - self.slot;
+        let epoch = self.epoch + 1;
+        self.must_reopen = true;
+        renew(&mut self.disk, &self.desktop, self.saved, idle, epoch)?;
+        self.saved = self.desktop.written() / SECTOR_BYTES;
+        self.slot = idle;
+        self.epoch = epoch;
+        self.events = 0;
+        self.must_reopen = false;
+        Ok(())
     }
 
     /// The characters of the file of that name, each a byte and its look; None where there is none.
@@ -220,7 +289,7 @@ impl<D: Disk> Store<D> {
         }
         Ok(Info {
             layout: LAYOUT,
-            epoch: EPOCH,
+            epoch: self.epoch,
             events: self.events,
             written: self.desktop.written(),
         })
@@ -233,7 +302,10 @@ impl<D: Disk> Store<D> {
         let Store {
             disk,
             desktop: _,
+            slot: _,
+            epoch: _,
             events: _,
+            saved: _,
             must_reopen: _,
         } = self;
         disk

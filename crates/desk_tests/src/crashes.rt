@@ -6,15 +6,20 @@ use sector_disk::{Disk, Fuse, MemoryDisk, OneFault, Sector};
 use std::alloc::Global;
 use std::test::Fail;
 
-/// How many calls opening a store of one event makes: a sync, the label, the slot's gate, gate 0 and its body, gate 1.
-const CALLS_TO_OPEN: u64 = 6;
+/// How many calls opening a store of one event makes: a sync, the label, a slot's gate and head, the other slot's gate,
+/// the image, gate 0 and its body, gate 1.
+const CALLS_TO_OPEN: u64 = 9;
 
 /// How many calls a post makes: a body and a closed gate, a sync, an open gate, a sync.
 const CALLS_TO_POST: u64 = 5;
 
-/// How many calls formatting makes: two gates of slots and a sync, gate 0, the label and a sync, the slot's gate and a
-/// sync.
-const CALLS_TO_FORMAT: u64 = 8;
+/// How many calls the first checkpoint makes: a read of the slot's gate and a sync, the image, the head, gate 0 and a
+/// sync, the gate and a sync.
+const CALLS_TO_RENEW: u64 = 8;
+
+/// How many calls formatting makes: two gates of slots and a sync, the image, the head, gate 0, the label and a sync,
+/// the slot's gate and a sync.
+const CALLS_TO_FORMAT: u64 = 10;
 
 /// Posts the second of the three events over a disk: what is said, and the disk.
 fn second_post<D: Disk + Drop>(alloc: Global, disk: D) -> (Vec<u8>, D) {
@@ -39,7 +44,7 @@ fn fails_once_at(alloc: Global, call: u64) -> Result<bool, Fail> {
 
 #[test]
 fn failing_post(rt: HostRuntime) -> Result<(), Fail> {
-    for call in 6..11 {
+    for call in CALLS_TO_OPEN..CALLS_TO_OPEN + CALLS_TO_POST {
         assert!(rt; fails_at(rt.alloc(), call)?);
         assert!(rt; fails_once_at(rt.alloc(), call)?);
     }
@@ -69,8 +74,8 @@ fn filled(disk: &mut MemoryDisk, n: u32, filling: usize) -> Sector {
     bytes
 }
 
-/// The fillings of the pending sectors that a number chooses, each by one of its five digits; None where the number is
-/// too large.
+/// The fillings of the pending sectors that a number chooses, each by one of its digits, of which there are five; None
+/// where the number is too large.
 fn chosen(
     alloc: Global,
     disk: &mut MemoryDisk,
@@ -118,12 +123,12 @@ fn try_image(
     }
 }
 
-/// Tries every filling of at most three pending sectors, and returns how many images there are.
+/// Tries every filling of at most four pending sectors, and returns how many images there are.
 fn try_images(alloc: Global, disk: MemoryDisk, wanted: Wanted) -> Result<u32, Fail> {
     let mut disk = disk;
     let pending = disk.pending_sectors(alloc)?;
     let mut images: u32 = 0;
-    for choice in 0..125 {
+    for choice in 0..625 {
         let more = try_image(alloc, &mut disk, &pending, choice, wanted)?;
         images = images.saturating_add(more);
     }
@@ -193,19 +198,79 @@ fn oks(said: &[u8]) -> usize {
 #[test]
 fn every_crash_of_three_posts(rt: HostRuntime) -> Result<(), Fail> {
     let mut images: u32 = 0;
-    for calls in 0..30 {
+    for calls in 0..33 {
         let (acknowledged, tried) = try_cut_off(rt.alloc(), calls)?;
         images = images.saturating_add(tried);
-        assert!(rt; calls < 19 || acknowledged == 3);
+        assert!(rt; calls < 22 || acknowledged == 3);
     }
     println!(rt; "{images} images of three posts, with a stop at every call")?;
     Ok(())
 }
 
-/// A store of three events, with the gate of slot 1 open, that was formatted anew up to that call.
+/// A store of one event after a checkpoint that was stopped at its call of this number and at all later ones: what is
+/// said, and the disk.
+fn renewed(alloc: Global, call: u64) -> Result<(Vec<u8>, MemoryDisk), Fail> {
+    let mut said = Vec::new(alloc);
+    let calls = CALLS_TO_OPEN.saturating_add(call);
+    let fuse = Fuse::new(with_events(alloc, 1)?, calls);
+    let disk = played(alloc, fuse, b"checkpoint\nlist\n", &mut said);
+    Ok((said, disk.into_inner()))
+}
+
+/// Whether a store shows the first event, and says this of itself.
+fn is_at(alloc: Global, disk: MemoryDisk, said: &[u8]) -> bool {
+    let mut written = Vec::new(alloc);
+    played(alloc, disk, b"show A.Text\n", &mut written);
+    written.starts_with(b"0 15 0 a\nend\n") && written.ends_with(said)
+}
+
+/// Tries every filling of the pending sectors of a checkpoint that was stopped, and returns how many images there are:
+/// slot 0 with its event, or slot 1 with an empty journal, just where the gate of slot 1 reads open.
+fn try_renewed(alloc: Global, disk: MemoryDisk) -> Result<u32, Fail> {
+    let mut disk = disk;
+    let pending = disk.pending_sectors(alloc)?;
+    let mut images: u32 = 0;
+    for choice in 0..625 {
+        let Some(sectors) = chosen(alloc, &mut disk, &pending, choice)? else {
+            break;
+        };
+        let mut image = disk.crash(alloc, &sectors)?;
+        let is_new = sector(&mut image, 3)?.starts_with(b"OPENGATE");
+        let said: &[u8] = if is_new {
+            b"epoch 2 events 0\n"
+        } else {
+            b"epoch 1 events 1\n"
+        };
+        if !is_at(alloc, image, said) {
+            return Err("a wrong image".into());
+        }
+        images = images.saturating_add(1);
+    }
+    Ok(images)
+}
+
+/// The first checkpoint, stopped at each call.
+#[test]
+fn torn_checkpoint(rt: HostRuntime) -> Result<(), Fail> {
+    let wanted = [1, 1, 1, 5, 25, 125, 1, 5, 1];
+    for (call, images) in wanted.iter().enumerate() {
+        let (said, disk) = renewed(rt.alloc(), call as u64)?;
+        let is_done = call as u64 >= CALLS_TO_RENEW;
+        let answer: &[u8] = if is_done { b"ok\n" } else { b"fault\n" };
+        assert!(rt; said.starts_with(answer));
+        assert!(rt; try_renewed(rt.alloc(), disk)? == *images);
+    }
+    Ok(())
+}
+
+/// A store of three events, with the gate of slot 1 open before an empty desktop of the same epoch, that was formatted
+/// anew up to that call.
 fn formatted(alloc: Global, calls: u64) -> Result<MemoryDisk, Fail> {
     let mut used = with_events(alloc, 3)?;
-    put(&mut used, 3, &beginning_with(b"OPENGATE"))?;
+    for (from, to) in [(2, 4), (1029, 4229), (1, 3)] {
+        let bytes = sector(&mut used, from)?;
+        put(&mut used, to, &bytes)?;
+    }
     match Store::format(Fuse::new(used, calls)) {
         Ok(fuse) => Ok(fuse.into_inner()),
         Err((_, fuse)) => Ok(fuse.into_inner()),
@@ -215,11 +280,11 @@ fn formatted(alloc: Global, calls: u64) -> Result<MemoryDisk, Fail> {
 /// After the first sync of formatting the old store is never found, and before the slot's gate is written none is.
 #[test]
 fn format_without_its_syncs(rt: HostRuntime) -> Result<(), Fail> {
-    for calls in 0..9 {
-        let events = if calls < 3 { 3 } else { 0 };
+    for calls in 0..11 {
         let wanted = Wanted {
+            least: 0,
+            most: if calls < 3 { 3 } else { 0 },
             or_none: calls < CALLS_TO_FORMAT,
-            ..just(events)
         };
         assert!(rt; try_images(rt.alloc(), formatted(rt.alloc(), calls)?, wanted)? > 0);
     }
@@ -240,7 +305,7 @@ fn leaves_none(alloc: Global, calls: u64) -> Result<bool, Fail> {
 
 #[test]
 fn format_leaves_a_gate(rt: HostRuntime) -> Result<(), Fail> {
-    for calls in 3..7 {
+    for calls in 3..9 {
         assert!(rt; leaves_none(rt.alloc(), calls)?);
     }
     Ok(())

@@ -149,6 +149,7 @@ fn rows_brought_into_sight(rt: HostRuntime) -> Result<(), Fail> {
         (0, 2, 4, 0),
         (0, 2, 6, 3),
         (0, 3, 11, 6),
+        (1, 2, 6, 3),
         (4, 1, 5, 4),
         (3, 2, 0, 0),
         (9, 2, 6, 3),

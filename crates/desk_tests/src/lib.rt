@@ -34,6 +34,8 @@ mod sources;
 #[cfg(test)]
 mod stores;
 #[cfg(test)]
+mod streams;
+#[cfg(test)]
 mod symbols;
 #[cfg(test)]
 mod texts_and_buffers;

@@ -324,11 +324,11 @@ fn is_cut_off(alloc: Global, call: u64) -> Result<bool, Fail> {
     }
 }
 
-/// Opening a new store makes 4 calls, and a post 5.
+/// Opening a new store makes 7 calls, and a post 5.
 #[test]
 fn disk_fault(rt: HostRuntime) -> Result<(), Fail> {
     for call in 0..20 {
-        assert!(rt; is_cut_off(rt.alloc(), call)? == (call < 9));
+        assert!(rt; is_cut_off(rt.alloc(), call)? == (call < 12));
     }
     Ok(())
 }

@@ -13,7 +13,7 @@ fn statuses(rt: HostRuntime) -> Result<(), Fail> {
         (Error::Fault, 4, b"fault\n"),
         (Error::MustReopen, 4, b"fault\n"),
         (Error::TooSmall, 4, b"fault\n"),
-        (Error::JournalFull, 4, b"fault\n"),
+        (Error::Worn, 4, b"fault\n"),
     ];
     for (error, wanted, line) in rows {
         let mut written = Vec::new(rt.alloc());

@@ -20,6 +20,8 @@ const FONT_3: Look = Look {
 enum Edit {
     /// Adds so many characters from an offset on, in a look.
     Add(u32, u32, Look),
+    /// Puts so many characters from an offset on in at the end, as a piece of their own in the default look.
+    Push(u32, u32),
     /// Keeps the place of a position.
     Locate(u32),
     /// Cuts a piece in two.
@@ -40,6 +42,7 @@ enum Edit {
 fn apply(rt: &impl Abort, alloc: Global, ring: &mut Ring, edit: Edit) -> Result<(), NoMemory> {
     match edit {
         Edit::Add(off, len, look) => add(rt, alloc, ring, Piece { off, len, look }),
+        Edit::Push(off, len) => push(rt, alloc, ring, off, len),
         Edit::Locate(pos) => {
             assert!(rt; pos <= ring.len());
             ring.locate(pos);
@@ -79,6 +82,20 @@ fn add(rt: &impl Abort, alloc: Global, ring: &mut Ring, piece: Piece) -> Result<
     assert!(rt; piece.off < 1_000);
     assert!(rt; piece.len < 1_000);
     ring.add(alloc, piece)
+}
+
+/// Puts a piece in at the end, as it is.
+fn push(
+    rt: &impl Abort,
+    alloc: Global,
+    ring: &mut Ring,
+    off: u32,
+    len: u32,
+) -> Result<(), NoMemory> {
+    assert!(rt; ring.len() < 1_000);
+    assert!(rt; off < 1_000 && 0 < len && len < 1_000);
+    let look = DEFAULT_LOOK;
+    ring.push(alloc, Piece { off, len, look })
 }
 
 /// Takes the characters of a stretch out.
@@ -142,7 +159,7 @@ fn is_ring(ring: Ring, wanted: &[u32], pieces: u32) -> bool {
 
 #[test]
 fn rings(rt: HostRuntime) -> Result<(), Fail> {
-    let rows: [(&[Edit], &[u32], u32); 15] = [
+    let rows: [(&[Edit], &[u32], u32); 17] = [
         (&[], &[0, 1, 2, 3, 4, 5], 1),
         (&[Edit::Cut(1, 3)], &[0, 3, 4, 5], 2),
         (&[Edit::Keep(1, 3)], &[1, 2], 1),
@@ -173,10 +190,47 @@ fn rings(rt: HostRuntime) -> Result<(), Fail> {
             &[4, 5, 1_020, 1_021],
             2,
         ),
+        (
+            &[Edit::Add(6, 2, DEFAULT_LOOK)],
+            &[0, 1, 2, 3, 4, 5, 6, 7],
+            1,
+        ),
+        (&[Edit::Push(6, 2)], &[0, 1, 2, 3, 4, 5, 6, 7], 2),
     ];
     for (edits, wanted, pieces) in rows {
         let ring = edited(&rt, rt.alloc(), edits)?;
         assert!(rt; is_ring(ring, wanted, pieces));
+    }
+    Ok(())
+}
+
+/// The offsets and lengths of the next three pieces from a position on, of the offsets 0 to 5 and 6 and 7 as two
+/// pieces.
+fn next_pieces(
+    rt: &impl Abort,
+    alloc: Global,
+    pos: u32,
+) -> Result<[Option<(u32, u32)>; 3], NoMemory> {
+    let ring = edited(rt, alloc, &[Edit::Push(6, 2)])?;
+    assert!(rt; pos <= ring.len());
+    let mut cursor = ring.cursor(pos);
+    let mut pieces = [None; 3];
+    for piece in &mut pieces {
+        *piece = cursor.next_piece().map(|piece| (piece.off, piece.len));
+    }
+    Ok(pieces)
+}
+
+#[test]
+fn pieces_one_by_one(rt: HostRuntime) -> Result<(), Fail> {
+    let rows = [
+        (0, [Some((0, 6)), Some((6, 2)), None]),
+        (4, [Some((4, 2)), Some((6, 2)), None]),
+        (6, [Some((6, 2)), None, None]),
+        (8, [None, None, None]),
+    ];
+    for (pos, wanted) in rows {
+        assert_eq!(rt; next_pieces(&rt, rt.alloc(), pos)?, wanted);
     }
     Ok(())
 }

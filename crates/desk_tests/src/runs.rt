@@ -1,20 +1,25 @@
-//! Runs of posts, and stores that are closed and opened again.
+//! Runs of posts and checkpoints, and stores that are closed and opened again.
 use crate::stores::{found, fresh};
-use desk_journal::{Answer, Error, Store, post_all, post_and_reopen};
+use desk_journal::{Answer, Call, Error, Store, serve_all, serve_and_reopen};
 use event_bytes::{Event, FileBytes, Name};
 use event_loop::Reply;
 use sector_disk::{Fuse, MemoryDisk};
 use std::alloc::Global;
 use std::test::Fail;
 
-/// How many calls opening a new store makes: a sync, the label, the slot's gate, gate 0.
-const CALLS_TO_OPEN: u64 = 4;
+/// How many calls opening a new store makes: a sync, the label, a slot's gate and head, the other slot's gate, the
+/// image, gate 0.
+const CALLS_TO_OPEN: u64 = 7;
 
 /// How many calls three posts make.
 const CALLS_TO_POST: u64 = 15;
 
+/// How many calls the first checkpoint makes: a read of the slot's gate and a sync, the image, the head, gate 0 and a
+/// sync, the gate and a sync.
+const CALLS_TO_RENEW: u64 = 8;
+
 /// How many calls opening a store of three events makes.
-const CALLS_TO_REOPEN: u64 = 10;
+const CALLS_TO_REOPEN: u64 = 13;
 
 /// The file of that name becomes these bytes.
 fn filed(name: &[u8], bytes: &[u8]) -> Result<Event, Fail> {
@@ -24,21 +29,21 @@ fn filed(name: &[u8], bytes: &[u8]) -> Result<Event, Fail> {
 }
 
 /// The three events that most tests post.
-fn three_events() -> Result<[Event; 3], Fail> {
-    let first = filed(b"A.Text", b"a")?;
-    let second = filed(b"B.Text", b"bc")?;
-    let third = filed(b"A.Text", b"def")?;
+fn three_events() -> Result<[Call; 3], Fail> {
+    let first = Call::Post(filed(b"A.Text", b"a")?);
+    let second = Call::Post(filed(b"B.Text", b"bc")?);
+    let third = Call::Post(filed(b"A.Text", b"def")?);
     Ok([first, second, third])
 }
 
-/// Posts the three events as one run over a new store whose disk passes so many calls after it is opened: what each
-/// returned, and the disk.
-fn run(alloc: Global, events: &[Event], calls: u64) -> Result<(Vec<Answer>, MemoryDisk), Fail> {
+/// Makes the calls as one run over a new store whose disk passes so many calls after it is opened: what each returned,
+/// and the disk.
+fn run(alloc: Global, made: &[Call], calls: u64) -> Result<(Vec<Answer>, MemoryDisk), Fail> {
     let calls = CALLS_TO_OPEN.saturating_add(calls);
     match Store::open(alloc, Fuse::new(fresh(alloc)?, calls)) {
         Err(_) => Err("not opened".into()),
         Ok(mut store) => {
-            let returned = post_all(alloc, &mut store, events)?;
+            let returned = serve_all(alloc, &mut store, made)?;
             Ok((returned, store.close().into_inner()))
         }
     }
@@ -59,6 +64,31 @@ fn a_run_of_posts(rt: HostRuntime) -> Result<(), Fail> {
     Ok(())
 }
 
+/// An event between two checkpoints, over a disk that passes every call, fails from the second checkpoint on, or from
+/// the first on.
+#[test]
+fn a_run_with_checkpoints(rt: HostRuntime) -> Result<(), Fail> {
+    let done = Ok(Reply::Done);
+    let event = Call::Post(filed(b"A.Text", b"a")?);
+    let made = [Call::Checkpoint, event, Call::Checkpoint];
+    for (calls, wanted) in [
+        (100, [done, done, done]),
+        (CALLS_TO_RENEW + 5, [done, done, Err(Error::Fault)]),
+        (
+            0,
+            [
+                Err(Error::Fault),
+                Err(Error::MustReopen),
+                Err(Error::MustReopen),
+            ],
+        ),
+    ] {
+        let (returned, _) = run(rt.alloc(), &made, calls)?;
+        assert!(rt; returned.as_slice() == wanted.as_slice());
+    }
+    Ok(())
+}
+
 /// Posts the three events over a new store whose disk passes so many calls after that, closes the store and opens it
 /// again. Why that was refused; or None, and then all the files are there.
 fn reopened(alloc: Global, calls: u64) -> Result<Option<Error>, Fail> {
@@ -68,7 +98,7 @@ fn reopened(alloc: Global, calls: u64) -> Result<Option<Error>, Fail> {
     let events = three_events()?;
     match Store::open(alloc, Fuse::new(fresh(alloc)?, calls)) {
         Err(_) => Err("not opened".into()),
-        Ok(store) => match post_and_reopen(alloc, store, &events) {
+        Ok(store) => match serve_and_reopen(alloc, store, &events) {
             Err((error, _)) => Ok(Some(error)),
             Ok(store) => match found(alloc, store.close().into_inner())? {
                 Some(3) => Ok(None),

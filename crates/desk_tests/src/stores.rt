@@ -151,9 +151,15 @@ fn disks_without_a_store(rt: HostRuntime) -> Result<(), Fail> {
     for sectors in [STORE_SECTORS, 100] {
         assert!(rt; said_of_zeros(rt.alloc(), sectors)?.as_slice() == b"not a store\n".as_slice());
     }
-    let rows: [(u32, &[u8], &[u8]); 3] = [
+    let rows: [(u32, &[u8], &[u8]); 5] = [
         (0, b"OBERONDESKSTORE2", b"not a store\n"),
         (1, b"", b"damaged 1\n"),
+        (
+            2,
+            b"\x00\x00\x00\x09\x00\x00\x00\x01\x00\x00\x00\x00\x00\x00\x00\x1b",
+            b"damaged 2\n",
+        ),
+        (1029, b"\x05\x0f\x40\x00\x00\x00\x01", b"damaged 1029\n"),
         (5, b"OPENGATE", b"damaged 6\n"),
     ];
     for (n, prefix, wanted) in rows {
@@ -170,15 +176,38 @@ fn holds(alloc: Global, n: u32, prefix: &[u8]) -> Result<bool, Fail> {
 
 #[test]
 fn layout_of_one_event(rt: HostRuntime) -> Result<(), Fail> {
-    let rows: [(u32, &[u8]); 5] = [
+    let rows: [(u32, &[u8]); 7] = [
         (0, b"OBERONDESKSTORE1"),
         (1, b"OPENGATE"),
+        (
+            2,
+            b"\x00\x00\x00\x01\x00\x00\x00\x01\x00\x00\x00\x00\x00\x00\x00\x1b",
+        ),
+        (1029, b"\x00\x0f\x40\x00\x00\x00\x01"),
         (5, b"OPENGATE"),
         (6, b"\x05\x06A.Text\x00\x01a"),
         (7, b""),
     ];
     for (n, prefix) in rows {
         assert!(rt; holds(rt.alloc(), n, prefix)?);
+    }
+    Ok(())
+}
+
+/// What is said of a new store whose head gives the image so many bytes.
+fn said_of_length(alloc: Global, length: u8) -> Result<Vec<u8>, Fail> {
+    let head = [0, 0, 0, 1, 0, 0, 0, 1, 0, 0, 0, 0, 0, 0, 0, length];
+    said_of(alloc, 2, &head)
+}
+
+/// The image of the empty desktop has 27 bytes, and is none with fewer or with more.
+#[test]
+fn empty_image(rt: HostRuntime) -> Result<(), Fail> {
+    assert!(rt;
+        said_of_length(rt.alloc(), 27)?.as_slice() == b"ok layout 1 epoch 1 events 0\n".as_slice()
+    );
+    for length in [0, 26, 28] {
+        assert!(rt; said_of_length(rt.alloc(), length)?.as_slice() == b"damaged 1029\n".as_slice());
     }
     Ok(())
 }

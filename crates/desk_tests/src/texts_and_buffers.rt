@@ -27,6 +27,10 @@ const COLOURED: Look = Look {
 enum Edit {
     /// Adds so many characters from an offset on to the buffer.
     Add(u32, u32),
+    /// Puts so many characters from an offset on in at the end of the text, as a piece of their own.
+    PushText(u32, u32),
+    /// The same in the buffer.
+    PushBuffer(u32, u32),
     /// Puts a character before those of the buffer.
     CopyTo(u32),
     /// Takes the ring out of the buffer, and adds it again.
@@ -60,6 +64,16 @@ fn apply(
             assert!(rt; off < 100 && 0 < len && len < 100);
             let look = DEFAULT_LOOK;
             buffer.add(alloc, Piece { off, len, look })
+        }
+        Edit::PushText(off, len) => {
+            assert!(rt; off < 100 && 0 < len && len < 100);
+            let look = DEFAULT_LOOK;
+            text.push(alloc, Piece { off, len, look })
+        }
+        Edit::PushBuffer(off, len) => {
+            assert!(rt; off < 100 && 0 < len && len < 100);
+            let look = DEFAULT_LOOK;
+            buffer.push(alloc, Piece { off, len, look })
         }
         Edit::CopyTo(off) => {
             *buffer = copied_to(rt, alloc, off, buffer)?;
@@ -148,7 +162,7 @@ fn becomes(
 #[test]
 fn text_operations(rt: HostRuntime) -> Result<(), Fail> {
     let six: &[u32] = &[0, 1, 2, 3, 4, 5];
-    let rows: [(&[Edit], [&[u32]; 2], u32); 8] = [
+    let rows: [(&[Edit], [&[u32]; 2], u32); 9] = [
         (
             &[Edit::Save(1, 5), Edit::ChangeLooks(2, 4, 2)],
             [&[0, 1, 1_002, 1_003, 4, 5], &[1, 2, 3, 4]],
@@ -174,6 +188,7 @@ fn text_operations(rt: HostRuntime) -> Result<(), Fail> {
             [&[0, 1, 2, 50, 51, 3, 4, 5], &[]],
             3,
         ),
+        (&[Edit::PushText(6, 2)], [&[0, 1, 2, 3, 4, 5, 6, 7], &[]], 2),
     ];
     for (edits, wanted, pieces) in rows {
         assert!(rt; becomes(&rt, rt.alloc(), edits, wanted, pieces)?);
@@ -183,7 +198,7 @@ fn text_operations(rt: HostRuntime) -> Result<(), Fail> {
 
 #[test]
 fn buffers(rt: HostRuntime) -> Result<(), Fail> {
-    let rows: [(&[Edit], &[u32]); 5] = [
+    let rows: [(&[Edit], &[u32]); 6] = [
         (&[Edit::Add(0, 2)], &[0, 1]),
         (&[Edit::Add(0, 2), Edit::CopyTo(2)], &[2, 0, 1]),
         (
@@ -192,6 +207,7 @@ fn buffers(rt: HostRuntime) -> Result<(), Fail> {
         ),
         (&[Edit::Add(4, 3), Edit::Clear, Edit::Clear], &[]),
         (&[Edit::Add(9, 1), Edit::Append], &[]),
+        (&[Edit::Add(0, 2), Edit::PushBuffer(2, 1)], &[0, 1, 2]),
     ];
     for (edits, wanted) in rows {
         let (_, buffer) = edited(&rt, rt.alloc(), edits)?;

@@ -36,7 +36,7 @@ short_file bytes valid = leb-true (length bytes) 900 (both _ _ valid).0
 short_typed : (bytes : List ℕ) → is_typed_bytes bytes ≡ true → length bytes ≤ 900
 short_typed bytes valid = short_file bytes (both _ _ valid).1
 
-name_part : IsPart (counted byte) (λ name. IsTrue (is_name name)) name_at
+pub name_part : IsPart (counted byte) (λ name. IsTrue (is_name name)) name_at
 unfolding name_at
 name_part = recast (λ name fits. fits.1) (λ name valid. (omega (arith, short_name name valid), valid))
     (only is_name (counted_part byte_part))

@@ -16,3 +16,11 @@ pub mod BarLemmas
 pub mod MarkLemmas
 pub mod Decimals
 pub mod LogLemmas
+pub mod ImageLemmas
+pub mod DraftLemmas
+pub mod ImageFits
+pub mod ImageMarks
+pub mod ImageMade
+pub mod ImageBack
+pub mod ImageHolds
+pub mod ImageRead

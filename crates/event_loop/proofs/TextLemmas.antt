@@ -33,6 +33,8 @@ use Rattle.event_loop_laws.specs.TextLaws.{long_seen, text_within}
 use Rattle.event_loop_laws.specs.TableLaws.{lookup_seen, is_some_map, length_seen_text}
 use Rattle.event_loop_laws.specs.ChangeLaws.{is_there}
 use Rattle.text_frames.specs.Rules.{shown_org}
+use Rattle.event_loop_laws.specs.Looks.{IsLook, AreLooks}
+use Rattle.event_loop_laws.specs.LookedLaws.{inserted_looks, deleted_looks, looks_changed_looks, kept_text_looks}
 
 -- the desktop with other texts, whose frames lost caret and selection, and other viewers
 abbrev pub Follows : KeptDesktop → Texts (List Piece) → ℕ → List (ℕ × Viewer) → KeptDesktop → Type 0
@@ -67,15 +69,18 @@ module _ (characters : List ℕ) (d : KeptDesktop) (texts : Texts (List Piece)) 
   pub put_within : AreWithin (length characters) (flat (text_in texts n))
   put_within = set_within characters d texts n longer_text count 0 built there set longer all_within
 
-  pub put_changed : (some : 0 < count) (H : Type 0) (new : KeptDesktop) (viewers : List (ℕ × Viewer))
+  pub put_changed : AreLooks (flat buffer) → (some : 0 < count) (H : Type 0) (new : KeptDesktop)
+      (viewers : List (ℕ × Viewer))
       → Follows d texts n viewers new → AreMoved n (length (flat (text_in texts n))) d.viewers viewers
       → (H → viewers ≡ with_values (followed n (bytes characters (flat (text_in texts n))) p count 0) d.viewers)
       → IsChanged H characters d new (insertion (seen characters d) n p (seen_text characters buffer))
       (length (flat buffer)) 0
-  put_changed some H new viewers is moved exact =
+  put_changed looks some H new viewers is moved exact =
       subst (λ (m : ℕ). IsChanged H characters d new
       (insertion (seen characters d) n p (seen_text characters buffer)) m 0) count_is
-      (set_changed characters d texts n longer_text count 0 built there set longer all_within new viewers is moved H
+      (set_changed characters d texts n longer_text count 0 built there set longer all_within new viewers is moved
+      (inserted_looks p (flat buffer) (flat (text_in d.texts n)) looks
+      (kept_text_looks (length characters) d built n)) H
       (insertion (seen characters d) n p (seen_text characters buffer))
       (λ h. insertion_seen characters d n p buffer (text_in texts n) viewers (omega (arith, some, count_is)) set.is
       (exact h ∙ ap (λ (m : ℕ). with_values (followed n (bytes characters (flat (text_in texts n))) p m 0) d.viewers)
@@ -112,7 +117,8 @@ module _ (characters : List ℕ) (d : KeptDesktop) (texts : Texts (List Piece)) 
       → (H → viewers ≡ with_values (followed n (bytes characters (flat (text_in texts n))) p 0 (q - p)) d.viewers)
       → IsChanged H characters d new (deletion (seen characters d) n p q) 0 (q - p)
   cut_changed H new viewers is moved exact =
-      set_changed characters d texts n shorter_text 0 (q - p) built there set shorter rest_within new viewers is moved H
+      set_changed characters d texts n shorter_text 0 (q - p) built there set shorter rest_within new viewers is moved
+      (deleted_looks p q (flat (text_in d.texts n)) (kept_text_looks (length characters) d built n)) H
       (deletion (seen characters d) n p q)
       (λ h. deletion_seen characters d n p q (text_in texts n) viewers some set.is (exact h))
 
@@ -125,11 +131,11 @@ module _ (characters : List ℕ) (d : KeptDesktop) (texts : Texts (List Piece)) 
   abbrev its_number : ℕ
   its_number = (viewer_or_none d.viewers s.viewer).main
 
-  pub relooked_so : (new : KeptDesktop)
+  pub relooked_so : IsLook look → (new : KeptDesktop)
       → new ≡ with_selection (unmarked (shows d its_number) (record d { texts = texts })) s
       → IsBuilt (length characters) d
       → IsChanged ⊤ characters d new (looks_set (seen characters d) s selector look) 0 0
-  relooked_so new is built =
+  relooked_so is_look new is built =
       let pieces : List Piece = text_in texts its_number in
       let old : Text ℕ = flat (text_in d.texts its_number) in
       let long : length (flat pieces) ≡ length old = ap length set.is
@@ -140,6 +146,8 @@ module _ (characters : List ℕ) (d : KeptDesktop) (texts : Texts (List Piece)) 
       subst (λ (now : KeptDesktop). IsChanged ⊤ characters d now (looks_set (seen characters d) s selector look) 0 0)
       (sym (is ∙ (λ k. with_selection (unmarked (shows d its_number) (record d { texts = set.set k })) s)))
       (looks_changed_so characters d s pieces built placed there some low long within
+      (subst AreLooks (sym set.is) (looks_changed_looks s.beg s.end selector look old is_look
+      (kept_text_looks (length characters) d built its_number)))
       (looks_set (seen characters d) s selector look) (looks_seen characters d s selector look pieces set.is))
 
 pub relooked_by : (characters : List ℕ) (d : KeptDesktop) (texts : Texts (List Piece)) (s : Selection) (selector : ℕ)
@@ -148,13 +156,14 @@ pub relooked_by : (characters : List ℕ) (d : KeptDesktop) (texts : Texts (List
     (low : s.end ≤ length (flat (text_in d.texts (viewer_or_none d.viewers s.viewer).main)))
     (w : Viewer) → w ≡ viewer_or_none d.viewers s.viewer
     → IsSet d.texts texts w.main (looks_changed s.beg s.end selector look (flat (text_in d.texts w.main)))
-    → (new : KeptDesktop) → new ≡ with_selection (unmarked (shows d w.main) (record d { texts = texts })) s
+    → IsLook look → (new : KeptDesktop)
+    → new ≡ with_selection (unmarked (shows d w.main) (record d { texts = texts })) s
     → IsBuilt (length characters) d
     → IsChanged ⊤ characters d new (looks_set (seen characters d) s selector look) 0 0
-relooked_by characters d texts s selector look placed there some low w w_is set new is built =
+relooked_by characters d texts s selector look placed there some low w w_is set is_look new is built =
     relooked_so characters d texts s selector look placed there some low
     (subst (λ (v : Viewer). IsSet d.texts texts v.main
-    (looks_changed s.beg s.end selector look (flat (text_in d.texts v.main)))) w_is set) new
+    (looks_changed s.beg s.end selector look (flat (text_in d.texts v.main)))) w_is set) is_look new
     (is ∙ ap (λ (v : Viewer). with_selection (unmarked (shows d v.main) (record d { texts = texts })) s) w_is) built
 
 -- ---- nothing to put in

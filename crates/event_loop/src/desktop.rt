@@ -1,24 +1,31 @@
 //! The desktop.
-ghost use Rattle.std.specs.Prelude.{◌≡◌, ℕ, List, [], length, Ok, IfOk, IfSome, OnOk, option_map};
+ghost use Rattle.std.specs.Prelude.{◌≡◌, ℕ, List, [], length, Ok, IfOk, IfSome, OnOk, IsErrOf, option_map};
 ghost use Rattle.sector_disk.specs.Faults.{FailsAs};
 ghost use Rattle.char_file.specs.Source.{OnlyReads};
 ghost use Rattle.piece_ring.specs.Flat.{flat};
 ghost use Rattle.piece_ring.specs.Offsets.{AreWithin};
 ghost use Rattle.readers_scanners.specs.Reading.{contents};
+ghost use Rattle.desk_image.specs.Image.{Spells};
+ghost use Rattle.desk_image.specs.Passing.{OnlyGets};
+ghost use Rattle.desk_image.specs.Streams.{IsImageFault};
 ghost use Rattle.event_loop_laws.specs.declared.reply.Reply.TheVariants.{No};
-ghost use Rattle.event_loop_laws.specs.Desktop.{empty_desktop, file_of};
+ghost use Rattle.event_loop_laws.specs.Desktop.{KeptDesktop, empty_desktop, file_of};
 ghost use Rattle.event_loop_laws.specs.Seen.{seen};
 ghost use Rattle.event_loop_laws.specs.Step.{step};
-ghost use Rattle.event_loop_laws.specs.Sound.{IsOver, Grows};
+ghost use Rattle.event_loop_laws.specs.Sound.{IsKeptWhole, IsOver, Grows};
 ghost use Rattle.event_loop_laws.specs.Outcome.{IsReply, IsUnchanged, IsSameSource};
 ghost use Rattle.event_loop_laws.specs.Listing.{entries_of};
 ghost use Rattle.event_loop_laws.specs.Shown.{shown_screen};
+ghost use Rattle.desk_image.specs.Streams.{Puts};
+ghost use Rattle.desk_image.specs.Image.{image_of, image_bytes, IsSpellable};
 ghost use Rattle.event_loop.specs.Stops.{IsStop};
 
 use crate::desk::{Desk, empty_desk};
 use crate::files::{entries, file_of};
+use crate::images::assemble;
 use crate::stop::{NoMemory, Stop};
-use char_file::CharSource;
+use char_file::{CharSource, Fault};
+use desk_image::{ByteSink, ByteSource, ImageFault, desktops_fit, images_are_read, read_picture};
 use event_bytes::{Event, Name};
 use event_loop_laws::{Entry, Reply};
 use screen_cells::Screen;
@@ -55,6 +62,29 @@ impl Desktop {
         ensures over { IfOk result (λ d. IsOver [] d) }
     {
         let desk = empty_desk(alloc)?;
+        Ok(Desktop { desk })
+    }
+
+    /// The desktop of which the bytes of the source, to its end, are the image, where so many characters were written
+    /// for it. Damaged exactly where an honest source has the image of no desktop; NoMemory where an allocation is
+    /// refused; Fault where a byte could not be read.
+    pub fn from_image<S: ByteSource>(
+        alloc: Global,
+        source: &mut S,
+        written: u32,
+    ) -> Result<Desktop, ImageFault>
+        ensures spelled { IfOk result (λ d. S.honest source.old → Spells written (S.remaining source.old) d) }
+        ensures damaged { IsErrOf result ImageFault.Damaged → S.honest source.old
+            → (d : KeptDesktop) → ¬ Spells written (S.remaining source.old) d }
+        ensures whole { IfOk result (λ d. IsKeptWhole d) }
+        ensures count { IfOk result (λ d. d.written ≡ written) }
+        ensures only { OnlyGets S.honest S.same_ground source.old source.new }
+        ensures faults { FailsAs ImageFault.Fault IsImageFault result (S.failures source.old) (S.failures source.new) }
+    {
+        images_are_read();
+        desktops_fit();
+        let picture = read_picture(alloc, source, written)?;
+        let desk = assemble(alloc, picture, written)?;
         Ok(Desktop { desk })
     }
 
@@ -135,6 +165,17 @@ impl Desktop {
         ensures faults { FailsAs Stop.Fault IsStop result (S.failures source.old) (S.failures source.new) }
     {
         self.desk.paint(alloc, source, screen)
+    }
+
+    /// Puts the image of the desktop, the bytes that say how it is kept, and returns how many bytes these are. The
+    /// characters that were written aren't among them. It takes no memory. `Fault`: the sink failed in this call, and
+    /// it may have taken some of the bytes.
+    pub fn put_image<K: ByteSink>(&self, sink: &mut K) -> Result<u32, Fault>
+        requires { IsKeptWhole self.now }
+        ensures spelled { IfOk result (λ n. IsSpellable self.now × (n ≡ length (image_bytes (image_of self.now)))) }
+        ensures puts { Puts K.ByteSink result (image_bytes (image_of self.now)) sink.old sink.new }
+    {
+        self.desk.put_image(sink)
     }
 
     /// How many characters were ever written, at most 4,194,304.

@@ -7,6 +7,7 @@ ghost use Rattle.piece_ring.specs.Text.{Text as AText};
 ghost use Rattle.viewer_tracks.specs.declared.display.TheConstants.{ROWS, COLUMNS};
 ghost use Rattle.viewer_tracks.specs.Columns.{IsPlaced};
 ghost use Rattle.event_loop_laws.specs.Limits.{most_written};
+ghost use Rattle.event_loop_laws.specs.Looks.{AreLooks};
 ghost use Rattle.event_loop_laws.specs.Tables.{named};
 ghost use Rattle.event_loop_laws.specs.Desktop.{file_of};
 ghost use Rattle.event_loop_laws.specs.Change.{plain, more_written};
@@ -166,6 +167,7 @@ impl Desk {
     ) -> Result<Reply, Stop>
         requires column { x < COLUMNS }
         requires within { AreWithin (kept self.old).written (flat main) }
+        requires looks { AreLooks (flat main) }
         requires room { self.old.written + length menu.now ≤ most_written }
         requires fits { (characters : List ℕ) (menu_text main_text : AText ℕ) → length menu_text ≡ length menu.now
             → length main_text ≡ length (flat main)

@@ -7,6 +7,7 @@ ghost use Rattle.piece_ring.specs.Offsets.{AreWithin};
 ghost use Rattle.piece_ring.specs.Text.{stretch};
 ghost use Rattle.viewer_tracks.specs.Columns.{IsPlaced};
 ghost use Rattle.event_loop_laws.specs.Limits.{most_written, most_held};
+ghost use Rattle.event_loop_laws.specs.Looks.{AreLooks};
 ghost use Rattle.event_loop_laws.specs.Viewers.{viewer_or_none, newest};
 ghost use Rattle.event_loop_laws.specs.Change.{put_in, put_at_caret, cut_out};
 ghost use Rattle.event_loop_laws.specs.Seen.{seen, seen_text};
@@ -84,6 +85,7 @@ impl Desk {
         requires place { pos ≤ length (flat (kept_main (kept self.old) id)) }
         requires short { length (flat (kept_main (kept self.old) id)) + length (flat buffer.old) < 2 ^ 32 }
         requires within { AreWithin (length (S.characters source.old)) (flat buffer.old) }
+        requires looks { AreLooks (flat buffer.old) }
         ensures changed { OnOk result (IsChanged (S.honest source.old) (S.characters source.old) (kept self.old)
             (kept self.new) (put_in (seen (S.characters source.old) (kept self.old)) id pos
             (seen_text (S.characters source.old) buffer.old)) (length (flat buffer.old)) 0) }
@@ -111,6 +113,7 @@ impl Desk {
         requires place { caret.position ≤ length (flat (kept_main (kept self.old) caret.viewer)) }
         requires short { length (flat (kept_main (kept self.old) caret.viewer)) + length (flat buffer.old) < 2 ^ 32 }
         requires within { AreWithin (length (S.characters source.old)) (flat buffer.old) }
+        requires looks { AreLooks (flat buffer.old) }
         ensures changed { OnOk result (IsChanged (S.honest source.old) (S.characters source.old) (kept self.old)
             (kept self.new) (put_at_caret (seen (S.characters source.old) (kept self.old))
             (seen_text (S.characters source.old) buffer.old) caret) (length (flat buffer.old)) 0) }

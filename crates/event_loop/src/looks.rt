@@ -3,7 +3,7 @@
 ghost use Rattle.std.specs.Prelude.{◌≡◌, IfOk, Ok};
 ghost use Rattle.event_loop_laws.specs.Limits.{bad_value};
 ghost use Rattle.event_loop_laws.specs.Needs.{needs};
-ghost use Rattle.event_loop_laws.specs.Looks.{font_set, colour_set, offset_set};
+ghost use Rattle.event_loop_laws.specs.Looks.{font_set, colour_set, offset_set, SetsLook};
 ghost use Rattle.event_loop_laws.specs.Commands.{look_set, selection_set};
 ghost use Rattle.event_loop_laws.specs.Sound.{IsOver};
 ghost use Rattle.event_loop.specs.Kept.{kept};
@@ -80,6 +80,7 @@ impl Desk {
         new: Option<(u8, Look)>,
         source: &mut S,
     ) -> Result<Reply, Stop>
+        requires sets { SetsLook new }
         requires over { IsOver (S.characters source.old) (kept self.old) }
         ensures answered { IfOk result (Settles S.CharSource (λ d. needs new bad_value λ set. Ok (look_set d set))
             source.old source.new (kept self.old) (kept self.new)) }
@@ -100,6 +101,7 @@ impl Desk {
         new: Option<(u8, Look)>,
         source: &mut S,
     ) -> Result<Reply, Stop>
+        requires sets { SetsLook new }
         requires over { IsOver (S.characters source.old) (kept self.old) }
         ensures answered { IfOk result (Settles S.CharSource (λ d. needs new bad_value (selection_set d))
             source.old source.new (kept self.old) (kept self.new)) }

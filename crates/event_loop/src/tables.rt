@@ -55,7 +55,7 @@ pub fn unselect(selections: &mut Vec<Selection>, id: u8)
 }
 
 /// Whether a viewer shows the text of that number.
-fn is_in_sight(viewers: &Viewers, number: u16) -> bool
+pub fn is_in_sight(viewers: &Viewers, number: u16) -> bool
     ensures { result ≡ list_any (λ e. (e.1.menu == number) || (e.1.main == number)) viewers.now.items }
 {
     viewers
@@ -75,7 +75,7 @@ pub fn unused_number(texts: &BTreeMap<u16, Text>) -> u16
 }
 
 /// Whether there is a viewer of that id.
-fn has_id(viewers: &[(u8, Viewer)], id: u8) -> bool
+pub fn has_id(viewers: &[(u8, Viewer)], id: u8) -> bool
     ensures { result ≡ list_any (λ e. e.0 == id) viewers.now }
 {
     viewers.iter().any(|entry| entry.0 == id)

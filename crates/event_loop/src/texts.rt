@@ -2,8 +2,8 @@
 //!
 //! Each method says in one word (`IsChanged`) what it makes of the desktop: what the definition says, where the
 //! characters were told truly, and what holds whatever was told.
-ghost use Rattle.std.specs.Prelude.{◌≡◌, ◌+◌, ◌-◌, ◌<◌, ◌≤◌, ◌^◌, ◌⊎◌, ℕ, List, [], length, All};
-ghost use Rattle.std.specs.Prelude.{IsSome, OnOk, IfOk, ⊤};
+ghost use Rattle.std.specs.Prelude.{◌≡◌, ◌+◌, ◌-◌, ◌<◌, ◌≤◌, ◌^◌, ◌⊎◌, ℕ, List, length, All};
+ghost use Rattle.std.specs.Prelude.{IsSome, OnOk, ⊤};
 ghost use Rattle.sector_disk.specs.Faults.{FailsAs};
 ghost use Rattle.char_file.specs.Source.{OnlyReads};
 ghost use Rattle.piece_ring.specs.Flat.{flat};
@@ -13,6 +13,7 @@ ghost use Rattle.viewer_tracks.specs.Columns.{IsPlaced};
 ghost use Rattle.sector_disk.specs.Trail.{CountsFault};
 ghost use Rattle.readers_scanners.specs.Reading.{bytes};
 ghost use Rattle.event_loop_laws.specs.Tables.{numbered, with_values};
+ghost use Rattle.event_loop_laws.specs.Looks.{IsLook, AreLooks};
 ghost use Rattle.event_loop_laws.specs.Viewers.{text_in, viewer_or_none, unmarked, shows, rows_of};
 ghost use Rattle.event_loop_laws.specs.Change.{followed, insertion, deletion, looks_set, showing, caret_shown};
 ghost use Rattle.event_loop_laws.specs.ShapeLaws.{CanFollow, AreMoved};
@@ -183,6 +184,7 @@ impl Desk {
         requires place { pos ≤ length (flat (text_in (kept self.old).texts number)) }
         requires short { length (flat (text_in (kept self.old).texts number)) + length (flat buffer.old) < 2 ^ 32 }
         requires within { AreWithin (length (S.characters source.old)) (flat buffer.old) }
+        requires looks { AreLooks (flat buffer.old) }
         ensures changed { OnOk result (IsChanged (S.honest source.old) (S.characters source.old) (kept self.old)
             (kept self.new) (insertion (seen (S.characters source.old) (kept self.old)) number pos
             (seen_text (S.characters source.old) buffer.old)) (length (flat buffer.old)) 0) }
@@ -243,6 +245,7 @@ impl Desk {
         requires there { IsSome (numbered (kept self.old).texts
             (viewer_or_none (kept self.old).viewers selection.viewer).main) }
         requires some { selection.beg < selection.end }
+        requires look { IsLook look }
         requires within { selection.end ≤ length (flat (text_in (kept self.old).texts
             (viewer_or_none (kept self.old).viewers selection.viewer).main)) }
         ensures changed { OnOk result ((characters : List ℕ) → IsBuilt (length characters) (kept self.old)

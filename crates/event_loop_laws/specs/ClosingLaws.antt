@@ -31,6 +31,7 @@ use Rattle.event_loop_laws.specs.PlaceLaws.{dropped_held}
 use Rattle.event_loop_laws.specs.PlacedLaws.{seen_dropped, seen_anew, dropped_within, anew_within, anew_written}
 use Rattle.event_loop_laws.specs.PlacedLaws.{anew_held, dropped_written, done, fits_within, at_columns}
 use Rattle.event_loop_laws.specs.RowLaws.{known_no_viewer}
+use Rattle.event_loop_laws.specs.LookedLaws.{looks_stay}
 
 -- a viewer with its place, as it is kept once it is closed
 abbrev pub place_kept : Columns → ℕ → Kept
@@ -204,6 +205,7 @@ module _ (d : Desktop) (v : ℕ) (shaped : IsShaped d) (hold : IsColumns (after_
     marker = shaped.marker;
     files = shaped.files;
     pattern = shaped.pattern;
+    looks = looks_stay shaped.looks refl;
     kept_place = λ k here. let same : place_kept d.columns v ≡ k = cc here in subst IsKeptPlace same place;
     columns_hold = hold;
     once = λ w. let before = shaped.places.once w in let now = places w in omega (arith, before, now);
@@ -269,6 +271,7 @@ module _ (d : Desktop) (k : Kept) (shaped : IsShaped d) (is : d.kept ≡ Some k)
     marker = shaped.marker;
     files = shaped.files;
     pattern = shaped.pattern;
+    looks = looks_stay shaped.looks refl;
     kept_place = λ k here. absurd (cc here);
     columns_hold = hold;
     once = λ w.

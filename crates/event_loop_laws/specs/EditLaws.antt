@@ -43,6 +43,8 @@ use Rattle.event_loop_laws.specs.ShapeLaws.{reorged_one, moved_reorged, orgs_wit
 use Rattle.event_loop_laws.specs.ShapeLaws.{places_stay, main_stays, marks_stay, one_if, count_cons, fewer_outside}
 use Rattle.event_loop_laws.specs.ChangeLaws.{held_edited, org_shown}
 use Rattle.event_loop_laws.specs.TextLaws.{text_in_seen, long_seen, there_seen}
+use Rattle.event_loop_laws.specs.Looks.{AreLooks}
+use Rattle.event_loop_laws.specs.LookedLaws.{seen_looks, looks_stay, edited_looks}
 
 -- The text of that number became this one, and no other changed.
 pub record IsSet (old new : Texts (List Piece)) (n : ℕ) (text : Text ℕ) : Type 0 where
@@ -112,8 +114,8 @@ module _ (d : Desktop) (n : ℕ) (text : Text ℕ) (viewers : List (ℕ × Viewe
     mains_stay v other = ap later (main_stays later d.viewers viewers reorged v)
         ∙ later_other (viewer_or_none d.viewers v).main (differ (viewer_or_none d.viewers v).main n other)
 
-    pub edited_shaped : IsShaped (edited d n text viewers)
-    edited_shaped = record {
+    pub edited_shaped : AreLooks text → IsShaped (edited d n text viewers)
+    edited_shaped looks = record {
       viewers = viewers_stay d.texts (set_value (is_at (nat_cmp n)) d.texts text) d.viewers viewers
           (keys-set_value (is_at (nat_cmp n)) d.texts text) reorged shaped.viewers;
       places = places_stay later d.viewers viewers reorged d.columns d.kept shaped.places;
@@ -123,6 +125,7 @@ module _ (d : Desktop) (n : ℕ) (text : Text ℕ) (viewers : List (ℕ × Viewe
       marker = shaped.marker;
       files = shaped.files;
       pattern = shaped.pattern;
+      looks = edited_looks d shaped.looks n text viewers looks;
     }
 
 module _ (d : Desktop) (shaped : IsShaped d) where
@@ -151,6 +154,7 @@ module _ (d : Desktop) (shaped : IsShaped d) where
         marker = shaped.marker;
         files = shaped.files;
         pattern = shaped.pattern;
+        looks = looks_stay shaped.looks refl;
       }
 
   pub with_caret_shaped : (v p : ℕ) → IsPlaced v d.columns → p ≤ main_length d.texts d.viewers v
@@ -170,6 +174,7 @@ module _ (d : Desktop) (shaped : IsShaped d) where
     marker = shaped.marker;
     files = shaped.files;
     pattern = shaped.pattern;
+    looks = looks_stay shaped.looks refl;
   }
 
   pub unselected_shaped : (v : ℕ) → IsShaped (unselected d v)
@@ -186,6 +191,7 @@ module _ (d : Desktop) (shaped : IsShaped d) where
     marker = shaped.marker;
     files = shaped.files;
     pattern = shaped.pattern;
+    looks = looks_stay shaped.looks refl;
   }
 
 apart : (m n : ℕ) → ¬ (m ≡ n) → (m == n) ≡ false
@@ -238,6 +244,7 @@ with_selection_shaped d s shaped is =
       marker = shaped.marker;
       files = shaped.files;
       pattern = shaped.pattern;
+      looks = looks_stay shaped.looks refl;
     }
 
 -- ---- a text of a desktop that is kept
@@ -245,14 +252,14 @@ with_selection_shaped d s shaped is =
 module _ (characters : List ℕ) (d : KeptDesktop) (n : ℕ) (pieces : List Piece) (viewers : List (ℕ × Viewer))
     (more fewer : ℕ) (built : IsBuilt (length characters) d) (there : IsSome (numbered d.texts n))
     (moved : AreMoved n (length (flat pieces)) d.viewers viewers) (within : AreWithin (length characters) (flat pieces))
-    (long : length (flat pieces) + fewer ≡ length (flat (text_in d.texts n)) + more) where
+    (looks : AreLooks (flat pieces)) (long : length (flat pieces) + fewer ≡ length (flat (text_in d.texts n)) + more) where
   moved_as : (all : List ℕ) → AreMoved n (length (seen_text all pieces)) d.viewers viewers
   moved_as all = subst (λ size. AreMoved n size d.viewers viewers) (sym (length_seen_text all pieces)) moved
 
   all_shaped : (all : List ℕ) → IsShaped (edited (seen all d) n (seen_text all pieces) viewers)
   unfolding seen
   all_shaped all = edited_shaped (seen all d) n (seen_text all pieces) viewers (there_seen all d.texts n there)
-      (moved_as all) (built.shaped all)
+      (moved_as all) (built.shaped all) (seen_looks all pieces looks)
 
   all_shown : texts_shown viewers ≡ texts_shown d.viewers
   unfolding seen
@@ -432,7 +439,7 @@ module _ (characters : List ℕ) (d : KeptDesktop) (s : Selection) (pieces : Lis
     (there : IsSome (numbered d.texts (viewer_or_none d.viewers s.viewer).main)) (some : s.beg < s.end)
     (low : s.end ≤ length (flat (text_in d.texts (viewer_or_none d.viewers s.viewer).main)))
     (long : length (flat pieces) ≡ length (flat (text_in d.texts (viewer_or_none d.viewers s.viewer).main)))
-    (within : AreWithin (length characters) (flat pieces)) where
+    (within : AreWithin (length characters) (flat pieces)) (looks : AreLooks (flat pieces)) where
   abbrev its_text : ℕ
   its_text = (viewer_or_none d.viewers s.viewer).main
 
@@ -442,7 +449,7 @@ module _ (characters : List ℕ) (d : KeptDesktop) (s : Selection) (pieces : Lis
   looked : IsChanged ⊤ characters d with_looks (seen characters with_looks) 0 0
   looked = edited_changed characters d its_text pieces d.viewers 0 0 built there
       (stays_moved its_text (length (flat pieces)) (λ m. length (flat (text_in d.texts m)))
-      (omega (arith, long)) d.viewers (kept_orgs characters d built)) within (omega (arith, long)) ⊤
+      (omega (arith, long)) d.viewers (kept_orgs characters d built)) within looks (omega (arith, long)) ⊤
       (seen characters with_looks) (λ h. refl)
 
   selected_there : (all : List ℕ)
@@ -544,11 +551,11 @@ module _ (characters : List ℕ) (d : KeptDesktop) (texts : Texts (List Piece)) 
   module _ (new : KeptDesktop) (viewers : List (ℕ × Viewer))
       (is : new ≡ record (unmarked (shows d n) (record d { texts = texts })) { viewers = viewers })
       (moved : AreMoved n (length (flat (text_in texts n))) d.viewers viewers) where
-    pub set_changed : (H : Type 0) (outcome : Desktop)
+    pub set_changed : AreLooks text → (H : Type 0) (outcome : Desktop)
         → (H → seen characters (edited d n (text_in texts n) viewers) ≡ outcome)
         → IsChanged H characters d new outcome more fewer
-    set_changed H outcome exact =
+    set_changed looks H outcome exact =
         subst (λ (now : KeptDesktop). IsChanged H characters d now outcome more fewer)
         (sym (is ∙ (λ k. record (unmarked (shows d n) (record d { texts = set.set k })) { viewers = viewers })))
-        (edited_changed characters d n (text_in texts n) viewers more fewer built there moved set_within set_long H
-        outcome exact)
+        (edited_changed characters d n (text_in texts n) viewers more fewer built there moved set_within
+        (subst AreLooks (sym set.is) looks) set_long H outcome exact)

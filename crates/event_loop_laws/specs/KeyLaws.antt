@@ -47,8 +47,9 @@ use Rattle.event_loop_laws.specs.RowLaws.{main_seen, same_main, text_held}
 use Rattle.event_loop_laws.specs.MarkLaws.{with_caret_changed, with_selection_changed, escaped_changed}
 use Rattle.event_loop_laws.specs.RowPartLaws.{kept_main, kept_main_seen, kept_main_long, copy_seen, copy_long}
 use Rattle.event_loop_laws.specs.RowPartLaws.{selected_long, text_within, copied_changed, deleted_changed}
-use Rattle.event_loop_laws.specs.RowPartLaws.{copied_counts}
+use Rattle.event_loop_laws.specs.RowPartLaws.{copied_counts, copy_looks}
 use Rattle.event_loop_laws.specs.RowPartLaws.{put_in_counts, put_at_caret_counts, sent_counts, less_answered}
+use Rattle.event_loop_laws.specs.Looks.{AreLooks}
 
 -- ---- rows in general
 
@@ -252,11 +253,14 @@ module _ (H : Type 0) (old new : List ℕ) (before after : KeptDesktop) (over : 
         (text_within (length old) before (viewer_or_none before.viewers s.viewer).main
         (over_built old before over).within))
 
+    buffer_looks : AreLooks (flat buffer)
+    buffer_looks = copy_looks (length old) before s buffer (over_built old before over) buffer_is
+
     -- first a stretch was copied
     pub copy_changed : IsChanged H old before (record before { copied = buffer }) (with_copied (seen old before) s)
         (length (flat buffer)) (length (flat before.copied))
     copy_changed = copied_changed old before buffer (selected (seen old before) s) (over_built old before over)
-        buffer_within (λ h. copy_seen old before s buffer buffer_is)
+        buffer_within buffer_looks (λ h. copy_seen old before s buffer buffer_is)
 
     pub cut_answered : newest before ≡ Some s
         → IsChanged H old (record before { copied = buffer }) after
@@ -293,6 +297,7 @@ module _ (H : Type 0) (old new : List ℕ) (before after : KeptDesktop) (over : 
         (length (flat middle.deleted)) (length (flat buffer)) (s.end - s.beg + length (flat middle.deleted))
         (λ h. h) refl (λ h. refl) changed
         (deleted_changed old middle buffer (selected (seen old before) s) changed.built buffer_within
+        buffer_looks
         (λ h. copy_seen old before s buffer buffer_is)) (omega arith) refl)))
         (taken_out_some (seen old before) s some)
 

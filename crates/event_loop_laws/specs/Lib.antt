@@ -21,6 +21,7 @@ pub mod Outcome
 pub mod TableLaws
 pub mod SeenLaws
 pub mod TextLaws
+pub mod LookedLaws
 pub mod StepLaws
 pub mod PlaceLaws
 pub mod PlacedLaws

@@ -45,6 +45,7 @@ use Rattle.event_loop_laws.specs.RowLaws.{changed_further}
 use Rattle.event_loop_laws.specs.RowPartLaws.{kept_text_seen}
 use Rattle.event_loop_laws.specs.MarkLaws.{with_org_changed}
 use Rattle.event_loop_laws.specs.TextLaws.{text_in_seen}
+use Rattle.event_loop_laws.specs.LookedLaws.{written_shaped}
 
 -- A part of an event that writes, as the definitions have it: the same viewers show the same texts, so many characters
 -- are made, and so many more and so many fewer are held.
@@ -387,14 +388,7 @@ module _ {H G : Type 0} (old line now new : List ℕ) (before after : KeptDeskto
           copied = within.copied;
           deleted = within.deleted;
         };
-        shaped = λ all. record {
-          viewers = (changed.built.shaped all).viewers;
-          places = (changed.built.shaped all).places;
-          marks = (changed.built.shaped all).marks;
-          marker = (changed.built.shaped all).marker;
-          files = (changed.built.shaped all).files;
-          pattern = (changed.built.shaped all).pattern;
-        };
+        shaped = λ all. written_shaped (after.written + length line) (changed.built.shaped all);
       };
     };
     counted = λ all. let sum = changed.counted all in omega (arith, sum, line_long);

@@ -1,8 +1,8 @@
 -- Laws of looks that commands set: of what is typed, and of the newest selection.
-use Rattle.std.specs.Prelude.{◌≡◌, ⊤, ℕ, List, Option, Some, None, option_map, Result, Ok}
+use Rattle.std.specs.Prelude.{◌≡◌, ⊤, ℕ, List, length, Option, Some, None, option_map, Result, Ok}
 use Rattle.std.specs.List.{position}
 use Rattle.std.specs.Str.{bytes_eq}
-use Rattle.std.proofs.Common.{refl, ap, ◌∙◌, arith}
+use Rattle.std.proofs.Common.{refl, sym, ap, subst, ◌∙◌, arith}
 use Rattle.piece_ring.specs.declared.piece.Look.{Look}
 use Rattle.piece_ring.specs.Look.{default_look, relooked}
 use Rattle.event_loop_laws.specs.declared.viewer.Selection.{Selection}
@@ -19,10 +19,12 @@ use Rattle.event_loop_laws.specs.Step.{settled}
 use Rattle.event_loop_laws.specs.Sound.{IsSound, IsOver}
 use Rattle.event_loop_laws.specs.Changed.{IsChanged}
 use Rattle.event_loop_laws.specs.Outcome.{IsAnswered}
-use Rattle.event_loop_laws.specs.RowLaws.{known_no_selection, row_answered, changed_under}
+use Rattle.event_loop_laws.specs.RowLaws.{known_no_selection, row_answered, over_built, changed_under}
 use Rattle.event_loop_laws.specs.RowPartLaws.{less_answered}
 use Rattle.event_loop_laws.specs.KeyLaws.{refusal_answered, row_as}
 use Rattle.event_loop_laws.specs.RowLaws.{known_bad_value}
+use Rattle.event_loop_laws.specs.Looks.{IsLook, SetsLook}
+use Rattle.event_loop_laws.specs.LookedLaws.{relooked_is_look, typed_looks, shape_stays, kept_look}
 
 -- ---- what is typed
 
@@ -30,25 +32,19 @@ use Rattle.event_loop_laws.specs.RowLaws.{known_bad_value}
 abbrev pub in_typed : {T : Type 0} → DesktopOf T → Look → DesktopOf T
 in_typed d look = record d { look = look }
 
-typed_sound : (d : Desktop) (look : Look) → IsSound d → IsSound (in_typed d look)
+typed_sound : (d : Desktop) (look : Look) → IsLook look → IsSound d → IsSound (in_typed d look)
 unfolding held
-typed_sound d look sound = record {
-  shaped = record {
-    viewers = sound.shaped.viewers;
-    places = sound.shaped.places;
-    marks = sound.shaped.marks;
-    marker = sound.shaped.marker;
-    files = sound.shaped.files;
-    pattern = sound.shaped.pattern;
-  };
+typed_sound d look is sound = record {
+  shaped = shape_stays sound.shaped refl sound.shaped.pattern (typed_looks d sound.shaped.looks look is);
   shown = sound.shown;
   written_within = sound.written_within;
   held_within = sound.held_within;
 }
 
-typed_over : (old : List ℕ) (d : KeptDesktop) (look : Look) → IsOver old d → IsOver old (in_typed d look)
+typed_over : (old : List ℕ) (d : KeptDesktop) (look : Look) → IsLook look → IsOver old d
+    → IsOver old (in_typed d look)
 unfolding seen
-typed_over old d look over = record {
+typed_over old d look is over = record {
   counted = over.counted;
   whole = record {
     within = record {
@@ -57,7 +53,7 @@ typed_over old d look over = record {
       copied = over.whole.within.copied;
       deleted = over.whole.within.deleted;
     };
-    sound = λ all. typed_sound (seen all d) look (over.whole.sound all);
+    sound = λ all. typed_sound (seen all d) look is (over.whole.sound all);
   };
 }
 
@@ -68,14 +64,16 @@ module _ (H : Type 0) (old : List ℕ) (d : KeptDesktop) (over : IsOver old d) w
   none_set_answered new row is = refusal_answered H old d _ bad_value over known_bad_value
       (ap (λ (o : Option (ℕ × Look)). needs o bad_value row) is)
 
-  pub look_set_answered : (new : Option (ℕ × Look)) (set : ℕ × Look) (look : Look) → new ≡ Some set
+  pub look_set_answered : (new : Option (ℕ × Look)) (set : ℕ × Look) (look : Look) → SetsLook new → new ≡ Some set
       → look ≡ relooked set.0 set.1 d.look
       → IsAnswered H old old d (in_typed d look)
       (settled (seen old d) (needs new bad_value (λ set. Ok (look_set (seen old d) set)))) Done
   unfolding seen look_set
-  look_set_answered new set look is look_is =
+  look_set_answered new set look sets is look_is =
       row_as (seen old d) _
-      (row_answered H old old d (in_typed d look) (look_set (seen old d) set) (typed_over old d look over)
+      (row_answered H old old d (in_typed d look) (look_set (seen old d) set)
+      (typed_over old d look (subst IsLook (sym look_is) (relooked_is_look set.0 set.1 d.look (sets set is)
+      (kept_look (length old) d (over_built old d over)))) over)
       (λ h k. in_typed (seen old d) (look_is k)))
       (ap (λ (o : Option (ℕ × Look)). needs o bad_value (λ set. Ok (look_set (seen old d) set))) is)
 

@@ -30,6 +30,7 @@ use Rattle.event_loop_laws.specs.Step.{marked}
 use Rattle.event_loop_laws.specs.Sound.{IsViewer, IsCaret, IsSelection, AreMarks, IsShaped, IsBuilt}
 use Rattle.event_loop_laws.specs.Changed.{texts_shown, IsChanged}
 use Rattle.event_loop_laws.specs.TextLaws.{long_seen}
+use Rattle.event_loop_laws.specs.LookedLaws.{looks_stay}
 
 -- ---- one selection in each viewer
 
@@ -123,6 +124,7 @@ module _ (n : ℕ) (d : KeptDesktop) (built : IsBuilt n d) (caret : Option Caret
         marker = on_display;
         files = before.files;
         pattern = before.pattern;
+        looks = looks_stay before.looks refl;
       };
     }
 
@@ -373,6 +375,7 @@ module _ (x : Desktop) (shaped : IsShaped x) (viewers : List (ℕ × Viewer)) (f
     marker = shaped.marker;
     files = shaped.files;
     pattern = shaped.pattern;
+    looks = looks_stay shaped.looks refl;
   }
 
 module _ (H : Type 0) (characters : List ℕ) (d : KeptDesktop) (built : IsBuilt (length characters) d) (v org : ℕ)

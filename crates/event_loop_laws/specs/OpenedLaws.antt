@@ -30,6 +30,8 @@ use Rattle.event_loop_laws.specs.OpenLaws.{unused_none, put_itself, put_other, a
 use Rattle.event_loop_laws.specs.OpenLaws.{not_new, some_stays, length_stays, text_viewers, text_long, IsViewerMore}
 use Rattle.event_loop_laws.specs.OpenLaws.{viewer_viewers, viewer_long, placed_known}
 use Rattle.event_loop_laws.specs.HeldLaws.{any_put, any_put_without, lengths_put, filter_alike}
+use Rattle.event_loop_laws.specs.Looks.{AreLooks}
+use Rattle.event_loop_laws.specs.LookedLaws.{seen_looks, looks_stay, new_looks}
 
 module _ {T : Type 0} (d : DesktopOf T) where
   -- the number of a new text, and the id of a new viewer
@@ -83,8 +85,8 @@ module _ (d : Desktop) (text : Text ℕ) (shaped : IsShaped d) where
     numbers = rising_put nat_cmp_total (new_number d) text d.texts shaped.viewers.numbers;
   }
 
-  pub text_shaped : IsShaped (text_more d text)
-  text_shaped = record {
+  pub text_shaped : AreLooks text → IsShaped (text_more d text)
+  text_shaped looks = record {
     viewers = text_viewers d.texts (with_new d.texts text) (new_number d) is_text_more d.viewers shaped.viewers;
     places = shaped.places;
     marks = same_marks d.columns (main_length d.texts d.viewers) (main_length (with_new d.texts text) d.viewers)
@@ -94,6 +96,7 @@ module _ (d : Desktop) (text : Text ℕ) (shaped : IsShaped d) where
     marker = shaped.marker;
     files = shaped.files;
     pattern = shaped.pattern;
+    looks = new_looks d shaped.looks text looks;
   }
 
   pub new_shown : CanShow (text_more d text) (new_number d) 0
@@ -168,8 +171,8 @@ module _ (d : Desktop) (menu : Text ℕ) (main org : ℕ) (shaped : IsShaped d) 
         let before : times_there d.columns d.kept w ≡ found d.viewers w = shaped.places.once w in
         omega (arith, meant, same, all, before)
 
-    pub opening_anew : IsPlacedAnew (one_more d menu main org) columns taken
-    opening_anew = record {
+    pub opening_anew : AreLooks menu → IsPlacedAnew (one_more d menu main org) columns taken
+    opening_anew looks = record {
       viewers = viewer_viewers texts d.viewers (new_viewers d main org) (new_id d) (new_viewer d main org)
           is_viewer_more (text_viewers d.texts texts (new_number d) more d.viewers shaped.viewers);
       marks = same_marks d.columns (main_length d.texts d.viewers) (main_length texts (new_viewers d main org))
@@ -177,6 +180,7 @@ module _ (d : Desktop) (menu : Text ℕ) (main org : ℕ) (shaped : IsShaped d) 
       marker = shaped.marker;
       files = shaped.files;
       pattern = shaped.pattern;
+      looks = looks_stay (new_looks d shaped.looks menu looks) refl;
       kept_place = shaped.places.kept_place;
       columns_hold = hold;
       once = λ w. by_number w (new_id d) _
@@ -230,8 +234,8 @@ module _ (characters : List ℕ) (d : KeptDesktop) where
       ∙ sym (opening_is (seen characters d) menu (seen_text characters main) cell)
 
 pub text_built : (n : ℕ) (d : KeptDesktop) (text : List Piece) → IsBuilt n d → AreWithin n (flat text)
-    → IsBuilt n (text_more d text)
-text_built n d text built within = record {
+    → AreLooks (flat text) → IsBuilt n (text_more d text)
+text_built n d text built within looks = record {
   within = record {
     texts = All-values-insert_entry nat_cmp (new_number d) text (λ pieces. AreWithin n (flat pieces)) d.texts
         built.within.texts within;
@@ -240,7 +244,8 @@ text_built n d text built within = record {
     deleted = built.within.deleted;
   };
   shaped = λ characters. subst IsShaped (sym (seen_text_more characters d text))
-      (text_shaped (seen characters d) (seen_text characters text) (built.shaped characters));
+      (text_shaped (seen characters d) (seen_text characters text) (built.shaped characters)
+      (seen_looks characters text looks));
 }
 
 pub new_kept : (d : KeptDesktop) (text : List Piece) → ((characters : List ℕ) → IsShaped (seen characters d))

@@ -38,6 +38,8 @@ use Rattle.event_loop_laws.specs.FewLaws.{few_viewers, few_texts}
 use Rattle.event_loop_laws.specs.OpenLaws.{unused_none}
 use Rattle.event_loop_laws.specs.OpenedLaws.{new_number, new_id, text_more, one_more, opening_on_is, opening_is}
 use Rattle.event_loop_laws.specs.OpenedLaws.{CanShow, opening_anew, seen_opening_on, opening_seen, text_built, new_kept}
+use Rattle.event_loop_laws.specs.Looks.{AreLooks}
+use Rattle.event_loop_laws.specs.LookedLaws.{default_is_look, run_looks, seen_looks, written_shaped}
 
 -- ---- how many there are
 
@@ -169,23 +171,16 @@ pub record PlacesOpened (columns : Columns) (v : ℕ) (cell : ℕ × ℕ) : Type
       + times_meant w (replaced_at columns cell.0 cell.1) ≡ times_placed w columns + times_meant w (Some v)
 
 module _ (d : Desktop) (menu : Text ℕ) (main org : ℕ) (cell : ℕ × ℕ) (n : ℕ) (shaped : IsShaped d)
-    (can : CanShow d main org) (places : PlacesOpened d.columns (new_id d) cell) where
+    (can : CanShow d main org) (places : PlacesOpened d.columns (new_id d) cell) (looks : AreLooks menu) where
   on_shaped : IsShaped (dropped (opening_on d menu main org cell))
   on_shaped = dropped_shaped _ (subst IsShaped (sym (opening_on_is d menu main org cell))
       (anew_shaped (one_more d menu main org) _ _
-      (opening_anew d menu main org shaped can _ _ places.hold places.places)))
+      (opening_anew d menu main org shaped can _ _ places.hold places.places looks)))
 
   on_sound : fits (more_written (dropped (opening_on d menu main org cell)) n) ≡ true
       → IsSound (more_written (dropped (opening_on d menu main org cell)) n)
   on_sound fit = record {
-    shaped = record {
-      viewers = on_shaped.viewers;
-      places = on_shaped.places;
-      marks = on_shaped.marks;
-      marker = on_shaped.marker;
-      files = on_shaped.files;
-      pattern = on_shaped.pattern;
-    };
+    shaped = written_shaped _ on_shaped;
     shown = dropped_shown (opening_on d menu main org cell);
     written_within = fit_written _ fit;
     held_within = fit_held _ fit;
@@ -201,6 +196,7 @@ pub record IsOpeningOn (old bytes new : List ℕ) (d : KeptDesktop) (menu : List
   pub built : IsBuilt d.written d
   pub grown : new ≡ old ++ bytes
   pub within : AreWithin (d.written + length bytes) (flat menu)
+  pub looks : AreLooks (flat menu)
   pub can : (characters : List ℕ) → CanShow (seen characters d) main org
   pub places : PlacesOpened d.columns (new_id d) cell
   pub fit : (characters : List ℕ) (text : Text ℕ) → length text ≡ length (flat menu)
@@ -231,6 +227,7 @@ module _ (H : Type 0) (old bytes new : List ℕ) (d : KeptDesktop) (menu : List 
   sound_now characters =
       on_sound (seen characters d) (seen_text characters menu) main org cell n (on.built.shaped characters)
       (on.can characters) (record { hold = on.places.hold; places = on.places.places })
+      (seen_looks characters menu on.looks)
       (ap fits (dropped_more (opening_on (seen characters d) (seen_text characters menu) main org cell) n)
       ∙ on.fit characters (seen_text characters menu) (length_seen_text characters menu))
 
@@ -287,6 +284,9 @@ module _ (H : Type 0) (old bytes new : List ℕ) (d : KeptDesktop) (menu : List 
     menu_within = subst (AreWithin (d.written + length bytes)) (sym is)
         (run-AreWithin (d.written + length bytes) d.written (length bytes) default_look (omega arith))
 
+    menu_looks : AreLooks (flat menu)
+    menu_looks = subst AreLooks (sym is) (run_looks d.written (length bytes) default_look default_is_look)
+
     menu_read : seen_text new menu ≡ plain bytes
     menu_read = ap (λ (l : List ℕ). seen_text l menu) grown ∙ ap (contents (old ++ bytes)) is
         ∙ new_read old bytes d.written default_look over.counted
@@ -301,7 +301,7 @@ module _ (H : Type 0) (old bytes new : List ℕ) (d : KeptDesktop) (menu : List 
     built = record { within = over.whole.within; shaped = shaped }
 
     -- the main text is new, of characters that were there
-    pub opening_answered : (main : List Piece) → AreWithin d.written (flat main)
+    pub opening_answered : (main : List Piece) → AreWithin d.written (flat main) → AreLooks (flat main)
         → ((characters : List ℕ) (menu_text main_text : Text ℕ) → length menu_text ≡ length bytes
         → length main_text ≡ length (flat main)
         → fits (dropped (more_written (opening (seen characters d) menu_text main_text cell) (length bytes))) ≡ true)
@@ -310,12 +310,13 @@ module _ (H : Type 0) (old bytes new : List ℕ) (d : KeptDesktop) (menu : List 
         (settled (seen old d)
         (Ok (more_written (opening (seen old d) (plain bytes) (seen_text old main) cell) (length bytes)))) Done
     unfolding opening
-    opening_answered main within fit =
+    opening_answered main within looks fit =
         on_answered H old bytes new (text_more d main) menu (new_number d) 0 cell (record {
           counted = over.counted;
-          built = text_built d.written d main built within;
+          built = text_built d.written d main built within looks;
           grown = grown;
           within = menu_within;
+          looks = menu_looks;
           can = new_kept d main shaped;
           places = record { hold = places.hold; places = places.places };
           fit = λ characters text long.
@@ -339,6 +340,7 @@ module _ (H : Type 0) (old bytes new : List ℕ) (d : KeptDesktop) (menu : List 
           built = record { within = built.within; shaped = shaped };
           grown = grown;
           within = menu_within;
+          looks = menu_looks;
           can = can;
           places = record { hold = places.hold; places = places.places };
           fit = λ characters text long. fit characters text (long ∙ menu_long);

@@ -45,7 +45,7 @@ use Rattle.event_loop_laws.specs.Gesture.{tool_opened}
 use Rattle.event_loop_laws.specs.Seen.{seen, seen_text}
 use Rattle.event_loop_laws.specs.Step.{fits, settled}
 use Rattle.event_loop_laws.specs.StepLaws.{AllShown}
-use Rattle.event_loop_laws.specs.Sound.{IsShaped, IsKeptWhole, IsOver}
+use Rattle.event_loop_laws.specs.Sound.{IsShaped, IsBuilt, IsKeptWhole, IsOver}
 use Rattle.event_loop_laws.specs.Outcome.{IsAnswered}
 use Rattle.event_loop_laws.specs.OutcomeLaws.{refused, length_in_look}
 use Rattle.event_loop_laws.specs.PlaceLaws.{any_at}
@@ -55,6 +55,11 @@ use Rattle.event_loop_laws.specs.OpenedLaws.{new_id, by_others, staying, CanShow
 use Rattle.event_loop_laws.specs.OpeningDone.{PlacesOpened, written_on, on_answered}
 use Rattle.event_loop_laws.specs.OpeningDone.{written_answered}
 use Rattle.event_loop_laws.specs.RowPartLaws.{kept_text_seen, text_within}
+use Rattle.event_loop_laws.specs.Looks.{AreLooks}
+use Rattle.event_loop_laws.specs.LookedLaws.{found_looks, kept_text_looks, kept_files_looks}
+
+whole_built : (d : KeptDesktop) → IsKeptWhole d → IsBuilt d.written d
+whole_built d whole = record { within = whole.within; shaped = λ characters. (whole.sound characters).shaped }
 
 -- ---- refusals
 
@@ -277,16 +282,15 @@ module _ (H : Type 0) (old : List ℕ) (d : KeptDesktop) (v x bottom top : ℕ) 
       let none : d.written + 0 ≡ d.written = omega arith in
       let after : KeptDesktop = dropped (opening_on d menu viewer.main viewer.org cell) in
       let same : d.written + 0 ≡ after.written = none ∙ sym (written_on d menu viewer.main viewer.org cell) in
+      let built = whole_built d over.whole in
       let answered = on_answered H old [] old d menu viewer.main viewer.org cell (record {
         counted = over.counted;
-        built = record {
-          within = over.whole.within;
-          shaped = λ characters. (over.whole.sound characters).shaped;
-        };
+        built = record { within = built.within; shaped = built.shaped };
         grown = sym (append-nil old);
         within = subst (λ (t : Text ℕ). AreWithin (d.written + 0) t) (sym copy)
             (subst (λ (n : ℕ). AreWithin n (flat (text_in d.texts viewer.menu))) (sym none)
             (text_within d.written d viewer.menu over.whole.within));
+        looks = subst AreLooks (sym copy) (kept_text_looks d.written d built viewer.menu);
         can = can;
         places = record { hold = places.hold; places = places.places };
         fit = fit;
@@ -362,6 +366,10 @@ pub file_within : (d : KeptDesktop) (name : List ℕ) → IsKeptWhole d → AreW
 file_within d name whole = or_none_within d.written (named d.files name)
     (IfSome-lookup_from_All (λ pieces. AreWithin d.written (flat pieces)) (is_at (name_cmp name)) d.files
     whole.within.files)
+
+pub file_looks : (d : KeptDesktop) (name : List ℕ) → IsKeptWhole d → AreLooks (flat (kept_file d name))
+file_looks d name whole =
+    found_looks (is_at (name_cmp name)) d.files (kept_files_looks d.written d (whole_built d whole))
 
 module _ (old : List ℕ) (d : KeptDesktop) (name : List ℕ) where
   -- the file as it is seen

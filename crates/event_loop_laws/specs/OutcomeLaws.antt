@@ -25,6 +25,8 @@ use Rattle.event_loop_laws.specs.Step.{filed, fits, step}
 use Rattle.event_loop_laws.specs.StepLaws.{file_done, filed_sound}
 use Rattle.event_loop_laws.specs.Sound.{IsSound, AllWithin, IsWithin, IsOver}
 use Rattle.event_loop_laws.specs.Outcome.{codes, IsAnswered}
+use Rattle.event_loop_laws.specs.Looks.{AreLooks}
+use Rattle.event_loop_laws.specs.LookedLaws.{default_is_look, run_looks, seen_looks}
 
 pub refused : (H : Type 0) (old : List ℕ) (d : KeptDesktop) (outcome : Desktop × Reply) (code : ℕ) → IsOver old d
     → OneOf codes code → (H → (seen old d, No code) ≡ outcome) → IsAnswered H old old d d outcome (No code)
@@ -89,6 +91,10 @@ module _ (H : Type 0) (old bytes new : List ℕ) (d : KeptDesktop) (name : List 
     unfolding seen
     room_seen = room
 
+    text_looks : (characters : List ℕ) → AreLooks (seen_text characters text)
+    text_looks characters = seen_looks characters text
+        (subst AreLooks (sym is) (run_looks d.written (length bytes) default_look default_is_look))
+
     more : IsWithin (d.written + length bytes) d
     more = within_longer d.written (d.written + length bytes) d (omega arith) over.whole.within
 
@@ -107,7 +113,7 @@ module _ (H : Type 0) (old bytes new : List ℕ) (d : KeptDesktop) (name : List 
         };
         sound = λ characters. subst IsSound (sym (file_read characters))
             (filed_sound (seen characters d) name (seen_text characters text) (over.whole.sound characters) valid
-            (room_seen characters) (fit characters _ (long characters)));
+            (room_seen characters) (text_looks characters) (fit characters _ (long characters)));
       };
     }
 

@@ -34,8 +34,9 @@ use Rattle.event_loop_laws.specs.Viewers.{viewer_in, text_in, main_length, caret
 use Rattle.event_loop_laws.specs.Viewers.{without_viewer, no_viewer}
 use Rattle.event_loop_laws.specs.Opening.{is_shown, dropped}
 use Rattle.event_loop_laws.specs.Sound.{AreViewers, times_there, IsKeptPlace, IsCaret, IsSelection}
-use Rattle.event_loop_laws.specs.Sound.{AreMarks, AreFiles, IsShaped}
+use Rattle.event_loop_laws.specs.Sound.{AreMarks, AreFiles, HasLooks, IsShaped}
 use Rattle.event_loop_laws.specs.StepLaws.{AllShown}
+use Rattle.event_loop_laws.specs.LookedLaws.{looks_stay, dropped_looks}
 
 -- ---- numbers in a table
 
@@ -236,6 +237,7 @@ pub record IsPlacedAnew (d : Desktop) (columns : Columns) (taken : Option ℕ) :
   pub marker : ForSome d.marker (λ m. (m.0 < COLUMNS) × (m.1 < ROWS))
   pub files : AreFiles d.files
   pub pattern : length d.pattern ≤ most_pattern
+  pub looks : HasLooks d
   pub kept_place : ForSome d.kept IsKeptPlace
   pub columns_hold : IsColumns columns
   pub once : (w : ℕ) → times_there columns d.kept w + times_meant w taken
@@ -283,6 +285,7 @@ module _ (d : Desktop) (columns : Columns) where
     marker = are.marker;
     files = are.files;
     pattern = are.pattern;
+    looks = looks_stay are.looks refl;
   } where
     still : (w : ℕ) → IsPlacedAnew d columns None → 0 + 1 ≤ times_placed w d.columns → 0 + 1 ≤ times_placed w columns
     still w are placed = let stay = are.stay w in omega (arith, stay, placed)
@@ -297,6 +300,7 @@ module _ (d : Desktop) (columns : Columns) where
     marker = are.marker;
     files = are.files;
     pattern = are.pattern;
+    looks = looks_stay are.looks refl;
   }
 
   -- where nobody comes
@@ -309,6 +313,7 @@ module _ (d : Desktop) (columns : Columns) where
     marker = shaped.marker;
     files = shaped.files;
     pattern = shaped.pattern;
+    looks = shaped.looks;
     kept_place = shaped.places.kept_place;
     columns_hold = hold;
     once = λ w. let before = shaped.places.once w in let now = places w in omega (arith, before, now);
@@ -441,6 +446,7 @@ module _ (d : Desktop) where
     marker = shaped.marker;
     files = shaped.files;
     pattern = shaped.pattern;
+    looks = dropped_looks d shaped.looks;
   }
 
   pub dropped_shown : AllShown (dropped d)

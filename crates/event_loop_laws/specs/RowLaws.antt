@@ -36,6 +36,7 @@ use Rattle.event_loop_laws.specs.Sound.{AreViewers, ArePlaces, IsSound, IsWithin
 use Rattle.event_loop_laws.specs.Changed.{texts_shown, IsChanged, Counts}
 use Rattle.event_loop_laws.specs.Outcome.{codes, IsAnswered}
 use Rattle.event_loop_laws.specs.OutcomeLaws.{refused, acted, within_longer}
+use Rattle.event_loop_laws.specs.LookedLaws.{written_shaped}
 
 -- Whether the limits on characters hold once so many are made, and so many more and so many fewer are held.
 unfoldable pub has_space : Desktop → ℕ → ℕ → ℕ → Bool
@@ -227,14 +228,7 @@ module _ {H : Type 0} (old now new : List ℕ) (before after : KeptDesktop) (out
         deleted = within.deleted;
       };
       sound = λ all. record {
-        shaped = record {
-          viewers = (changed.built.shaped all).viewers;
-          places = (changed.built.shaped all).places;
-          marks = (changed.built.shaped all).marks;
-          marker = (changed.built.shaped all).marker;
-          files = (changed.built.shaped all).files;
-          pattern = (changed.built.shaped all).pattern;
-        };
+        shaped = written_shaped (after.written + made) (changed.built.shaped all);
         shown = shown_seen all;
         written_within = written_within all;
         held_within = held_within all;

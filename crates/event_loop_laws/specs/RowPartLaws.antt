@@ -33,6 +33,9 @@ use Rattle.event_loop_laws.specs.Sound.{IsSelection, IsSound, IsWithin, IsBuilt,
 use Rattle.event_loop_laws.specs.Changed.{IsChanged, Counts}
 use Rattle.event_loop_laws.specs.Outcome.{IsAnswered}
 use Rattle.event_loop_laws.specs.RowLaws.{has_space, changed_as, changed_further, counts_then, rest_answered}
+use Rattle.event_loop_laws.specs.Looks.{AreLooks}
+use Rattle.event_loop_laws.specs.LookedLaws.{seen_looks, stretch_looks, kept_text_looks}
+use Rattle.event_loop_laws.specs.LookedLaws.{copied_looks, taken_looks, shape_stays}
 
 -- the pieces of a viewer's main text
 abbrev pub kept_main : KeptDesktop → ℕ → List Piece
@@ -75,6 +78,13 @@ pub selected_long : (characters : List ℕ) (d : KeptDesktop) (s : Selection) �
 selected_long characters d s order within =
     let long = kept_main_long characters d s.viewer in
     length-stretch s.beg s.end (main_of (seen characters d) s.viewer) order (omega (arith, within, long))
+
+-- its characters have looks that there are
+pub copy_looks : (n : ℕ) (d : KeptDesktop) (s : Selection) (buffer : List Piece) → IsBuilt n d
+    → flat buffer ≡ stretch s.beg s.end (flat (kept_main d s.viewer)) → AreLooks (flat buffer)
+copy_looks n d s buffer built is = subst AreLooks (sym is)
+    (stretch_looks s.beg s.end (flat (kept_main d s.viewer))
+    (kept_text_looks n d built (viewer_or_none d.viewers s.viewer).main))
 
 pub text_within : (n : ℕ) (d : KeptDesktop) (m : ℕ) → IsWithin n d → AreWithin n (flat (text_in d.texts m))
 text_within n d m within = within_table n d.texts m within.texts
@@ -121,7 +131,7 @@ kept_newest n d s built is =
 
 module _ {H : Type 0} (characters : List ℕ) (d : KeptDesktop) (buffer : List Piece) (text : Text ℕ)
     (built : IsBuilt (length characters) d) (within : AreWithin (length characters) (flat buffer))
-    (is : H → seen_text characters buffer ≡ text) where
+    (looks : AreLooks (flat buffer)) (is : H → seen_text characters buffer ≡ text) where
   -- something else was copied last
   pub copied_changed : IsChanged H characters d (record d { copied = buffer })
       (record (seen characters d) { copied = text }) (length (flat buffer)) (length (flat d.copied))
@@ -135,14 +145,8 @@ module _ {H : Type 0} (characters : List ℕ) (d : KeptDesktop) (buffer : List P
         copied = within;
         deleted = built.within.deleted;
       };
-      shaped = λ all. record {
-        viewers = (built.shaped all).viewers;
-        places = (built.shaped all).places;
-        marks = (built.shaped all).marks;
-        marker = (built.shaped all).marker;
-        files = (built.shaped all).files;
-        pattern = (built.shaped all).pattern;
-      };
+      shaped = λ all. shape_stays (built.shaped all) refl (built.shaped all).pattern
+          (copied_looks (seen all d) (built.shaped all).looks (seen_text all buffer) (seen_looks all buffer looks));
     };
     counted = λ all.
         let new = length_seen_text all buffer in
@@ -164,14 +168,8 @@ module _ {H : Type 0} (characters : List ℕ) (d : KeptDesktop) (buffer : List P
         copied = built.within.copied;
         deleted = within;
       };
-      shaped = λ all. record {
-        viewers = (built.shaped all).viewers;
-        places = (built.shaped all).places;
-        marks = (built.shaped all).marks;
-        marker = (built.shaped all).marker;
-        files = (built.shaped all).files;
-        pattern = (built.shaped all).pattern;
-      };
+      shaped = λ all. shape_stays (built.shaped all) refl (built.shaped all).pattern
+          (taken_looks (seen all d) (built.shaped all).looks (seen_text all buffer) (seen_looks all buffer looks));
     };
     counted = λ all.
         let new = length_seen_text all buffer in

@@ -38,6 +38,8 @@ use Rattle.event_loop_laws.specs.RowLaws.{has_space, rest_answered, fewer_answer
 use Rattle.event_loop_laws.specs.RowLaws.{unchanged, changed_as, changed_further}
 use Rattle.event_loop_laws.specs.RowPartLaws.{kept_main, kept_main_seen, kept_caret, put_at_caret_counts}
 use Rattle.event_loop_laws.specs.KeyLaws.{row_as, main_there_seen, copied_small, deleted_small}
+use Rattle.event_loop_laws.specs.LookedLaws.{looks_stay, shape_stays, kept_copied_looks, kept_deleted_looks}
+use Rattle.event_loop_laws.specs.Looks.{AreLooks}
 
 -- ---- bytes that were read from a place on
 
@@ -231,14 +233,7 @@ pattern_changed H characters d pattern built few = record {
       copied = built.within.copied;
       deleted = built.within.deleted;
     };
-    shaped = λ all. record {
-      viewers = (built.shaped all).viewers;
-      places = (built.shaped all).places;
-      marks = (built.shaped all).marks;
-      marker = (built.shaped all).marker;
-      files = (built.shaped all).files;
-      pattern = few;
-    };
+    shaped = λ all. shape_stays (built.shaped all) refl few (looks_stay (built.shaped all).looks refl);
   };
   counted = λ all. omega arith;
   rest = record { numbers = refl; viewers = refl; written = refl };
@@ -395,6 +390,11 @@ pub buffer_small : (old : List ℕ) (d : KeptDesktop) (deleted : Bool) → IsOve
     → length (flat (if deleted then d.deleted else d.copied)) ≤ most_held
 buffer_small old d true over = deleted_small old d over
 buffer_small old d false over = copied_small old d over
+
+pub buffer_looks : (old : List ℕ) (d : KeptDesktop) (deleted : Bool) → IsOver old d
+    → AreLooks (flat (if deleted then d.deleted else d.copied))
+buffer_looks old d true over = kept_deleted_looks (length old) d (over_built old d over)
+buffer_looks old d false over = kept_copied_looks (length old) d (over_built old d over)
 
 module _ (H : Type 0) (old : List ℕ) (d : KeptDesktop) (buffer : List Piece) (text : Text ℕ) (over : IsOver old d)
     (text_is : seen_text old buffer ≡ text) where

@@ -16,6 +16,7 @@ use Rattle.event_loop_laws.specs.declared.viewer.Caret.{Caret}
 use Rattle.event_loop_laws.specs.declared.viewer.Selection.{Selection}
 use Rattle.event_loop_laws.specs.declared.viewer.Kept.{Kept}
 use Rattle.event_loop_laws.specs.Limits.{most_files, most_written, most_held, most_pattern}
+use Rattle.event_loop_laws.specs.Looks.{IsLook, AreLooks}
 use Rattle.event_loop_laws.specs.Tables.{Texts, Files, name_cmp, numbered}
 use Rattle.event_loop_laws.specs.Desktop.{Desktop, KeptDesktop, held}
 use Rattle.event_loop_laws.specs.Viewers.{viewer_in, text_in, main_length}
@@ -89,6 +90,16 @@ pub record AreFiles {T : Type 0} (files : Files T) : Type 0 where
   pub rising : IsStrictlySortedBy name_cmp (keys_of files)
   pub few : length files ≤ most_files
 
+-- ---- looks
+
+-- all that has a look has one that there is
+pub record HasLooks (d : Desktop) : Type 0 where
+  pub look : IsLook d.look
+  pub texts : All AreLooks (values_of d.texts)
+  pub files : All AreLooks (values_of d.files)
+  pub copied : AreLooks d.copied
+  pub deleted : AreLooks d.deleted
+
 -- ---- the desktop
 
 -- What holds of a desktop also inside an event: all but the limits on characters and that no text is left over.
@@ -99,6 +110,7 @@ pub record IsShaped (d : Desktop) : Type 0 where
   pub marker : ForSome d.marker (λ m. (m.0 < COLUMNS) × (m.1 < ROWS))
   pub files : AreFiles d.files
   pub pattern : length d.pattern ≤ most_pattern
+  pub looks : HasLooks d
 
 pub record IsSound (d : Desktop) : Type 0 where
   pub shaped : IsShaped d

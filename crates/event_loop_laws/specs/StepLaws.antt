@@ -7,6 +7,7 @@ use Rattle.std.specs.List.Sorted.{IsStrictlySortedBy}
 use Rattle.std.proofs.Common.{refl, sym, ap, arith, rules}
 use Rattle.std.proofs.lemmas.Bool.{leb-true}
 use Rattle.std.proofs.lemmas.Cmp.{nat_cmp_total, lists_total}
+use Rattle.std.proofs.lemmas.List.Elements.{All-nil, All-cons}
 use Rattle.std.proofs.lemmas.Map.Views.{All-keys-insert_entry}
 use Rattle.piece_ring.specs.Text.{Text}
 use Rattle.viewer_tracks.specs.Columns.{track_of}
@@ -21,6 +22,8 @@ use Rattle.event_loop_laws.specs.Opening.{is_shown, dropped}
 use Rattle.event_loop_laws.specs.Change.{plain}
 use Rattle.event_loop_laws.specs.Step.{filed, fits, settled, raw, step, step_in}
 use Rattle.event_loop_laws.specs.Sound.{IsShaped, IsSound}
+use Rattle.event_loop_laws.specs.Looks.{AreLooks}
+use Rattle.event_loop_laws.specs.LookedLaws.{default_is_look, no_looks, looks_stay, put_looks}
 
 -- ---- the end of an event
 
@@ -95,9 +98,9 @@ fit_held d fit = leb-true _ _ (both _ _ fit).1
 -- ---- what is sound stays so
 
 pub filed_shaped : (d : Desktop) (name : List ℕ) (text : Text ℕ) → IsShaped d → IsTrue (is_name name)
-    → has_room d.files name ≡ true → IsShaped (filed d name text)
+    → has_room d.files name ≡ true → AreLooks text → IsShaped (filed d name text)
 unfolding filed
-filed_shaped d name text shaped valid room = record {
+filed_shaped d name text shaped valid room looks = record {
   viewers = shaped.viewers;
   places = shaped.places;
   marks = shaped.marks;
@@ -108,13 +111,14 @@ filed_shaped d name text shaped valid room = record {
     few = put_few d.files name text shaped.files.rising shaped.files.few room;
   };
   pattern = shaped.pattern;
+  looks = looks_stay (put_looks d shaped.looks name text looks) refl;
 }
 
 pub filed_sound : (d : Desktop) (name : List ℕ) (text : Text ℕ) → IsSound d → IsTrue (is_name name)
-    → has_room d.files name ≡ true → fits (filed d name text) ≡ true → IsSound (filed d name text)
+    → has_room d.files name ≡ true → AreLooks text → fits (filed d name text) ≡ true → IsSound (filed d name text)
 unfolding filed
-filed_sound d name text sound valid room fit = record {
-  shaped = filed_shaped d name text sound.shaped valid room;
+filed_sound d name text sound valid room looks fit = record {
+  shaped = filed_shaped d name text sound.shaped valid room looks;
   shown = sound.shown;
   written_within = fit_written _ fit;
   held_within = fit_held _ fit;
@@ -149,6 +153,13 @@ empty_sound = record {
     marker = λ m here. absurd (cc here);
     files = record { names = search rules; rising = tt; few = omega arith };
     pattern = omega arith;
+    looks = record {
+      look = default_is_look;
+      texts = All-cons AreLooks [] [] no_looks (All-nil AreLooks);
+      files = All-nil AreLooks;
+      copied = no_looks;
+      deleted = no_looks;
+    };
   };
   shown = search rules;
   written_within = omega arith;

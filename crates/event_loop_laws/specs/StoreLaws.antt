@@ -1,7 +1,7 @@
 -- Laws of files that are stored and deleted: what is seen of it, what it holds, and that the files stay in shape.
 use Rattle.std.specs.Prelude.{◌≡◌, ℕ, ◌+◌, ◌≤◌, ◌&&◌, ◌||◌, not, Bool, true, false, cond, IsTrue, List, [], ◌∷◌, length}
 use Rattle.std.specs.Prelude.{suc, ◌<◌, ◌-◌, sum_by, fold, Option, Some, is_some, nat_lt, take, drop, get_or}
-use Rattle.std.specs.Prelude.{map, Result, Ok, Err}
+use Rattle.std.specs.Prelude.{All, map, Result, Ok, Err}
 use Rattle.std.specs.Option.{option_map, unwrap_or}
 use Rattle.std.specs.List.{AllByRecursion, list_any, list_all}
 use Rattle.std.specs.List.Sorted.{IsStrictlySortedBy}
@@ -19,6 +19,7 @@ use Rattle.std.proofs.lemmas.Map.Entries.{sum_by-remove_entry}
 use Rattle.std.proofs.lemmas.Map.Made.{keys_of-map_values, is_some-lookup}
 use Rattle.std.proofs.lemmas.Map.Text.{is_eq-slice_cmp}
 use Rattle.std.proofs.lemmas.Map.Views.{All-map-remove_entry, All-keys-insert_entry}
+use Rattle.std.proofs.lemmas.Map.Views.{All-values-insert_entry}
 use Rattle.std.proofs.lemmas.Slice.Eq.{bytes_eq-Decides}
 use Rattle.piece_ring.specs.declared.piece.Piece.{Piece}
 use Rattle.piece_ring.specs.Flat.{flat}
@@ -46,6 +47,8 @@ use Rattle.event_loop_laws.specs.RowLaws.{has_space, space_held, changed_as, ove
 use Rattle.event_loop_laws.specs.RowLaws.{known_too_many_files}
 use Rattle.event_loop_laws.specs.KeyLaws.{refusal_answered, row_as}
 use Rattle.event_loop_laws.specs.LogLaws.{line_bytes, logged_full, all_logged_full, changed_stands, extended_answered}
+use Rattle.event_loop_laws.specs.Looks.{AreLooks}
+use Rattle.event_loop_laws.specs.LookedLaws.{AllLooked, seen_table_looks, files_looks, kept_files_looks}
 
 -- ---- a loop over a list
 
@@ -212,12 +215,13 @@ files_without files (name ∷ names) are =
       few = (let few = are.few in omega (arith, few, fewer));
     })
 
-within_without : (n : ℕ) (files : Files (List Piece)) (names : List (List ℕ)) → AllWithin n files
-    → AllWithin n (fold without_file files names)
-within_without n files [] within = within
-within_without n files (name ∷ names) within =
-    within_without n (without_file files name) names
-    (All-map-remove_entry (is_at (name_cmp name)) (λ e. e.1) (λ pieces. AreWithin n (flat pieces)) files within)
+-- what holds of each file holds of those that are left
+all_without : {X : Type 0} (P : X → Type 0) (files : Files X) (names : List (List ℕ)) → All P (values_of files)
+    → All P (values_of (fold without_file files names))
+all_without P files [] all = all
+all_without P files (name ∷ names) all =
+    all_without P (without_file files name) names
+    (All-map-remove_entry (is_at (name_cmp name)) (λ e. e.1) P files all)
 
 -- what is seen of them
 without_seen : {X Y : Type 0} (f : X → Y) (files : Files X) (name : List ℕ)
@@ -285,12 +289,13 @@ files_counts d files more fewer sum = record {
 
 module _ {H : Type 0} (characters : List ℕ) (d : KeptDesktop) (built : IsBuilt (length characters) d) where
   files_changed : (files : Files (List Piece)) (more fewer : ℕ) → AllWithin (length characters) files
+      → AllLooked files
       → ((all : List ℕ) → AreFiles (seen_table all files))
       → ((all : List ℕ) → lengths (seen_table all files) + fewer ≡ lengths (seen_table all d.files) + more)
       → IsChanged H characters d (record d { files = files })
       (record (seen characters d) { files = seen_table characters files }) more fewer
   unfolding seen held
-  files_changed files more fewer within are sum = record {
+  files_changed files more fewer within looks are sum = record {
     exact = λ h. refl;
     built = record {
       within = record {
@@ -306,6 +311,8 @@ module _ {H : Type 0} (characters : List ℕ) (d : KeptDesktop) (built : IsBuilt
         marker = (built.shaped all).marker;
         files = are all;
         pattern = (built.shaped all).pattern;
+        looks = files_looks (seen all d) (built.shaped all).looks (seen_table all files)
+            (seen_table_looks all files looks);
       };
     };
     counted = λ all. omega (arith, sum all);
@@ -325,7 +332,9 @@ module _ {H : Type 0} (characters : List ℕ) (d : KeptDesktop) (built : IsBuilt
       changed_as (record (seen characters d) { files = fold without_file (seen_table characters d.files) names })
       (files_changed files 0 gone
       (subst (AllWithin (length characters)) (sym is)
-      (within_without (length characters) d.files names built.within.files))
+      (all_without (λ pieces. AreWithin (length characters) (flat pieces)) d.files names built.within.files))
+      (subst AllLooked (sym is) (all_without (λ pieces. AreLooks (flat pieces)) d.files names
+      (kept_files_looks (length characters) d built)))
       (λ all. subst AreFiles (sym (left all)) (files_without (seen_table all d.files) names (built.shaped all).files))
       (λ all. (let same : lengths (seen_table all files)
       ≡ lengths (fold without_file (seen_table all d.files) names) = ap lengths (left all) in omega
@@ -335,19 +344,21 @@ module _ {H : Type 0} (characters : List ℕ) (d : KeptDesktop) (built : IsBuilt
   -- the file of a name is another text
   pub storing_changed : (files : Files (List Piece)) (name : List ℕ) (text : List Piece) (gone : ℕ) (outcome : Text ℕ)
       → files ≡ put d.files name text → IsTrue (is_name name) → has_room (seen_table [] d.files) name ≡ true
-      → AreWithin (length characters) (flat text) → seen_text characters text ≡ outcome
+      → AreWithin (length characters) (flat text) → AreLooks (flat text) → seen_text characters text ≡ outcome
       → ((all : List ℕ) (new : Text ℕ) → lengths (put (seen_table all d.files) name new) + gone
       ≡ lengths (seen_table all d.files) + length new)
       → IsChanged H characters d (record d { files = files })
       (record (seen characters d) { files = put (seen characters d).files name outcome })
       (length (flat text)) gone
   unfolding seen
-  storing_changed files name text gone outcome is valid room within text_is sum =
+  storing_changed files name text gone outcome is valid room within looks text_is sum =
       let now = λ (all : List ℕ). ap (seen_table all) is ∙ insert_seen (seen_text all) name_cmp d.files name text in
       changed_as (record (seen characters d) { files = put (seen_table characters d.files) name outcome })
       (files_changed files (length (flat text)) gone
       (subst (AllWithin (length characters)) (sym is)
       (put_within (length characters) (length characters) d.files name text (omega arith) built.within.files within))
+      (subst AllLooked (sym is) (All-values-insert_entry name_cmp name text (λ pieces. AreLooks (flat pieces)) d.files
+      (kept_files_looks (length characters) d built) looks))
       (λ all. subst AreFiles (sym (now all)) (files_put (seen_table all d.files) name (seen_text all text)
       (built.shaped all).files valid
       (has_room_seen all d.files name ∙ sym (has_room_seen [] d.files name) ∙ room)))
@@ -472,13 +483,14 @@ module _ (H : Type 0) (old : List ℕ) (d : KeptDesktop) (over : IsOver old d) (
 
     module _ (files : Files (List Piece)) (pieces : List Piece) (is : files ≡ put d.files name pieces)
         (valid : IsTrue (is_name name)) (within : AreWithin (length old) (flat pieces))
-        (text_is : seen_text old pieces ≡ text) where
+        (looks : AreLooks (flat pieces)) (text_is : seen_text old pieces ≡ text) where
       long : length text ≡ length (flat pieces)
       long = ap length (sym text_is) ∙ length_seen_text old pieces
 
       stored_now : IsChanged H old d (record d { files = files }) filed_as (length (flat pieces)) gone
       stored_now = storing_changed old d (over_built old d over) files name pieces gone text is valid
-          (has_room_seen [] d.files name ∙ sym (has_room_seen old d.files name) ∙ room) within text_is sum
+          (has_room_seen [] d.files name ∙ sym (has_room_seen old d.files name) ∙ room) within looks text_is
+          sum
 
       -- the line can go into the log then
       pub storing_stands : IsStanding old (record d { files = files })

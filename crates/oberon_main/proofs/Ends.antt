@@ -4,14 +4,14 @@ use Rattle.std.proofs.Common.{◌∙◌, subst}
 use Rattle.sector_disk.specs.Faults.{FailsAs}
 use Rattle.desk_journal.specs.declared.error.Error.{Error}
 use Rattle.desk_journal.specs.declared.error.Error.TheVariants.{NoMemory, Fault, MustReopen, NotAStore, Damaged}
-use Rattle.desk_journal.specs.declared.error.Error.TheVariants.{TooSmall, JournalFull}
-use Rattle.desk_journal.specs.Errors.{OfPost}
+use Rattle.desk_journal.specs.declared.error.Error.TheVariants.{TooSmall, Worn}
+use Rattle.desk_journal.specs.Errors.{OfPost, OfCheckpoint}
 use Rattle.oberon_main.specs.declared.answering.Answer.{Answer}
 use Rattle.oberon_main.specs.declared.playing.PlayEnd.{PlayEnd}
 use Rattle.oberon_main.specs.declared.playing.PlayEnd.TheVariants as ends
 use Rattle.oberon_main.specs.Worked.{end_of, IsWorkEnd}
 
--- A store that is in use, and whose journal has room, refuses for want of memory or after a fault of the disk.
+-- A store that is in use, and isn't worn, refuses for want of memory or after a fault of the disk.
 pub record IsRefusal (error : Error) (failed failed' : ℕ) : Type 0 where
   pub named : (error ≡ NoMemory) ⊎ (error ≡ Fault)
   pub rose : error ≡ Fault → failed < failed'
@@ -39,7 +39,7 @@ counts NotAStore failed failed' refusal = absurd (another_error NotAStore (λ wr
 counts (Damaged sector) failed failed' refusal = absurd (another_error (Damaged sector) (λ wrong. cc)
     (λ wrong. cc) refusal.named)
 counts TooSmall failed failed' refusal = absurd (another_error TooSmall (λ wrong. cc) (λ wrong. cc) refusal.named)
-counts JournalFull failed failed' refusal = absurd (another_error JournalFull (λ wrong. cc) (λ wrong. cc) refusal.named)
+counts Worn failed failed' refusal = absurd (another_error Worn (λ wrong. cc) (λ wrong. cc) refusal.named)
 
 pub counts_end : {T : Type 0} (error : Error) (failed failed' : ℕ) → IsRefusal error failed failed' → (end : PlayEnd)
     → end ≡ end_of error
@@ -48,33 +48,51 @@ counts_end error failed failed' refusal end is result gives =
     subst (λ r. FailsAs ends.Fault IsWorkEnd r failed failed') (sym (gives ∙ ap (λ e. Err e) is))
     (counts error failed failed' refusal)
 
--- what a post's error is, after the two that say how the store stood before it
-pub refusal_of_post : {T : Type 0} (error : Error) (failed failed' : ℕ)
-    → FailsAs {T = T} Fault OfPost (Err error) failed failed'
-    → (error ≡ MustReopen → ⊥) → (error ≡ JournalFull → ⊥) → IsRefusal error failed failed'
-refusal_of_post error failed failed' faults usable room = record {
-  named = elim faults.errors [
+-- what an error is of a call that also may answer MustReopen or Worn, where it is neither
+refusal_of : {T : Type 0} (error : Error) (failed failed' : ℕ) (named : Error → Type 0)
+    → (named error → (error ≡ NoMemory) ⊎ ((error ≡ Fault) ⊎ ((error ≡ MustReopen) ⊎ (error ≡ Worn))))
+    → FailsAs {T = T} Fault named (Err error) failed failed'
+    → (error ≡ MustReopen → ⊥) → (error ≡ Worn → ⊥) → IsRefusal error failed failed'
+refusal_of error failed failed' named among faults usable room = record {
+  named = elim (among faults.errors) [
     | inl memory ↦ inl memory
     | inr (inl fault) ↦ inr fault
     | inr (inr (inl reopen)) ↦ absurd (usable reopen)
-    | inr (inr (inr full)) ↦ absurd (room full)
+    | inr (inr (inr worn)) ↦ absurd (room worn)
   ];
   rose = λ fault. faults.rose (ap (λ e. Err e) fault);
   calm = λ other. faults.calm (λ fault. other cc);
 }
 
--- A post that was refused: at a full journal there is an answer, else the script ends.
+-- A call that was refused: Worn has an answer, else the script ends.
+counts_call : {T : Type 0} (error : Error) (failed failed' : ℕ) (named : Error → Type 0)
+    → (named error → (error ≡ NoMemory) ⊎ ((error ≡ Fault) ⊎ ((error ≡ MustReopen) ⊎ (error ≡ Worn))))
+    → FailsAs {T = T} Fault named (Err error) failed failed'
+    → (error ≡ MustReopen → ⊥) → (bytes : Answer → Type 0) → (result : Result Answer PlayEnd)
+    → IfOk result (λ a. (error ≡ Worn) × bytes a)
+    → IfErr result (λ end. (error ≢ Worn) × (end ≡ end_of error))
+    → FailsAs ends.Fault IsWorkEnd result failed failed'
+counts_call error failed failed' named among faults usable bytes (Ok a) worn other = record {
+  rose = λ wrong. cc;
+  calm = λ any. faults.calm (λ wrong. cc (wrong, worn.0));
+  errors = tt;
+}
+counts_call error failed failed' named among faults usable bytes (Err end) worn other =
+    counts_end error failed failed' (refusal_of error failed failed' named among faults usable other.0) end other.1
+    (Err end) refl
+
 pub counts_post : {T : Type 0} (error : Error) (failed failed' : ℕ)
     → FailsAs {T = T} Fault OfPost (Err error) failed failed'
     → (error ≡ MustReopen → ⊥) → (bytes : Answer → Type 0) → (result : Result Answer PlayEnd)
-    → IfOk result (λ a. (error ≡ JournalFull) × bytes a)
-    → IfErr result (λ end. (error ≢ JournalFull) × (end ≡ end_of error))
+    → IfOk result (λ a. (error ≡ Worn) × bytes a)
+    → IfErr result (λ end. (error ≢ Worn) × (end ≡ end_of error))
     → FailsAs ends.Fault IsWorkEnd result failed failed'
-counts_post error failed failed' faults usable bytes (Ok a) full other = record {
-  rose = λ wrong. cc;
-  calm = λ any. faults.calm (λ wrong. cc (wrong, full.0));
-  errors = tt;
-}
-counts_post error failed failed' faults usable bytes (Err end) full other =
-    counts_end error failed failed' (refusal_of_post error failed failed' faults usable other.0) end other.1
-    (Err end) refl
+counts_post error failed failed' faults = counts_call error failed failed' OfPost (λ is. is) faults
+
+pub counts_checkpoint : {T : Type 0} (error : Error) (failed failed' : ℕ)
+    → FailsAs {T = T} Fault OfCheckpoint (Err error) failed failed'
+    → (error ≡ MustReopen → ⊥) → (bytes : Answer → Type 0) → (result : Result Answer PlayEnd)
+    → IfOk result (λ a. (error ≡ Worn) × bytes a)
+    → IfErr result (λ end. (error ≢ Worn) × (end ≡ end_of error))
+    → FailsAs ends.Fault IsWorkEnd result failed failed'
+counts_checkpoint error failed failed' faults = counts_call error failed failed' OfCheckpoint (λ is. inr is) faults

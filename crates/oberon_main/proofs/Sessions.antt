@@ -1,49 +1,85 @@
--- What an event is answered.
-use Rattle.std.proofs.Common.{◌≡◌, ℕ, ◌+◌, ◌<◌, ◌≤◌, sym, ap, ◌∙◌}
+-- What an event and a checkpoint are answered.
+use Rattle.std.proofs.Common.{◌≡◌, ◌≢◌, inl, inr, ◌+◌, ◌<◌, ◌≤◌, true, false, sym, ap, ◌∙◌}
 use Rattle.std.specs.Prelude.{codes}
-use Rattle.std.proofs.lemmas.Bool.{cond-true, cond-false, le-leb, lt-leb}
+use Rattle.std.proofs.lemmas.Bool.{cond-true, cond-false, le-leb, lt-leb, leb-true, eqb-true, eq-eqb, ne_eqb}
+use Rattle.std.proofs.lemmas.Bool.{and_from, cases_lt, false_from_ne_true, and_parts}
 use Rattle.event_bytes.specs.declared.event.Event.{Event}
 use Rattle.event_loop_laws.specs.declared.reply.Reply.{Reply}
 use Rattle.event_loop_laws.specs.Desktop.{Desktop}
 use Rattle.event_loop_laws.specs.Step.{step}
-use Rattle.oberon_main.specs.declared.request.Request.TheVariants.{Post}
+use Rattle.store_layout.specs.declared.layout.TheConstants.{JOURNAL_EVENTS, LAST_EPOCH}
+use Rattle.oberon_main.specs.declared.request.Request.TheVariants.{Post, Checkpoint}
 use Rattle.oberon_main.specs.Script.{ended}
 use Rattle.oberon_main.specs.Answer.{reply_line}
-use Rattle.oberon_main.specs.Session.{Session, is_full, answer, after}
+use Rattle.oberon_main.specs.Session.{Session, is_full, is_last, is_worn, renewed, stepped, worn_line, answer, after}
 
-pub full_answer : (s : Session) (event : Event) → 256 ≤ s.events → answer s (Post event) ≡ ended (codes "full")
+-- a session by its three parts
+session_parts : (s t : Session) → s.desktop ≡ t.desktop → s.epoch ≡ t.epoch → s.events ≡ t.events → s ≡ t
+session_parts s t desktop epoch events = λ k. record { desktop = desktop k; epoch = epoch k; events = events k }
+
+is_it_worn : (s : Session) → s.epoch ≡ LAST_EPOCH → JOURNAL_EVENTS ≤ s.events → is_worn s ≡ true
+is_it_worn s last full = and_from (is_full s) (is_last s) (le-leb JOURNAL_EVENTS s.events full)
+    (eq-eqb s.epoch LAST_EPOCH last)
+
+not_worn : (s : Session) → ((s.epoch ≡ LAST_EPOCH) × (JOURNAL_EVENTS ≤ s.events) → ⊥) → is_worn s ≡ false
+not_worn s none = false_from_ne_true (is_worn s) (λ worn.
+    let both = and_parts (is_full s) (is_last s) worn in
+    none (eqb-true s.epoch LAST_EPOCH both.1, leb-true JOURNAL_EVENTS s.events both.0))
+
+pub worn_answer : (s : Session) (event : Event) → s.epoch ≡ LAST_EPOCH → JOURNAL_EVENTS ≤ s.events
+    → answer s (Post event) ≡ worn_line
 unfolding answer
-full_answer s event full = cond-true (is_full s) (ended (codes "full")) (reply_line (step s.desktop event).1)
-    (le-leb 256 s.events full)
+worn_answer s event last full = cond-true (is_worn s) worn_line (reply_line (step s.desktop event).1)
+    (is_it_worn s last full)
 
-pub full_after : (s : Session) (event : Event) → 256 ≤ s.events → after s (Post event) ≡ s
+pub worn_after : (s : Session) (event : Event) → s.epoch ≡ LAST_EPOCH → JOURNAL_EVENTS ≤ s.events
+    → after s (Post event) ≡ s
 unfolding after
-full_after s event full = cond-true (is_full s) s _ (le-leb 256 s.events full)
+worn_after s event last full = cond-true (is_worn s) s _ (is_it_worn s last full)
 
-pub reply_answer : (s : Session) (event : Event) (d : Desktop) (reply : Reply) → s.events < 256
-    → (d, reply) ≡ step s.desktop event
+pub reply_answer : (s : Session) (event : Event) (d : Desktop) (reply : Reply)
+    → ((s.epoch ≡ LAST_EPOCH) × (JOURNAL_EVENTS ≤ s.events) → ⊥) → (d, reply) ≡ step s.desktop event
     → answer s (Post event) ≡ reply_line reply
 unfolding answer
-reply_answer s event d reply room stepped =
-    cond-false (is_full s) (ended (codes "full")) (reply_line (step s.desktop event).1) (lt-leb 256 s.events room)
-    ∙ sym (ap (λ (p : Desktop × Reply). reply_line p.1) stepped)
+reply_answer s event d reply room is =
+    cond-false (is_worn s) worn_line (reply_line (step s.desktop event).1) (not_worn s room)
+    ∙ sym (ap (λ (p : Desktop × Reply). reply_line p.1) is)
 
-pub reply_after : (s now : Session) (event : Event) (reply : Reply) → s.events < 256
-    → (now.desktop, reply) ≡ step s.desktop event
-    → now.epoch ≡ s.epoch → now.events ≡ s.events + 1 → now ≡ after s (Post event)
+pub reply_after : (s now : Session) (event : Event) (reply : Reply)
+    → ((s.epoch ≡ LAST_EPOCH) × (JOURNAL_EVENTS ≤ s.events) → ⊥) → (now.desktop, reply) ≡ step s.desktop event
+    → (s.events < JOURNAL_EVENTS → (now.epoch ≡ s.epoch) × (now.events ≡ s.events + 1))
+    → (JOURNAL_EVENTS ≤ s.events → (now.epoch ≡ s.epoch + 1) × (now.events ≡ 1)) → now ≡ after s (Post event)
 unfolding after
-reply_after s now event reply room stepped epoch events =
-    let desktop : now.desktop ≡ (step s.desktop event).0 = ap (λ (p : Desktop × Reply). p.0) stepped in
-    ap (λ (d : Desktop). let now' : Session = record { desktop = d; epoch = now.epoch; events = now.events } in
-    now') desktop
-    ∙ ap (λ (n : ℕ). let now' : Session = record {
-      desktop = (step s.desktop event).0;
-      epoch = n;
-      events = now.events;
-    } in now') epoch
-    ∙ ap (λ (n : ℕ). let now' : Session = record {
-      desktop = (step s.desktop event).0;
-      epoch = s.epoch;
-      events = n;
-    } in now') events
-    ∙ sym (cond-false (is_full s) s _ (lt-leb 256 s.events room))
+reply_after s now event reply room is more anew =
+    let desktop : now.desktop ≡ (step s.desktop event).0 = ap (λ (p : Desktop × Reply). p.0) is in
+    elim (cases_lt s.events JOURNAL_EVENTS) [
+      | inl below ↦ session_parts now (stepped s event) desktop (more below).0 (more below).1
+          ∙ sym (ap (λ t. stepped t event)
+          (cond-false (is_full s) (renewed s) s (lt-leb JOURNAL_EVENTS s.events below)))
+          ∙ sym (cond-false (is_worn s) s _ (not_worn s room))
+      | inr full ↦ session_parts now (stepped (renewed s) event) desktop (anew full).0 (anew full).1
+          ∙ sym (ap (λ t. stepped t event)
+          (cond-true (is_full s) (renewed s) s (le-leb JOURNAL_EVENTS s.events full)))
+          ∙ sym (cond-false (is_worn s) s _ (not_worn s room))
+    ]
+
+-- ---- a checkpoint
+
+pub last_answer : (s : Session) → s.epoch ≡ LAST_EPOCH → answer s Checkpoint ≡ worn_line
+unfolding answer
+last_answer s last = cond-true (is_last s) worn_line (ended (codes "ok")) (eq-eqb s.epoch LAST_EPOCH last)
+
+pub last_after : (s : Session) → s.epoch ≡ LAST_EPOCH → after s Checkpoint ≡ s
+unfolding after
+last_after s last = cond-true (is_last s) s (renewed s) (eq-eqb s.epoch LAST_EPOCH last)
+
+pub renewed_answer : (s : Session) → s.epoch ≢ LAST_EPOCH → answer s Checkpoint ≡ ended (codes "ok")
+unfolding answer
+renewed_answer s other = cond-false (is_last s) worn_line (ended (codes "ok")) (ne_eqb s.epoch LAST_EPOCH other)
+
+pub renewed_after : (s now : Session) → s.epoch ≢ LAST_EPOCH → now.desktop ≡ s.desktop → now.epoch ≡ s.epoch + 1
+    → now.events ≡ 0 → now ≡ after s Checkpoint
+unfolding after
+renewed_after s now other desktop epoch events =
+    session_parts now (renewed s) desktop epoch events
+    ∙ sym (cond-false (is_last s) s (renewed s) (ne_eqb s.epoch LAST_EPOCH other))

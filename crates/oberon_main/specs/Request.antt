@@ -6,7 +6,7 @@ use Rattle.std.specs.Str.{bytes_eq}
 use Rattle.event_bytes.specs.Bytes.{lies_within, is_name, is_file_bytes, is_typed_bytes}
 use Rattle.event_bytes.specs.declared.event.Event.TheVariants.{Typed, Key, Mark, Point, File}
 use Rattle.oberon_main.specs.declared.request.Request.{Request}
-use Rattle.oberon_main.specs.declared.request.Request.TheVariants.{Post, Show, Listing, Display, Malformed}
+use Rattle.oberon_main.specs.declared.request.Request.TheVariants.{Post, Checkpoint, Show, Listing, Display, Malformed}
 use Rattle.oberon_main.specs.Words.{word, argument, ◌>>=◌, leading, number_of, key_named, keys_named}
 use Rattle.oberon_main.specs.Percent.{meant}
 
@@ -69,7 +69,8 @@ show_of name = if is_name name then Some (Show name) else None
 -- a line of one word
 unfoldable pub word_of : List ℕ → Option Request
 word_of name = if bytes_eq name (codes "list") then Some Listing
-    else (if bytes_eq name (codes "screen") then Some Display else None)
+    else (if bytes_eq name (codes "screen") then Some Display
+    else (if bytes_eq name (codes "checkpoint") then Some Checkpoint else None))
 
 -- a line of a word, one space, and what stands after it
 unfoldable pub words_of : List ℕ → List ℕ → Option Request

@@ -1,12 +1,14 @@
 -- What a script is answered, line by line.
-use Rattle.std.specs.Prelude.{ℕ, ◌+◌, Bool, nat_le, if◌then◌else◌, List, [], ◌∷◌, ◌++◌, codes}
+use Rattle.std.specs.Prelude.{ℕ, ◌+◌, Bool, ◌&&◌, ◌==◌, nat_le, if◌then◌else◌, List, [], ◌∷◌, ◌++◌, codes}
+use Rattle.event_bytes.specs.declared.event.Event.{Event}
 use Rattle.event_loop_laws.specs.Desktop.{Desktop, file_of}
 use Rattle.event_loop_laws.specs.Step.{step}
 use Rattle.event_loop_laws.specs.Listing.{entries_of}
 use Rattle.event_loop_laws.specs.Shown.{shown_screen}
 use Rattle.screen_cells.specs.Printed.{printed}
+use Rattle.store_layout.specs.declared.layout.TheConstants.{JOURNAL_EVENTS, LAST_EPOCH}
 use Rattle.oberon_main.specs.declared.request.Request.{Request}
-use Rattle.oberon_main.specs.declared.request.Request.TheVariants.{Post, Show, Listing, Display, Malformed}
+use Rattle.oberon_main.specs.declared.request.Request.TheVariants.{Post, Checkpoint, Show, Listing, Display, Malformed}
 use Rattle.oberon_main.specs.Script.{ended}
 use Rattle.oberon_main.specs.Request.{request_of}
 use Rattle.oberon_main.specs.Answer.{reply_line, show_lines, list_lines}
@@ -19,22 +21,39 @@ pub record Session : Type 0 where
 
 -- the journal has room for no event
 abbrev pub is_full : Session → Bool
-is_full s = nat_le 256 s.events
+is_full s = nat_le JOURNAL_EVENTS s.events
+
+-- no epoch comes after this one
+abbrev pub is_last : Session → Bool
+is_last s = s.epoch == LAST_EPOCH
+
+-- the journal is full, and there is no next one
+abbrev pub is_worn : Session → Bool
+is_worn s = is_full s && is_last s
+
+-- the next epoch, with an empty journal
+abbrev pub renewed : Session → Session
+renewed s = record { desktop = s.desktop; epoch = s.epoch + 1; events = 0 }
+
+-- an event is stepped, and stands in the journal, whatever its reply
+abbrev pub stepped : Session → Event → Session
+stepped s event = record { desktop = (step s.desktop event).0; epoch = s.epoch; events = s.events + 1 }
+
+abbrev pub worn_line : List ℕ
+worn_line = ended (codes "worn")
 
 unfoldable pub answer : Session → Request → List ℕ
-answer s (Post event) = if is_full s then ended (codes "full") else reply_line (step s.desktop event).1
+answer s (Post event) = if is_worn s then worn_line else reply_line (step s.desktop event).1
+answer s Checkpoint = if is_last s then worn_line else ended (codes "ok")
 answer s (Show name) = show_lines (file_of s.desktop name)
 answer s Listing = list_lines (entries_of s.desktop)
 answer s Display = printed (shown_screen s.desktop)
 answer s Malformed = ended (codes "?")
 
--- The session after a request: an event is stepped, and stands in the journal, whatever its reply.
+-- The session after a request. An event at a full journal goes into the next one.
 unfoldable pub after : Session → Request → Session
-after s (Post event) = if is_full s then s else record {
-  desktop = (step s.desktop event).0;
-  epoch = s.epoch;
-  events = s.events + 1;
-}
+after s (Post event) = if is_worn s then s else stepped (if is_full s then renewed s else s) event
+after s Checkpoint = if is_last s then s else renewed s
 after s (Show name) = s
 after s Listing = s
 after s Display = s

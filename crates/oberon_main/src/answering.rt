@@ -1,9 +1,10 @@
 //! The answer to a request, worked out over a store.
-ghost use Rattle.std.specs.Prelude.{◌≡◌, ◌≢◌, false, IsOk, IfOk, IfErr, codes};
+ghost use Rattle.std.specs.Prelude.{◌≡◌, ◌≢◌, false, IsOk, IfOk, IfErr};
 ghost use Rattle.sector_disk.specs.Faults.{FailsAs};
-ghost use Rattle.oberon_main.specs.declared.request.Request.TheVariants.{Post, Show, Listing, Display, Malformed};
+ghost use Rattle.oberon_main.specs.declared.request.Request.TheVariants.{Post, Checkpoint, Show};
+ghost use Rattle.oberon_main.specs.declared.request.Request.TheVariants.{Listing, Display, Malformed};
 ghost use Rattle.oberon_main.specs.declared.playing.PlayEnd.TheVariants as ends;
-ghost use Rattle.oberon_main.specs.Script.{ended};
+ghost use Rattle.oberon_main.specs.Session.{worn_line};
 ghost use Rattle.oberon_main.specs.Worked.{bytes_of, end_of, IsWorkEnd, IsWorkedOut};
 
 use crate::answer::{
@@ -36,7 +37,7 @@ impl Answer {
     }
 }
 
-/// Works out the answer to a request as a whole. An event is posted, and nothing else changes the store.
+/// Works out the answer to a request as a whole. Events and checkpoints change the store, nothing else does.
 #[tactic(auto, unfolding(crate::specs::Session::answer, crate::specs::Session::after))]
 pub fn work_out<D: Disk>(
     alloc: Global,
@@ -50,6 +51,7 @@ pub fn work_out<D: Disk>(
 {
     match request {
         Request::Post(event) => post(alloc, event, store),
+        Request::Checkpoint => checkpoint(store),
         Request::Show(name) => show(alloc, name, store),
         Request::Listing => list(alloc, store),
         Request::Display => screen(alloc, store),
@@ -57,7 +59,7 @@ pub fn work_out<D: Disk>(
     }
 }
 
-/// Posts an event. Its answer is the reply, or `full` at a full journal.
+/// Posts an event. Its answer is the reply, or `worn` where there is no room for it any more.
 fn post<D: Disk>(alloc: Global, event: &Event, store: &mut Store<D>) -> Result<Answer, PlayEnd>
     requires { store.old.must_reopen ≡ false }
     ensures worked_out { IsWorkedOut D.Disk (Post event.now) result store.old store.new }
@@ -69,13 +71,25 @@ fn post<D: Disk>(alloc: Global, event: &Event, store: &mut Store<D>) -> Result<A
     }
 }
 
-/// What a post comes to that was refused: `full` at a full journal, else the script ends.
+/// Makes a checkpoint. Its answer is `ok`, or `worn` where the epoch is the last one.
+fn checkpoint<D: Disk>(store: &mut Store<D>) -> Result<Answer, PlayEnd>
+    requires { store.old.must_reopen ≡ false }
+    ensures worked_out { IsWorkedOut D.Disk Checkpoint result store.old store.new }
+    ensures faults { FailsAs ends.Fault IsWorkEnd result (D.failures store.old.disk) (D.failures store.new.disk) }
+{
+    match store.checkpoint() {
+        Ok(()) => Ok(Answer::Short(short_line(b"ok"))),
+        Err(error) => refused(error),
+    }
+}
+
+/// What a post or a checkpoint comes to that was refused: `worn` in the last epoch, else the script ends.
 fn refused(error: Error) -> Result<Answer, PlayEnd>
-    ensures full { IfOk result (λ a. (error ≡ Error.JournalFull) × (bytes_of a ≡ ended (codes "full"))) }
-    ensures other { IfErr result (λ end. (error ≢ Error.JournalFull) × (end ≡ end_of error)) }
+    ensures worn { IfOk result (λ a. (error ≡ Error.Worn) × (bytes_of a ≡ worn_line)) }
+    ensures other { IfErr result (λ end. (error ≢ Error.Worn) × (end ≡ end_of error)) }
 {
     match error {
-        Error::JournalFull => Ok(Answer::Short(short_line(b"full"))),
+        Error::Worn => Ok(Answer::Short(short_line(b"worn"))),
         _ => Err(PlayEnd::from(error)),
     }
 }

@@ -1,8 +1,9 @@
 //! What a line of a script asks for.
 //!
 //! `type BYTES`, `key WORD`, `mark X Y`, `point KEYS X0 Y0 X1 Y1`, `file NAME BYTES` and `file NAME`, with or without a
-//! space after it, ask for an event. `show NAME`, `list` and `screen` ask for a look. Words are parted by exactly one
-//! space. In BYTES a percent sign and two hexadecimal digits stand for a byte. What else a line says is malformed.
+//! space after it, ask for an event, and `checkpoint` for a checkpoint. `show NAME`, `list` and `screen` ask for a
+//! look. Words are parted by exactly one space. In BYTES a percent sign and two hexadecimal digits stand for a byte.
+//! What else a line says is malformed.
 ghost use Rattle.std.specs.Prelude.{◌≡◌};
 ghost use Rattle.std.specs.Option.{option_map};
 ghost use Rattle.std.specs.List.{list_all};
@@ -19,6 +20,8 @@ use event_bytes::{Event, FileBytes, Name, TypedBytes};
 pub enum Request {
     /// Something happens to the desktop.
     Post(Event),
+    /// The desktop goes into the other slot.
+    Checkpoint,
     /// The text of the file.
     Show(Name),
     /// All files and viewers, and how many characters were ever written.
@@ -74,6 +77,7 @@ fn one_word(name: &[u8]) -> Option<Request>
     match name {
         _ if name == b"list".as_slice() => Some(Request::Listing),
         _ if name == b"screen".as_slice() => Some(Request::Display),
+        _ if name == b"checkpoint".as_slice() => Some(Request::Checkpoint),
         _ => None,
     }
 }

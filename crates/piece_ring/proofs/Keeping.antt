@@ -1,7 +1,7 @@
 -- Which seams stay where pieces are put in, taken out and written, and how seams follow one another.
 use Rattle.std.proofs.Common.{◌≡◌, ℕ, zero, suc, ◌+◌, ◌-◌, ◌<◌, ◌≤◌, List, [], ◌∷◌, ◌++◌, length, take, drop, map}
-use Rattle.std.proofs.Common.{slice_range, slice_get, Some, All, refl, sym, ap, subst, ◌∙◌, arith, add-one}
-use Rattle.std.proofs.Common.{append_assoc, length-append, length-drop}
+use Rattle.std.proofs.Common.{slice_range, slice_get, Some, refl, sym, ap, ◌∙◌, arith}
+use Rattle.std.proofs.Common.{append_assoc, length-drop}
 use Rattle.std.proofs.Math.Seq.{take-append-add}
 use Rattle.std.proofs.lemmas.List.{take-append-le, length-take-le, length-map, take-append-drop, map-append}
 use Rattle.std.proofs.lemmas.List.Folds.{drop_split}
@@ -10,17 +10,15 @@ use denote.RawPtr.{Ptr}
 use Rattle.piece_ring.specs.declared.piece.Look.{Look}
 use Rattle.piece_ring.specs.declared.piece.Piece.{Piece}
 use Rattle.piece_ring.specs.declared.place.Seam.{Seam}
-use Rattle.piece_ring.specs.Flat.{flat, IsWhole, relooked_piece}
+use Rattle.piece_ring.specs.Flat.{flat, relooked_piece}
 use Rattle.piece_ring.specs.Nodes.{places, pieces, with_range}
-use Rattle.piece_ring.specs.Place.{pieces_of, text_of, IsSeam}
-use Rattle.piece_ring.specs.PieceList.{IsPieceList, IsStretch}
-use Rattle.piece_ring.proofs.Dividing.{whole_at}
+use Rattle.piece_ring.specs.Place.{pieces_of, IsSeam}
+use Rattle.piece_ring.specs.PieceList.{IsStretch}
 use Rattle.piece_ring.proofs.Joins.{pieces_of-join, pieces_of-split, place-kept}
 use Rattle.piece_ring.proofs.Moving.{seam_inside, take-take}
 use Rattle.piece_ring.proofs.Relooking.{pieces_of-with_range}
-use Rattle.piece_ring.proofs.Runs.{length-flat-append, length-flat-cons, length-flat-next, length-flat-cut}
-use Rattle.piece_ring.proofs.Runs.{length-flat-take-le}
-use Rattle.piece_ring.proofs.Seams.{behind_trailer, piece_count}
+use Rattle.piece_ring.proofs.Runs.{length-flat-append, length-flat-cons, length-flat-next}
+use Rattle.piece_ring.proofs.Seams.{behind_trailer}
 
 -- an element of the second list
 pub get-append : {X : Type 0} (xs ys : List X) (k : ℕ) → slice_get (xs ++ ys) (length xs + k) ≡ slice_get ys k

@@ -7,7 +7,7 @@ ghost use Rattle.piece_ring.specs.declared.place.Seam.{Seam as ASeam};
 ghost use Rattle.piece_ring.specs.Flat.{flat, relooked_piece, IsWhole};
 ghost use Rattle.piece_ring.specs.Kept.{IsKeptAt, IsSettledAt, kept_pieces};
 ghost use Rattle.piece_ring.specs.Merging.{Continues, IsMergedAt};
-ghost use Rattle.piece_ring.specs.Nodes.{places, pieces, with_range};
+ghost use Rattle.piece_ring.specs.Nodes.{places, pieces, with_put_in, with_range};
 ghost use Rattle.piece_ring.specs.Place.{pieces_of, text_of, IsSeam, IsFound, IsPlace};
 ghost use Rattle.piece_ring.specs.PieceList.{IsPieceList, IsStretch};
 ghost use Rattle.piece_ring.specs.Text.{inserted, deleted, stretch, looks_changed};
@@ -67,6 +67,7 @@ impl PieceList {
     pub(crate) fn end(&self) -> Seam
         ensures seam { IsSeam self.now.chain.nodes result }
         ensures last { result.pos ≡ self.now.len }
+        ensures index { result.index ≡ length (pieces_of self.now.chain.nodes) }
     {
         Seam {
             at: self.chain.prev(self.trailer, 0),
@@ -317,6 +318,8 @@ impl PieceList {
         requires fits { self.old.len + other.len < 2 ^ 32 }
         ensures text { text_of self.new.chain.nodes
             ≡ inserted seam.pos (flat (pieces other.chain.nodes)) (text_of self.old.chain.nodes) }
+        ensures made { pieces_of self.new.chain.nodes
+            ≡ with_put_in seam.index (pieces other.chain.nodes) (pieces_of self.old.chain.nodes) }
         ensures after { IsSeam self.new.chain.nodes result }
         ensures at { result.pos ≡ seam.pos + other.len }
     {

@@ -1,9 +1,9 @@
 //! The ring: a text as a list of pieces that no other owner shares.
 //!
-//! A clause sees a ring as the list of its nonempty pieces, and speaks of the flat list of each
-//! character's offset and look alone. How a text is cut into pieces isn't promised, but
-//! for the cut that `split_at` makes.
-ghost use Rattle.std.specs.Prelude.{◌≡◌, ◌+◌, ◌^◌, ◌<◌, ◌≤◌, ◌++◌, [], length, drop, IfOk, IfErr, OnOk, OnErr};
+//! A clause sees a ring as the list of its nonempty pieces, and most speak of the flat list of each
+//! character's offset and look alone. How a text is cut into pieces isn't promised, but for the cut
+//! that `split_at` makes and the pieces that `push` puts in, which `Cursor::next_piece` gives back.
+ghost use Rattle.std.specs.Prelude.{◌≡◌, ◌+◌, ◌^◌, ◌<◌, ◌≤◌, ◌∷◌, ◌++◌, [], length, drop, IfOk, IfErr, OnOk, OnErr};
 ghost use Rattle.piece_ring.specs.Cut.{IsCutAt};
 ghost use Rattle.piece_ring.specs.Flat.{flat, characters_of, IsWhole};
 ghost use Rattle.piece_ring.specs.Kept.{IsKeptAt, IsSettledAt};
@@ -36,7 +36,7 @@ impl Model for Ring {
 impl Ring {
     /// An empty ring. It takes memory for its trailer.
     pub fn new(alloc: Global) -> Result<Ring, NoMemory>
-        ensures { IfOk result (λ r. flat r.pieces ≡ []) }
+        ensures { IfOk result (λ r. r.pieces ≡ []) }
     {
         let list = PieceList::new(Spare::new(alloc)?);
         Ok(Ring { list, alloc })
@@ -161,6 +161,20 @@ impl Ring {
         Ok(())
     }
 
+    /// Puts a piece at the end as it is, also where it could be one with the piece before it. If
+    /// memory is refused the pieces stay.
+    pub fn push(&mut self, alloc: Global, piece: Piece) -> Result<(), NoMemory>
+        requires whole { IsWhole piece }
+        requires fits { length (flat self.old.pieces) + piece.len < 2 ^ 32 }
+        ensures pieces { OnOk result (self.new.pieces ≡ self.old.pieces ++ piece ∷ []) }
+        ensures refused { OnErr result (self.new.pieces ≡ self.old.pieces) }
+    {
+        let alone = Stretch::of_piece(&alloc, piece)?;
+        let end = self.list.end();
+        self.list.insert(end, alone);
+        Ok(())
+    }
+
     /// Takes all characters out, and frees their nodes. It takes no memory.
     pub fn clear(&mut self)
         ensures { flat self.new.pieces ≡ [] }
@@ -207,6 +221,7 @@ impl Ring {
     pub fn cursor(&self, pos: u32) -> Cursor<'_>
         requires { pos ≤ length (flat self.now.pieces) }
         ensures text { flat result.left ≡ drop pos (flat self.now.pieces) }
+        ensures whole { pos ≡ 0 → result.left ≡ self.now.pieces }
         ensures few { result.walked ≤ length self.now.pieces }
         ensures near { IsKeptAt self.now pos → result.walked ≡ 0 }
     {

@@ -1,5 +1,5 @@
 //! The buffer.
-ghost use Rattle.std.specs.Prelude.{◌≡◌, ◌+◌, ◌^◌, ◌<◌, ◌≤◌, ◌++◌, [], length, drop, IfOk, OnOk, OnErr};
+ghost use Rattle.std.specs.Prelude.{◌≡◌, ◌+◌, ◌^◌, ◌<◌, ◌≤◌, ◌∷◌, ◌++◌, [], length, drop, IfOk, OnOk, OnErr};
 ghost use Rattle.piece_ring.specs.Flat.{flat, characters_of, IsWhole};
 
 use crate::{NoMemory, Piece};
@@ -26,7 +26,7 @@ impl Model for Buffer {
 impl Buffer {
     /// An empty buffer. It takes a little memory all the same.
     pub fn new(alloc: Global) -> Result<Buffer, NoMemory>
-        ensures { IfOk result (λ b. flat b ≡ []) }
+        ensures { IfOk result (λ b. b ≡ []) }
     {
         Ok(Buffer {
             ring: Ring::new(alloc)?,
@@ -51,6 +51,7 @@ impl Buffer {
     pub fn cursor(&self, pos: u32) -> Cursor<'_>
         requires { pos ≤ length (flat self.now) }
         ensures text { flat result.left ≡ drop pos (flat self.now) }
+        ensures whole { pos ≡ 0 → result.left ≡ self.now }
         ensures few { result.walked ≤ length self.now }
     {
         self.ring.cursor(pos)
@@ -82,6 +83,17 @@ impl Buffer {
         ensures refused { OnErr result (flat self.new ≡ flat self.old) }
     {
         self.ring.add(alloc, piece)
+    }
+
+    /// Puts a piece at the end as it is, also where it could be one with the piece before it. If
+    /// memory is refused the pieces stay.
+    pub fn push(&mut self, alloc: Global, piece: Piece) -> Result<(), NoMemory>
+        requires whole { IsWhole piece }
+        requires fits { length (flat self.old) + piece.len < 2 ^ 32 }
+        ensures pieces { OnOk result (self.new ≡ self.old ++ piece ∷ []) }
+        ensures refused { OnErr result (self.new ≡ self.old) }
+    {
+        self.ring.push(alloc, piece)
     }
 
     /// For layers that own rings: hands all characters out as a ring, and leaves none. If memory is

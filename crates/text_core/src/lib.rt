@@ -2,8 +2,9 @@
 //!
 //! A text is a list of characters of the file, each in a look; an edit moves pieces of it and copies
 //! no character. What is taken out or copied goes to a buffer, and what is put in comes from one.
-//! A clause speaks of the flat list of (offset, look) by slices: `specs/Text.antt` of `piece_ring`
+//! Most clauses speak of the flat list of (offset, look) by slices: `specs/Text.antt` of `piece_ring`
 //! says what the operations make of it, and `specs/Attributes.antt` what the look at a position is.
+//! `push` speaks of the pieces, which `Cursor::next_piece` gives back one by one.
 //! An `end` past the text means the text's length, as it does with slices; `ends_are_clipped` says so.
 #![tactic(auto)]
 

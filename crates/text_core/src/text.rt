@@ -1,6 +1,6 @@
 //! The text.
-ghost use Rattle.std.specs.Prelude.{◌≡◌, ◌+◌, ◌^◌, ◌<◌, ◌≤◌, ◌++◌, [], length, drop, IfOk, OnOk, OnErr};
-ghost use Rattle.piece_ring.specs.Flat.{flat, run};
+ghost use Rattle.std.specs.Prelude.{◌≡◌, ◌+◌, ◌^◌, ◌<◌, ◌≤◌, ◌∷◌, ◌++◌, [], length, drop, IfOk, OnOk, OnErr};
+ghost use Rattle.piece_ring.specs.Flat.{flat, run, IsWhole};
 ghost use Rattle.piece_ring.specs.Text.{stretch, inserted, deleted, looks_changed};
 ghost use Rattle.text_core.specs.Attributes.{look_at};
 
@@ -28,7 +28,7 @@ impl Model for Text {
 impl Text {
     /// An empty text. It takes a little memory all the same.
     pub fn new(alloc: Global) -> Result<Text, NoMemory>
-        ensures { IfOk result (λ t. flat t ≡ []) }
+        ensures { IfOk result (λ t. t ≡ []) }
     {
         Ok(Text {
             ring: Ring::new(alloc)?,
@@ -67,6 +67,17 @@ impl Text {
         ensures { result ≡ length self.now }
     {
         self.ring.pieces()
+    }
+
+    /// Puts a piece at the end as it is, also where it could be one with the piece before it. If
+    /// memory is refused the pieces stay.
+    pub fn push(&mut self, alloc: Global, piece: Piece) -> Result<(), NoMemory>
+        requires whole { IsWhole piece }
+        requires fits { length (flat self.old) + piece.len < 2 ^ 32 }
+        ensures pieces { OnOk result (self.new ≡ self.old ++ piece ∷ []) }
+        ensures refused { OnErr result (self.new ≡ self.old) }
+    {
+        self.ring.push(alloc, piece)
     }
 
     /// Puts the buffer's characters in at `pos`, and leaves the buffer empty. If memory is refused
@@ -193,6 +204,7 @@ impl Text {
     pub fn cursor(&self, pos: u32) -> Cursor<'_>
         requires { pos ≤ length (flat self.now) }
         ensures text { flat result.left ≡ drop pos (flat self.now) }
+        ensures whole { pos ≡ 0 → result.left ≡ self.now }
         ensures few { result.walked ≤ length self.now }
     {
         self.ring.cursor(pos)

@@ -6,7 +6,7 @@ ghost use Rattle.text_frames.specs.Cells.{IsPositionAt, IsCellOf};
 ghost use Rattle.text_frames.specs.Row.{IsRow};
 ghost use Rattle.text_frames.specs.Rules.{moved, changed_org, is_shown, IsFollowed, IsBrought};
 
-use crate::lines::{line_start, lines_above, start_above};
+use crate::lines::{line_start, lines_above, start_above, walk_start};
 use crate::place::{self, place_of};
 use crate::row::{RowCells, cells_of_row};
 use crate::{CharSource, Fault, Text};
@@ -92,9 +92,8 @@ impl Frame {
 
     /// Brings the position `p` into the `h` rows shown: where it is above `org`, or its line isn't in one of these
     /// rows, `org` becomes the start of the line that stands `h / 2` lines above that of `p`, 0 where there are fewer.
-    /// Where the line is shown, only the characters from `org` to `p` are read. `Fault`: the source failed in this
-    /// call;
-    /// the frame is as it was.
+    /// The text is read from `org` to `p`, or from its beginning where `p` is above `org` or there is no row. `Fault`:
+    /// the source failed in this call; the frame is as it was.
     pub fn show<S: CharSource>(
         &mut self,
         text: &Text,
@@ -116,7 +115,8 @@ impl Frame {
         if seen {
             return Ok(());
         }
-        let starts = lines_above(text, p, source)?;
+        let from = walk_start(self.org, h, p);
+        let starts = lines_above(text, from, p, source)?;
         let org = start_above(&starts, h);
         self.org = org;
         Ok(())

@@ -1,8 +1,8 @@
 //! Lines of a text, read character after character.
-ghost use Rattle.std.specs.Prelude.{◌≡◌, ℕ, ◌+◌, ◌-◌, ◌/◌, ◌^◌, ◌<◌, ◌≤◌, ◌∷◌, length, take, slice_index, IfOk};
+ghost use Rattle.std.specs.Prelude.{◌≡◌, ◌⊎◌, ℕ, ◌+◌, ◌-◌, ◌/◌, ◌^◌, ◌<◌, ◌≤◌, ◌∷◌, length, take, slice_index, IfOk};
 ghost use Rattle.std.specs.Prelude.{if◌then◌else◌};
 ghost use Rattle.readers_scanners.specs.Words.{CountsFault, OnlyReads, flat, AreWithin, bytes};
-ghost use Rattle.text_frames.specs.Lines.{is_return, line_start, line_above};
+ghost use Rattle.text_frames.specs.Lines.{is_return, line_start, line_above, Passes};
 
 use crate::{CharSource, Fault, Text};
 use event_bytes::CARRIAGE_RETURN;
@@ -53,29 +53,40 @@ fn put_first(starts: &mut LineStarts, start: u32)
     starts[0] = start;
 }
 
-/// Where the lines above a position start. The text is read from its beginning. `Fault`: the source failed in this
-/// call.
+/// Where the lines above a position start, as far as the walk from `from` to it passes their starts. `Fault`: the
+/// source failed in this call.
 pub(crate) fn lines_above<S: CharSource>(
     text: &Text,
+    from: u32,
     pos: u32,
     source: &mut S,
 ) -> Result<LineStarts, Fault>
+    requires order { from ≤ pos }
     requires within { pos ≤ length (flat text.now) }
     requires offsets { AreWithin (length (S.characters source.old)) (flat text.now) }
     ensures starts { IfOk result (λ starts. S.honest source.old
-        → (k : ℕ) → k < 16
+        → (k : ℕ) → k < 16 → Passes (bytes (S.characters source.old) (flat text.now)) from k pos
         → slice_index starts k ≡ line_above (bytes (S.characters source.old) (flat text.now)) k pos) }
     ensures range { IfOk result (λ starts. (k : ℕ) → slice_index starts k ≤ pos) }
     ensures reads { OnlyReads S.characters S.failures S.honest S.same_ground source.old source.new }
     ensures cause { CountsFault result (S.failures source.old) (S.failures source.new) }
 {
-    let mut reader = Reader::open(text, 0);
+    let mut reader = Reader::open(text, from);
     let mut starts = [0; REMEMBERED];
-    for at in 0..pos {
+    for at in from..pos {
         let byte = reader.next_byte(source)?;
         pass(&mut starts, byte, at);
     }
     Ok(starts)
+}
+
+/// From where on a text is read up to `p`, to find where the line starts that stands `h / 2` lines above that of `p`.
+/// The line of `p` isn't in one of the `h` rows from `org` on.
+pub(crate) fn walk_start(org: u32, h: u8, p: u32) -> u32
+    ensures order { result ≤ p }
+    ensures start { (result ≡ 0) ⊎ ((result ≡ org) × (0 < h)) }
+{
+    if 0 < h && org <= p { org } else { 0 }
 }
 
 /// Where the line starts that stands `h / 2` lines above.

@@ -9,3 +9,4 @@ pub mod TrackLemmas
 pub mod ColumnLemmas
 pub mod RowLemmas
 pub mod PlacedLemmas
+pub mod HeightLemmas

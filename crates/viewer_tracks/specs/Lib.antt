@@ -5,3 +5,4 @@ pub mod Room
 pub mod Columns
 pub mod Edges
 pub mod Rows
+pub mod Heights

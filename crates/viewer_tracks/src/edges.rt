@@ -1,12 +1,13 @@
 //! What is read off the edges of a track. An edge is a viewer with the row before which it ends, so that each viewer
 //! begins where the one under
 //! it ends; clauses speak of the viewers with their heights.
-ghost use Rattle.std.specs.Prelude.{◌≡◌, ◌+◌, ◌/◌, ◌<◌, ◌≤◌, ◌↔◌, length, nat_le};
+ghost use Rattle.std.specs.Prelude.{◌≡◌, ◌+◌, ◌/◌, ◌<◌, ◌≤◌, ◌↔◌, length, nat_le, slice_get, Some};
 ghost use Rattle.std.specs.List.{position_or_len};
 ghost use Rattle.viewer_tracks.specs.Viewers.{bottom_of, top_of, entry_of, times_in, viewer_of, viewer_at, number_of};
 ghost use Rattle.viewer_tracks.specs.Edits.{open_entry, open_top, takes_place, change_top};
 ghost use Rattle.viewer_tracks.specs.Room.{tallest, greatest_height};
 ghost use Rattle.viewer_tracks.specs.Edges.{entries_from, Rises};
+ghost use Rattle.viewer_tracks.specs.Heights.{with_height};
 
 use crate::display::ROWS;
 use crate::viewer_id::ViewerId;
@@ -67,6 +68,16 @@ pub fn viewer_of(edges: &[Edge], index: usize) -> Option<ViewerId>
 {
     let edge = edges.get(index)?;
     Some(edge.viewer)
+}
+
+/// The viewer of an edge, and how many rows it has.
+pub fn entry(edges: &[Edge], index: usize) -> (ViewerId, u8)
+    requires rising { Rises 0 edges.now }
+    requires in_bounds { index < length edges.now }
+    ensures { slice_get (entries_from 0 edges.now) index ≡ Some (with_height result) }
+{
+    let Edge { viewer, top } = edges[index];
+    (viewer, top - bottom(edges, index))
 }
 
 /// The viewer that has the row `y`.

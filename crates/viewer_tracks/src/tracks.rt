@@ -1,8 +1,9 @@
 //! The tracks of the display, which callers open, change and close viewers in.
-ghost use Rattle.std.specs.Prelude.{◌≡◌, ◌<◌, ◌≤◌, ◌↔◌, IsTrue, IfSome};
+ghost use Rattle.std.specs.Prelude.{◌≡◌, ◌<◌, ◌≤◌, ◌↔◌, IsTrue, IfSome, length, slice_get, Some};
 ghost use Rattle.std.specs.Option.{ForSome};
 ghost use Rattle.viewer_tracks.specs.Display.{left_of};
 ghost use Rattle.viewer_tracks.specs.Viewers.{number_of, viewer_of};
+ghost use Rattle.viewer_tracks.specs.Heights.{with_height};
 
 use crate::display::{COLUMNS, ROWS, Track};
 use crate::viewer_id::ViewerId;
@@ -165,6 +166,28 @@ impl Tracks {
         match track {
             Track::User => self.user.nth(index),
             Track::System => self.system.nth(index),
+        }
+    }
+
+    /// How many viewers stand in a track.
+    pub fn count(&self, track: Track) -> u8
+        ensures count { result ≡ length (shown self.now track) }
+        ensures few { result ≤ ROWS }
+    {
+        match track {
+            Track::User => self.user.count(),
+            Track::System => self.system.count(),
+        }
+    }
+
+    /// The viewer of that place in a track, counted from 0 at the bottom, and how many rows it has.
+    pub fn entry_in(&self, track: Track, index: u8) -> (ViewerId, u8)
+        requires { index < length (shown self.now track) }
+        ensures { slice_get (shown self.now track) index ≡ Some (with_height result) }
+    {
+        match track {
+            Track::User => self.user.entry(index),
+            Track::System => self.system.entry(index),
         }
     }
 

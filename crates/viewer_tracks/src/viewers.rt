@@ -1,8 +1,9 @@
 //! The viewers of one track. A clause sees them as the list of viewers with their heights, bottom up.
-ghost use Rattle.std.specs.Prelude.{◌≡◌, ◌<◌, ◌≤◌, ◌↔◌, [], IsTrue};
+ghost use Rattle.std.specs.Prelude.{◌≡◌, ◌<◌, ◌≤◌, ◌↔◌, [], IsTrue, length, slice_get, Some};
 ghost use Rattle.viewer_tracks.specs.Viewers.{times_in, entry_of, bottom_of, top_of, viewer_of, viewer_at, number_of};
 ghost use Rattle.viewer_tracks.specs.Edits.{opened, replaced, changed, closed};
 ghost use Rattle.viewer_tracks.specs.Room.{free_row};
+ghost use Rattle.viewer_tracks.specs.Heights.{with_height};
 
 use crate::display::ROWS;
 use crate::edge_list::EdgeList;
@@ -114,6 +115,22 @@ impl Viewers {
         ensures { number_of result ≡ viewer_of self.now index }
     {
         edges::viewer_of(self.edges.as_slice(), usize::from(index))
+    }
+
+    /// How many viewers there are.
+    pub fn count(&self) -> u8
+        ensures count { result ≡ length self.now }
+        ensures few { result ≤ ROWS }
+    {
+        self.edges.as_slice().len() as u8
+    }
+
+    /// The viewer of that place, counted from 0 at the bottom, and how many rows it has.
+    pub fn entry(&self, index: u8) -> (ViewerId, u8)
+        requires { index < length self.now }
+        ensures { slice_get self.now index ≡ Some (with_height result) }
+    {
+        edges::entry(self.edges.as_slice(), usize::from(index))
     }
 
     /// The viewer that has the row `y`.

@@ -2,6 +2,7 @@ use Rattle.std.proofs.Common.{◌∙◌, ℕ, List, ap}
 use Rattle.std.specs.Ordering.{nat_cmp}
 use Rattle.std.specs.BTreeMap.{insert_entry}
 use Rattle.piece_ring.specs.declared.piece.Piece.{Piece}
+use Rattle.piece_ring.specs.Flat.{flat}
 use Rattle.event_loop.proofs.EmptyLemmas.{empty_seen, empty_over}
 use Rattle.event_loop.proofs.desk.empty_desk.Goals as goal
 
@@ -11,8 +12,8 @@ returns-clause-seen c =
     c.new-7.result.entries c.in_ok-copied.copied c.in_ok-deleted.deleted c.new-8.result.items c.in_ok-new.field-0
     (c.in_ok-insert.ensures.entries
     ∙ ap (λ (es : List (ℕ × List Piece)). insert_entry nat_cmp es 0 c.in_ok-new.field-0) c.new-texts.ensures.empty)
-    c.in_ok-new.ensures c.new-4.ensures.items c.new-5.ensures.empty c.new-6.ensures.items c.new-7.ensures.empty
-    c.in_ok-copied.ensures c.in_ok-deleted.ensures c.new-8.ensures
+    (ap flat c.in_ok-new.ensures) c.new-4.ensures.items c.new-5.ensures.empty c.new-6.ensures.items
+    c.new-7.ensures.empty (ap flat c.in_ok-copied.ensures) (ap flat c.in_ok-deleted.ensures) c.new-8.ensures
 
 pub returns-clause-over : goal.returns-clause-over
 returns-clause-over c =
@@ -20,5 +21,5 @@ returns-clause-over c =
     c.new-7.result.entries c.in_ok-copied.copied c.in_ok-deleted.deleted c.new-8.result.items c.in_ok-new.field-0
     (c.in_ok-insert.ensures.entries
     ∙ ap (λ (es : List (ℕ × List Piece)). insert_entry nat_cmp es 0 c.in_ok-new.field-0) c.new-texts.ensures.empty)
-    c.in_ok-new.ensures c.new-4.ensures.items c.new-5.ensures.empty c.new-6.ensures.items c.new-7.ensures.empty
-    c.in_ok-copied.ensures c.in_ok-deleted.ensures c.new-8.ensures
+    (ap flat c.in_ok-new.ensures) c.new-4.ensures.items c.new-5.ensures.empty c.new-6.ensures.items
+    c.new-7.ensures.empty (ap flat c.in_ok-copied.ensures) (ap flat c.in_ok-deleted.ensures) c.new-8.ensures

@@ -18,6 +18,7 @@ loop-at-preserved g c =
           before.way _ _
           c.in_ok-byte.ensures.moves c.in_ok-byte.ensures.text c.in_ok-byte.ensures.reads c.in_ok-byte.ensures.cause;
       range = λ k. rw c.pass.ensures (range_next (is_return byte) c.loop-at.at c.loop-at.starts before.range k);
-      starts = λ h. λ k. λ lt. rw c.pass.ensures
-          (starts_next bs c.loop-at.at byte (there h) c.loop-at.starts (before.starts h) k lt);
+      starts = λ h. λ k. λ lt. λ passes. rw c.pass.ensures
+          (starts_next bs c.args.from c.loop-at.at byte (there h) c.loop-at.auto.at c.loop-at.starts (before.starts h) k
+          lt passes);
     }

@@ -52,6 +52,9 @@ set_looks-requires-clause-within g c =
     (kept_newest _ d c.in-Some-newest.selection (over_built old d c.requires.over)
     (sym c.newest.ensures ∙ c.in-Some-newest.is)).2
 
+pub set_looks-requires-clause-look : goal.set_looks-requires-clause-look
+set_looks-requires-clause-look g c = c.requires.sets (c.in-Some.selector, c.in-Some.look) c.in-Some.is
+
 pub returns-clause-answered : goal.returns-clause-answered
 returns-clause-answered g c =
     let s = g.S.CharSource in

@@ -9,6 +9,7 @@ use Rattle.event_loop_laws.specs.RowPartLaws.{kept_main, kept_newest, copy_long,
 use Rattle.event_loop_laws.specs.KeyLaws.{refusal_answered, copied_to_none, copied_to_full, copied_to_answered}
 use Rattle.event_loop_laws.specs.KeyLaws.{main_small}
 use Rattle.event_loop.specs.Kept.{kept}
+use Rattle.event_loop_laws.specs.RowPartLaws.{copy_looks}
 use Rattle.event_loop.proofs.desk.Desk.copy_to.Goals as goal
 
 pub returns-in_default-clause-answered : goal.returns-in_default-clause-answered
@@ -74,6 +75,12 @@ put_in-requires-clause-within g c =
     (stretch-AreWithin _ s.beg s.end (flat (kept_main d s.viewer))
     (text_within _ d (viewer_or_none c.args.self.now.viewers.items s.viewer).main
     (over_built old d c.requires.over).within))
+
+pub put_in-requires-clause-looks : goal.put_in-requires-clause-looks
+put_in-requires-clause-looks g c =
+    let old = g.S.CharSource.characters c.args.source.now in
+    let d = kept c.args.self.now in
+    copy_looks _ d c.in-Some.selection c.in_ok-copy.copy (over_built old d c.requires.over) c.in_ok-copy.ensures
 
 pub returns-clause-answered : goal.returns-clause-answered
 returns-clause-answered g c =

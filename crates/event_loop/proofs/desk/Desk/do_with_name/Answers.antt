@@ -9,6 +9,9 @@ use Rattle.event_loop_laws.specs.Seen.{seen}
 use Rattle.event_loop.specs.Kept.{kept}
 use Rattle.event_loop.proofs.ReadLemmas.{outcome_as, rest_done}
 use Rattle.event_loop.proofs.CallLemmas.{name_rest}
+use Rattle.event_loop_laws.specs.Looks.{SetsLook}
+use Rattle.event_loop_laws.specs.LookedLaws.{font_sets_look}
+use Rattle.std.proofs.Common.{subst}
 use Rattle.event_loop.proofs.desk.Desk.do_with_name.Goals as goal
 
 pub returns-in-EditOpen-clause-answered : goal.returns-in-EditOpen-clause-answered
@@ -65,3 +68,10 @@ returns-in_default-clause-answered g c =
     rest_done (s.honest c.args.source.now) old d _ c.requires.over
     (name_rest _ c.args.command c.args.name.now c.in_default.not-EditOpen c.in_default.not-SystemOpen
     c.in_default.not-SystemSetFont c.in_default.not-EditChangeFont)
+
+pub set_look-requires-clause-sets : goal.set_look-requires-clause-sets
+set_look-requires-clause-sets g c = subst SetsLook (sym c.font_set.ensures) (font_sets_look c.args.name.now)
+
+pub change_look-requires-clause-sets : goal.change_look-requires-clause-sets
+change_look-requires-clause-sets g c =
+    subst SetsLook (sym c.font_set-in-EditChangeFont.ensures) (font_sets_look c.args.name.now)

@@ -11,6 +11,9 @@ use Rattle.event_loop_laws.specs.Seen.{seen}
 use Rattle.event_loop.specs.Kept.{kept}
 use Rattle.event_loop.proofs.ReadLemmas.{outcome_as, rest_done}
 use Rattle.event_loop.proofs.CallLemmas.{number_rest}
+use Rattle.event_loop_laws.specs.Looks.{SetsLook}
+use Rattle.event_loop_laws.specs.LookedLaws.{colour_sets_look, offset_sets_look}
+use Rattle.std.proofs.Common.{subst}
 use Rattle.event_loop.proofs.desk.Desk.do_with_number.Goals as goal
 
 pub returns-in-SystemSetColor-clause-answered : goal.returns-in-SystemSetColor-clause-answered
@@ -77,3 +80,27 @@ returns-in_default-clause-answered g c =
     rest_done (s.honest c.args.source.now) old d _ c.requires.over
     (number_rest _ c.args.command c.args.number c.in_default.not-SystemSetColor c.in_default.not-SystemSetOffset
     c.in_default.not-EditChangeColor c.in_default.not-EditChangeOffset)
+
+pub set_look-requires-clause-sets : goal.set_look-requires-clause-sets
+set_look-requires-clause-sets g c =
+    subst SetsLook (sym (c.colour_set.ensures
+    ∙ ap colour_set (to_z-of_z w32 c.args.number c.ranges.number)))
+    (colour_sets_look c.args.number)
+
+pub set_look-requires-in-SystemSetOffset-clause-sets : goal.set_look-requires-in-SystemSetOffset-clause-sets
+set_look-requires-in-SystemSetOffset-clause-sets g c =
+    subst SetsLook (sym (c.offset_set.ensures
+    ∙ ap offset_set (to_z-of_z w32 c.args.number c.ranges.number)))
+    (offset_sets_look c.args.number)
+
+pub change_look-requires-clause-sets : goal.change_look-requires-clause-sets
+change_look-requires-clause-sets g c =
+    subst SetsLook (sym (c.colour_set-in-EditChangeColor.ensures
+    ∙ ap colour_set (to_z-of_z w32 c.args.number c.ranges.number)))
+    (colour_sets_look c.args.number)
+
+pub change_look-requires-in-EditChangeOffset-clause-sets : goal.change_look-requires-in-EditChangeOffset-clause-sets
+change_look-requires-in-EditChangeOffset-clause-sets g c =
+    subst SetsLook (sym (c.offset_set-in-EditChangeOffset.ensures
+    ∙ ap offset_set (to_z-of_z w32 c.args.number c.ranges.number)))
+    (offset_sets_look c.args.number)

@@ -27,6 +27,6 @@ returns-clause-changed g c =
     let some = c.if-count-eq0.false in
     put_changed (s.characters c.args.source.now) (kept c.args.self.now) c.put_in.new.texts.entries c.args.number
     c.args.pos c.args.buffer.now c.len-count.result c.len-count.ensures c.requires.built c.requires.there
-    c.in_ok-put_in.ensures c.requires.within (omega (arith, some)) (s.honest c.args.source.now) (kept c.follow.new.self)
-    c.follow.new.self.viewers.items c.in_ok-follow.ensures.rest c.in_ok-follow.ensures.moved
+    c.in_ok-put_in.ensures c.requires.within c.requires.looks (omega (arith, some)) (s.honest c.args.source.now)
+    (kept c.follow.new.self) c.follow.new.self.viewers.items c.in_ok-follow.ensures.rest c.in_ok-follow.ensures.moved
     c.in_ok-follow.ensures.exact

@@ -6,6 +6,8 @@ use Rattle.piece_ring.specs.Offsets.{AreWithin, run-AreWithin}
 use Rattle.event_loop_laws.specs.RowLaws.{text_held}
 use Rattle.event_loop_laws.specs.LogLaws.{log_kept, line_put, line_logged}
 use Rattle.event_loop.specs.Kept.{kept}
+use Rattle.event_loop_laws.specs.Looks.{AreLooks}
+use Rattle.event_loop_laws.specs.LookedLaws.{default_is_look, run_looks}
 use Rattle.event_loop.proofs.desk.Desk.log_line.Goals as goal
 
 pub insert-requires-clause-there : goal.insert-requires-clause-there
@@ -41,6 +43,11 @@ show_log_end-requires g c =
           (λ h. reads.same (premise.1 h)) c.in_ok-buffer.ensures c.log_len-end.ensures
           c.in_ok-insert.ensures.changed).stands.built;
     }
+
+pub insert-requires-clause-looks : goal.insert-requires-clause-looks
+insert-requires-clause-looks g c =
+    subst AreLooks (sym c.in_ok-buffer.ensures)
+    (run_looks c.args.self.now.written (length c.args.line.now) default_look default_is_look)
 
 pub returns-clause-logged : goal.returns-clause-logged
 returns-clause-logged g c =

@@ -8,6 +8,8 @@ use Rattle.event_loop_laws.specs.Step.{fits}
 use Rattle.event_loop_laws.specs.KeyLaws.{row_as}
 use Rattle.event_loop_laws.specs.OpeningOnLaws.{file_within, copy_row, copy_full}
 use Rattle.event_loop.specs.Kept.{kept}
+use Rattle.event_loop_laws.specs.Looks.{AreLooks}
+use Rattle.event_loop_laws.specs.OpeningOnLaws.{file_looks}
 use Rattle.event_loop.proofs.desk.Desk.open_named.Goals as goal
 
 pub returns-then-not-opening_fits-clause-answered : goal.returns-then-not-opening_fits-clause-answered
@@ -27,6 +29,11 @@ pub open_viewer-requires-clause-within : goal.open_viewer-requires-clause-within
 open_viewer-requires-clause-within g c =
     let d = kept c.args.self.now in
     subst (AreWithin d.written) (sym c.in_ok-main.ensures) (file_within d c.args.name.now c.requires.over.whole)
+
+pub open_viewer-requires-clause-looks : goal.open_viewer-requires-clause-looks
+open_viewer-requires-clause-looks g c =
+    let d = kept c.args.self.now in
+    subst AreLooks (sym c.in_ok-main.ensures) (file_looks d c.args.name.now c.requires.over.whole)
 
 pub returns-clause-answered : goal.returns-clause-answered
 returns-clause-answered g c =

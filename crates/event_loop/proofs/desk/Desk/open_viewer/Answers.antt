@@ -57,4 +57,4 @@ returns-clause-answered g c =
       hold = c.edits_keep_columns.ensures.opened d.columns (new_id d) c.args.x c.args.y hold
           (new_fresh d c.requires.over.whole);
       places = λ w. c.edits_place_viewers.ensures.opened d.columns (new_id d) c.args.x c.args.y w hold;
-    }) main c.requires.within c.requires.fits)
+    }) main c.requires.within c.requires.looks c.requires.fits)

@@ -13,6 +13,7 @@ use Rattle.event_loop_laws.specs.MarkLaws.{with_selection_changed}
 use Rattle.event_loop_laws.specs.RowPartLaws.{kept_main, kept_caret, copy_long, text_within}
 use Rattle.event_loop_laws.specs.KeyLaws.{refusal_answered, sent_empty, sent_none, sent_full, sent_answered, main_small}
 use Rattle.event_loop.specs.Kept.{kept}
+use Rattle.event_loop_laws.specs.RowPartLaws.{copy_looks}
 use Rattle.event_loop.proofs.desk.Desk.send_to_caret.Goals as goal
 
 pub returns-then-drawn-clause-answered : goal.returns-then-drawn-clause-answered
@@ -85,6 +86,12 @@ put_at_caret-requires-clause-within g c =
     (stretch-AreWithin _ s.beg s.end (flat (kept_main d s.viewer))
     (text_within _ d (viewer_or_none c.args.self.now.viewers.items s.viewer).main
     (over_built old d c.requires.over).within))
+
+pub put_at_caret-requires-clause-looks : goal.put_at_caret-requires-clause-looks
+put_at_caret-requires-clause-looks g c =
+    let old = g.S.CharSource.characters c.args.source.now in
+    let d = kept c.args.self.now in
+    copy_looks _ d c.args.drawn c.in_ok-copy.copy (over_built old d c.requires.over) c.in_ok-copy.ensures
 
 pub returns-clause-answered : goal.returns-clause-answered
 returns-clause-answered g c =

@@ -19,4 +19,4 @@ returns-clause-answered g c =
     let old = s.characters c.args.source.now in
     let d = kept c.args.self.now in
     look_set_answered (s.honest c.args.source.now) old d c.requires.over c.args.new
-    (c.in-Some.selector, c.in-Some.look) c.relooked-self.result c.in-Some.is c.relooked-self.ensures
+    (c.in-Some.selector, c.in-Some.look) c.relooked-self.result c.requires.sets c.in-Some.is c.relooked-self.ensures

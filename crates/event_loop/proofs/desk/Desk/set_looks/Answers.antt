@@ -9,7 +9,7 @@ pub returns-clause-changed : goal.returns-clause-changed
 returns-clause-changed c = λ characters built.
     relooked_by characters (kept c.args.self.now) c.relook.new.texts.entries c.args.selection c.args.selector
     c.args.look c.requires.placed c.requires.there c.requires.some c.requires.within c.viewer_or_none-number.result
-    c.viewer_or_none-number.ensures c.in_ok-relook.ensures
+    c.viewer_or_none-number.ensures c.in_ok-relook.ensures c.requires.look
     (record (kept c.unmark.new.self) { selections = c.select.new.selections.items })
     ((λ k. record (kept c.unmark.new.self) { selections = c.in_ok-select.ensures k })
     ∙ ap (λ (d : KeptDesktop). with_selection d c.args.selection) c.unmark.ensures)

@@ -10,6 +10,8 @@ use Rattle.event_loop_laws.specs.RowPartLaws.{kept_main, kept_main_seen, kept_ma
 use Rattle.event_loop_laws.specs.KeyLaws.{main_small}
 use Rattle.event_loop_laws.specs.StoreLaws.{files_small, storing_refused, storing_full, storing_stands, storing_short}
 use Rattle.event_loop_laws.specs.StoreLaws.{storing_answered}
+use Rattle.event_loop_laws.specs.Looks.{AreLooks}
+use Rattle.event_loop_laws.specs.LookedLaws.{kept_text_looks}
 use Rattle.event_loop.specs.Kept.{kept}
 use Rattle.event_loop.proofs.desk.Desk.store_as.Goals as goal
 
@@ -69,6 +71,8 @@ log_line-requires-clause-stands g c =
     c.put.new.files.entries c.in_ok-copy.copy c.in_ok-put.ensures.put c.in_ok-put.ensures.valid
     (subst (AreWithin (length old)) (sym same)
     (text_within (length old) d (viewer_or_none d.viewers v).main (over_built old d c.requires.over).within))
+    (subst AreLooks (sym same)
+    (kept_text_looks (length old) d (over_built old d c.requires.over) (viewer_or_none d.viewers v).main))
     (ap (λ (t : Text ℕ). contents old t) same ∙ sym (kept_main_seen old d v))
 
 pub log_line-requires-clause-room : goal.log_line-requires-clause-room
@@ -97,6 +101,8 @@ log_line-requires-clause-short g c =
     c.put.new.files.entries c.in_ok-copy.copy c.in_ok-put.ensures.put c.in_ok-put.ensures.valid
     (subst (AreWithin (length old)) (sym same)
     (text_within (length old) d (viewer_or_none d.viewers v).main (over_built old d c.requires.over).within))
+    (subst AreLooks (sym same)
+    (kept_text_looks (length old) d (over_built old d c.requires.over) (viewer_or_none d.viewers v).main))
     (ap (λ (t : Text ℕ). contents old t) same ∙ sym (kept_main_seen old d v))
     (ap (λ n. has_space (seen [] d) n all gone) (sym c.len-4.ensures.value)
     ∙ sym (c.fits_more.ensures []) ∙ c.if-not-fits_more.false) in
@@ -124,6 +130,8 @@ returns-clause-answered g c =
     c.put.new.files.entries c.in_ok-copy.copy c.in_ok-put.ensures.put c.in_ok-put.ensures.valid
     (subst (AreWithin (length old)) (sym same)
     (text_within (length old) d (viewer_or_none d.viewers v).main (over_built old d c.requires.over).within))
+    (subst AreLooks (sym same)
+    (kept_text_looks (length old) d (over_built old d c.requires.over) (viewer_or_none d.viewers v).main))
     (ap (λ (t : Text ℕ). contents old t) same ∙ sym (kept_main_seen old d v))
     (s.characters c.log_line.new.source) (kept c.log_line.new.self) c.in_ok-log_line.ensures.logged
     (λ among. ap (λ n. has_space (seen among d) n all gone) made

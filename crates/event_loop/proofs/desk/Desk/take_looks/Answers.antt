@@ -6,6 +6,11 @@ use Rattle.event_loop_laws.specs.RowLaws.{known_no_selection, over_built, main_k
 use Rattle.event_loop_laws.specs.RowPartLaws.{kept_newest}
 use Rattle.event_loop_laws.specs.KeyLaws.{refusal_answered, looks_taken_none, looks_taken_answered}
 use Rattle.event_loop.specs.Kept.{kept}
+use Rattle.event_loop_laws.specs.Looks.{IsLook}
+use Rattle.event_loop_laws.specs.Viewers.{viewer_or_none}
+use Rattle.event_loop_laws.specs.LookedLaws.{look_at_looks, kept_text_looks}
+use Rattle.piece_ring.specs.Flat.{flat}
+use Rattle.event_loop_laws.specs.RowPartLaws.{kept_main}
 use Rattle.event_loop.proofs.desk.Desk.take_looks.Goals as goal
 
 pub returns-in_default-clause-answered : goal.returns-in_default-clause-answered
@@ -46,6 +51,13 @@ set_looks-requires-clause-within g c =
     let d = kept c.args.self.now in
     (kept_newest _ d c.in-Some.selection (over_built old d c.requires.over)
     (sym c.newest.ensures ∙ c.in-Some.is)).2
+
+pub set_looks-requires-clause-look : goal.set_looks-requires-clause-look
+set_looks-requires-clause-look g c =
+    let old = g.S.CharSource.characters c.args.source.now in
+    let d = kept c.args.self.now in
+    subst IsLook (sym c.look_at-look.ensures) (look_at_looks c.args.pos (flat (kept_main d c.args.id))
+    (kept_text_looks _ d (over_built old d c.requires.over) (viewer_or_none d.viewers c.args.id).main))
 
 pub returns-clause-answered : goal.returns-clause-answered
 returns-clause-answered g c =

@@ -13,6 +13,8 @@ use Rattle.event_loop_laws.specs.RowLaws.{known_no_caret, over_built, built_long
 use Rattle.event_loop_laws.specs.RowPartLaws.{kept_caret}
 use Rattle.event_loop_laws.specs.KeyLaws.{refusal_answered, typed_none, typed_full, typed_answered, main_small}
 use Rattle.event_loop.specs.Kept.{kept}
+use Rattle.event_loop_laws.specs.Looks.{AreLooks}
+use Rattle.event_loop_laws.specs.LookedLaws.{run_looks, kept_look}
 use Rattle.event_loop.proofs.desk.Desk.type_bytes.Goals as goal
 
 pub returns-in_default-clause-answered : goal.returns-in_default-clause-answered
@@ -102,6 +104,14 @@ overflow_add-self g c =
     let low = space_written (seen [] d) (length c.as_bytes-bytes.result.now) (length c.as_bytes-bytes.result.now) 0
     (sym (c.fits_more.ensures []) ∙ c.if-not-fits_more.false) in
     omega (arith, low, c.in_ok-put_at_caret.ensures.changed.rest.written)
+
+pub put_at_caret-requires-clause-looks : goal.put_at_caret-requires-clause-looks
+put_at_caret-requires-clause-looks g c =
+    let old = g.S.CharSource.characters c.args.source.now in
+    let d = kept c.args.self.now in
+    subst AreLooks (sym c.in_ok-buffer.ensures)
+    (run_looks c.args.self.now.written (length c.as_bytes-bytes.result.now) c.args.self.now.look
+    (kept_look (length old) d (over_built old d c.requires.over)))
 
 pub returns-clause-answered : goal.returns-clause-answered
 returns-clause-answered g c =

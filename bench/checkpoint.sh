@@ -1,0 +1,65 @@
+#!/usr/bin/env bash
+# A checkpoint of 262,144 characters in one piece and in 10,000, against bare writes and syncs of as many sectors; and opening such a store,
+# by time and peak memory, beside sqlite3 opening a database of as much text. `bench/checkpoint.sh [TIMES] [FOLDER]`
+set -eu
+top=$(cd "$(dirname "$0")/.." && pwd)
+times=${1:-100}
+folder=$(mktemp -d -p "${2:-$top}")
+trap 'rm -rf "$folder"' EXIT
+cc -O2 -o "$folder/sectors" "$top/bench/sectors.c"
+"$top/oberon" < /dev/null
+program=$top/crates/oberon/out/oberon
+cd "$folder"
+
+# The text stands in a viewer beside a tool text, by which its colour changes.
+begin='file System.Tool System.SetColor 1%0dSystem.SetColor 2%0dEdit.Open A
+point m 60 31 60 31
+point m 52 28 52 28
+point l 1 30 1 30'
+x=$(head -c 900 /dev/zero | tr '\0' x)
+{ echo "$begin"; for k in $(seq 291); do echo "type $x"; done; } > one
+{
+    echo "$begin"
+    for k in $(seq 5000); do
+        printf '%s\n' 'point m 52 30 52 30' 'type abcdefghijklmnopqrstuvwxyz' 'point m 52 29 52 29' 'type abcdefghijklmnopqrstuvwxyz'
+    done
+} > many
+for k in $(seq "$times"); do echo checkpoint; done > checkpoints
+
+# Nanoseconds that a command takes.
+took() {
+    local begun
+    begun=$(date +%s%N)
+    "$@"
+    echo $(($(date +%s%N) - begun))
+}
+opened() { "$program" check desk > said; }
+renewed() { "$program" play desk < checkpoints > said; }
+bare() { ./sectors plain "$sectors" "$times"; }
+
+# The length of the image that slot $1 has.
+length() { echo $((0x$(dd if=desk bs=1 skip=$((2048 * $1 + 2060)) count=4 status=none | od -An -tx1 | tr -d ' \n'))); }
+
+for text in one many; do
+    "$program" format desk > said
+    { cat $text; echo checkpoint; echo checkpoint; } | "$program" play desk | sort | uniq -c > said
+    [ "$(wc -l < said)" = 1 ] || { echo 'an event was refused'; exit 1; }
+    # The image, the head and gate 0.
+    sectors=$((($(length 0) + 1023) / 1024 + 2))
+    head -c 15995904 /dev/zero > plain && sync -d plain
+    opening=$(took opened)
+    play=$(took renewed)
+    loop=$(took bare)
+    awk -v what="$text" -v n="$times" -v sectors="$sectors" -v play=$((play - opening)) -v loop="$loop" -v opening="$opening" 'BEGIN {
+        printf "%s: opening %.1f ms; a checkpoint (%d sectors) %.2f ms, bare %.2f ms, ratio %.2f\n",
+            what, opening / 1e6, sectors, play / n / 1e6, loop / n / 1e6, play / loop }'
+    if [ -x /usr/bin/time ]; then
+        /usr/bin/time -f "$text: opening and checking %e s, %M KB at most" "$program" check desk > said
+    fi
+done
+
+# The same text as a row of a table; opening is reading it whole.
+if command -v sqlite3 > found && [ -x /usr/bin/time ]; then
+    sqlite3 text.db "create table texts(bytes); insert into texts values (cast(zeroblob(262144) as text))"
+    /usr/bin/time -f 'sqlite3: opening and reading %e s, %M KB at most' sqlite3 text.db 'select length(hex(bytes)) from texts' > said
+fi

@@ -1,0 +1,281 @@
+-- The parts of an image that are lists, and the image.
+use Rattle.std.proofs.Common.{◌≡◌, ℕ, ◌-◌, ◌<◌, ◌≤◌, Bool, true, false, List, [], ◌∷◌, ◌++◌, length, Option, Some, None}
+use Rattle.std.proofs.Common.{refl, sym, ap, subst, ◌∙◌, arith}
+use Rattle.std.specs.Prelude.{cond, nat_le, nat_eq}
+use Rattle.std.proofs.lemmas.Bool.{eqb-true}
+use Rattle.std.proofs.lemmas.Bool.Decides.{nat_tests}
+use Rattle.std.proofs.lemmas.List.{append-nil}
+use Rattle.event_bytes.specs.Parts.{byte, word, byte_at, IsPart}
+use Rattle.event_bytes.proofs.EventParts.{name_part}
+use Rattle.event_bytes.proofs.PartLaws.{given, some_is, bind_some, test_some, Nothing, whole, field, last, only, recast}
+use Rattle.event_bytes.proofs.PartLaws.{byte_part, word_part}
+use Rattle.piece_ring.specs.declared.piece.Look.{Look}
+use Rattle.piece_ring.specs.declared.piece.Piece.{Piece}
+use Rattle.viewer_tracks.specs.declared.display.Track.{Track}
+use Rattle.viewer_tracks.specs.declared.display.Track.TheVariants.{User, System}
+use Rattle.viewer_tracks.specs.declared.display.TheConstants.{ROWS, SYSTEM_LEFT}
+use Rattle.viewer_tracks.specs.Display.{left_of}
+use Rattle.viewer_tracks.specs.Viewers.{Entry}
+use Rattle.event_loop_laws.specs.declared.viewer.Kept.{Kept}
+use Rattle.event_loop_laws.specs.Limits.{most_files, most_held}
+use Rattle.event_loop_laws.specs.Tables.{Texts, Files}
+use Rattle.desk_image.specs.declared.picture.Ranked.{Ranked}
+use Rattle.desk_image.specs.declared.picture.ViewerPicture.{ViewerPicture}
+use Rattle.desk_image.specs.Image.{Image, listed, pieces_bytes, text_bytes, file_bytes, ranked_bytes, viewer_bytes}
+use Rattle.desk_image.specs.Image.{entry_bytes, kept_bytes, image_bytes, InByte, InLong}
+use Rattle.desk_image.specs.Fitting.{Chain, FitsPieces, less, total, totals, FitsText, after_text, FitsTexts, follows}
+use Rattle.desk_image.specs.Fitting.{FitsFile, after_file, FitsFiles, FitsRanked, FitsViewer, after_viewer, FitsViewers}
+use Rattle.desk_image.specs.Fitting.{FitsEntry, above, FitsTrack, FitsKept, FitsImage}
+use Rattle.desk_image.specs.Reading.{pieces_at, text_at, texts_at, file_at, files_at, ranked_at, viewer_at, viewers_at}
+use Rattle.desk_image.specs.Reading.{raw_entry_at, is_entry, entry_at, track_at, side_at, raw_kept_at, is_kept, kept_at}
+use Rattle.desk_image.specs.Reading.{image_at, whole_image_at}
+use Rattle.desk_image.proofs.Lists.{tested, ruled, items, listed_part, optional_part}
+use Rattle.desk_image.proofs.Fields.{long_part, look_part, piece_part, pattern_part, cell_part}
+
+pub pieces_part : (written room : ℕ) → InLong written
+    → IsPart pieces_bytes (FitsPieces written room) (pieces_at written room)
+unfolding pieces_at
+pieces_part written room small = listed_part less (λ r. piece_part written r small) room long_part
+
+-- ---- texts and files
+
+abbrev NumberedText : Type 0
+NumberedText = ℕ × List Piece
+
+pub text_part : (written : ℕ) → InLong written → (s : ℕ × ℕ)
+    → IsPart text_bytes (FitsText written s) (text_at written s)
+text_part written small s = whole (
+    field _ (λ (t : NumberedText). t.0) word_part (λ number _.
+    tested (λ (t : NumberedText). nat_le s.0 t.0) (nat_le s.0 number) (λ t known. ap (nat_le s.0) known.1) (λ _.
+    last (λ (t : NumberedText). t.1) (λ pieces. (number, pieces)) (pieces_part written s.1 small)
+    (λ pieces. (tt, refl)) (λ pieces. refl) (λ t known. ap (λ n. (n, t.1)) (sym known.1)))))
+
+pub texts_part : (written room : ℕ) → InLong written
+    → IsPart (listed word text_bytes) (FitsTexts written room) (texts_at written room)
+unfolding texts_at
+texts_part written room small = listed_part after_text (text_part written small) (0, room) word_part
+
+abbrev NamedText : Type 0
+NamedText = List ℕ × List Piece
+
+pub file_part : (written : ℕ) → InLong written → (s : Option (List ℕ) × ℕ)
+    → IsPart file_bytes (FitsFile written s) (file_at written s)
+file_part written small s = whole (
+    field _ (λ (f : NamedText). f.0) name_part (λ name _.
+    tested (λ (f : NamedText). follows s.0 f.0) (follows s.0 name) (λ f known. ap (follows s.0) known.1) (λ _.
+    last (λ (f : NamedText). f.1) (λ pieces. (name, pieces)) (pieces_part written s.1 small)
+    (λ pieces. (tt, refl)) (λ pieces. refl) (λ f known. ap (λ n. (n, f.1)) (sym known.1)))))
+
+pub files_part : (written room : ℕ) → InLong written
+    → IsPart (listed word file_bytes) (FitsFiles written room) (files_at written room)
+unfolding files_at
+files_part written room small =
+    recast (λ files fits. (grind (arith, nat_tests, fits.1.0), fits.1.1))
+    (λ files fits. (omega (arith, fits.0), (grind (arith, nat_tests, fits.0), fits.1)))
+    (whole (
+    field _ (λ (files : Files (List Piece)). length files) word_part (λ count _.
+    tested (λ files. nat_le (length files) most_files) (nat_le count most_files)
+    (λ files known. ap (λ n. nat_le n most_files) known.1)
+    (λ _. items after_file (file_part written small) count (None, room)))))
+
+-- ---- viewers
+
+pub ranked_part : IsPart ranked_bytes FitsRanked ranked_at
+unfolding ranked_at
+ranked_part = whole (
+    field _ (λ (r : Ranked). r.rank) byte_part (λ rank _.
+    field _ (λ (r : Ranked). r.beg) long_part (λ beg _.
+    last (λ (r : Ranked). r.end) (λ end. record { rank = rank; beg = beg; end = end }) long_part
+    (λ end. ((tt, refl), refl)) (λ end. refl) (λ r known. rw (← known.0.1, ← known.1) refl))))
+
+pub viewer_part : (least : ℕ) → IsPart viewer_bytes (FitsViewer least) (viewer_at least)
+viewer_part least = whole (
+    field _ (λ (v : ViewerPicture). v.id) byte_part (λ id _.
+    tested (λ (v : ViewerPicture). nat_le least v.id) (nat_le least id) (λ v known. ap (nat_le least) known.1) (λ _.
+    field _ (λ (v : ViewerPicture). v.viewer.menu) word_part (λ menu _.
+    field _ (λ (v : ViewerPicture). v.viewer.main) word_part (λ main _.
+    field _ (λ (v : ViewerPicture). v.viewer.org) long_part (λ org _.
+    field _ (λ (v : ViewerPicture). v.caret) (optional_part long_part) (λ caret _.
+    last (λ (v : ViewerPicture). v.selection) (picture id menu main org caret) (optional_part ranked_part)
+    (λ selection. (((((tt, refl), refl), refl), refl), refl)) (λ selection. refl)
+    (λ v known. rw (← known.0.0.0.0.1, ← known.0.0.0.1, ← known.0.0.1, ← known.0.1, ← known.1) refl))))))))
+  where
+    picture : ℕ → ℕ → ℕ → ℕ → Option ℕ → Option Ranked → ViewerPicture
+    picture id menu main org caret selection = record {
+      id = id;
+      viewer = record { menu = menu; main = main; org = org };
+      caret = caret;
+      selection = selection;
+    }
+
+pub viewers_part : IsPart (listed byte viewer_bytes) FitsViewers viewers_at
+unfolding viewers_at
+viewers_part = listed_part after_viewer viewer_part 0 byte_part
+
+-- ---- tracks
+
+-- what an entry has that is read where so many rows are left
+abbrev ReadEntry : ℕ → Entry → Type 0
+ReadEntry room e = (InByte e.viewer × InByte e.height) × (is_entry room e ≡ true)
+
+entry_part : (room : ℕ) → IsPart entry_bytes (ReadEntry room) (entry_at room)
+unfolding entry_at raw_entry_at
+entry_part room = only (is_entry room) (whole (
+    field _ (λ (e : Entry). e.viewer) byte_part (λ viewer _.
+    last (λ (e : Entry). e.height) (λ height. record { viewer = viewer; height = height }) byte_part
+    (λ height. (tt, refl)) (λ height. refl) (λ e known. rw (← known.1) refl))))
+
+entries_fit : (room : ℕ) (track : List Entry) → Chain ReadEntry above room track → Chain FitsEntry above room track
+entries_fit room [] fits = tt
+entries_fit room (e ∷ track) fits = (
+  record {
+    viewer = fits.0.0.0;
+    some = grind (arith, nat_tests, fits.0.1);
+    short = grind (arith, nat_tests, fits.0.1);
+  },
+  entries_fit (above room e) track fits.1,
+)
+
+-- each entry has a row at least, so there are no more of them than rows
+fits_entries : (room : ℕ) (track : List Entry) → room ≤ ROWS → Chain FitsEntry above room track
+    → (length track ≤ room) × Chain ReadEntry above room track
+fits_entries room [] small fits = (omega arith, tt)
+fits_entries room (e ∷ track) small fits =
+    let some : 0 < e.height = fits.0.some in
+    let short : e.height ≤ room = fits.0.short in
+    let (count, others) = fits_entries (above room e) track (omega (arith, small)) fits.1 in
+    let height : InByte e.height = omega (arith, short, small) in
+    (omega (arith, count, some, short), (((fits.0.viewer, height), grind (arith, nat_tests, some, short)), others))
+
+pub track_part : IsPart (listed byte entry_bytes) FitsTrack track_at
+unfolding track_at
+track_part =
+    recast (λ track fits. entries_fit ROWS track fits.1)
+    (λ track fits. let (count, others) = fits_entries ROWS track (omega arith) fits in (omega (arith, count), others))
+    (listed_part above entry_part ROWS byte_part)
+
+-- ---- the viewer that was closed last
+
+-- by what the column says
+sided : (n : ℕ) (user system : Bool) (bytes : List ℕ) (y : Track × List ℕ) → (user ≡ true → n ≡ 0)
+    → (system ≡ true → n ≡ SYSTEM_LEFT)
+    → cond user (given {A = Track × List ℕ} (User, bytes)) (cond system (given (System, bytes)) None) ≡ Some y
+    → n ∷ bytes ≡ left_of y.0 ∷ y.1
+sided n true system bytes y left right e =
+    subst (λ (y : Track × List ℕ). n ∷ bytes ≡ left_of y.0 ∷ y.1)
+    (some_is {A = Track × List ℕ} (User, bytes) y e) (ap (λ m. m ∷ bytes) (left refl))
+sided n false true bytes y left right e =
+    subst (λ (y : Track × List ℕ). n ∷ bytes ≡ left_of y.0 ∷ y.1)
+    (some_is {A = Track × List ℕ} (System, bytes) y e) (ap (λ m. m ∷ bytes) (right refl))
+sided n false false bytes y left right e = absurd cc
+
+side_again : (t : Track) (rest : List ℕ) → Unit {0} → side_at (byte (left_of t) ++ rest) ≡ Some (t, rest)
+unfolding side_at byte_at
+side_again User rest fits = refl
+side_again System rest fits = refl
+
+side_part : IsPart (λ t. byte (left_of t)) Nothing side_at
+unfolding side_at
+side_part = record {
+  takes = λ bytes t rest e.
+      let (x, x_is, e1) = bind_some (byte_at bytes) _ _ e in
+      let first = byte_part.takes bytes x.0 x.1 x_is in
+      record {
+        fits = tt;
+        parts = first.parts
+            ∙ sided x.0 (nat_eq x.0 0) (nat_eq x.0 SYSTEM_LEFT) x.1 (t, rest) (eqb-true x.0 0)
+            (eqb-true x.0 SYSTEM_LEFT) e1;
+      };
+  again = side_again;
+}
+
+abbrev RawKept : Kept → Type 0
+RawKept k = InByte k.viewer × (Unit {0} × InByte k.top)
+
+kept_fits : (k : Kept) → RawKept k × (is_kept k ≡ true) → FitsKept k
+kept_fits k (raw, test) = (raw.0, (grind (arith, nat_tests, test), grind (arith, nat_tests, test)))
+
+fits_kept : (k : Kept) → FitsKept k → RawKept k × (is_kept k ≡ true)
+fits_kept k (viewer, (some, top)) = ((viewer, (tt, omega (arith, top))), grind (arith, nat_tests, some, top))
+
+pub kept_part : IsPart kept_bytes FitsKept kept_at
+unfolding kept_at raw_kept_at
+kept_part =
+    recast kept_fits fits_kept (only is_kept (whole (
+    field _ (λ (k : Kept). k.viewer) byte_part (λ viewer _.
+    field _ (λ (k : Kept). k.track) side_part (λ track _.
+    last (λ (k : Kept). k.top) (λ top. record { viewer = viewer; track = track; top = top }) byte_part
+    (λ top. ((tt, refl), refl)) (λ top. refl) (λ k known. rw (← known.0.1, ← known.1) refl))))))
+
+-- ---- images
+
+pub image_part : (written : ℕ) → InLong written → IsPart image_bytes (FitsImage written) (image_at written)
+unfolding image_bytes FitsImage image_at
+image_part written small = whole (
+    field _ (λ (i : Image). i.look) look_part (λ look _.
+    field _ (λ (i : Image). i.pattern) pattern_part (λ pattern _.
+    field _ (λ (i : Image). i.marker) (optional_part cell_part) (λ marker _.
+    field _ (λ (i : Image). i.texts) (texts_part written most_held small) (λ texts _.
+    let room = most_held - totals texts in
+    ruled (FitsFiles written) _ (λ (i : Image). i.files) (λ i. most_held - totals i.texts) room
+    (λ i known. ap (λ t. most_held - totals t) known.1) (files_part written room small) (λ files _.
+    let room = most_held - totals texts - totals files in
+    ruled (FitsPieces written) _ (λ (i : Image). i.copied) (λ i. most_held - totals i.texts - totals i.files) room
+    (λ i known. rw (known.0.1, known.1) refl) (pieces_part written room small) (λ copied _.
+    let room = most_held - totals texts - totals files - total copied in
+    ruled (FitsPieces written) _ (λ (i : Image). i.deleted)
+    (λ i. most_held - totals i.texts - totals i.files - total i.copied) room
+    (λ i known. rw (known.0.0.1, known.0.1, known.1) refl) (pieces_part written room small) (λ deleted _.
+    field _ (λ (i : Image). i.viewers) viewers_part (λ viewers _.
+    field _ (λ (i : Image). i.user) track_part (λ user _.
+    field _ (λ (i : Image). i.system) track_part (λ system _.
+    last (λ (i : Image). i.kept) (image look pattern marker texts files copied deleted viewers user system)
+    (optional_part kept_part)
+    (λ kept. ((((((((((tt, refl), refl), refl), refl), refl), refl), refl), refl), refl), refl)) (λ kept. refl)
+    (λ i known. rw (
+      ← known.0.0.0.0.0.0.0.0.0.1,
+      ← known.0.0.0.0.0.0.0.0.1,
+      ← known.0.0.0.0.0.0.0.1,
+      ← known.0.0.0.0.0.0.1,
+      ← known.0.0.0.0.0.1,
+      ← known.0.0.0.0.1,
+      ← known.0.0.0.1,
+      ← known.0.0.1,
+      ← known.0.1,
+      ← known.1,
+    ) refl))))))))))))
+  where
+    image : Look → List ℕ → Option (ℕ × ℕ) → Texts (List Piece) → Files (List Piece) → List Piece → List Piece
+        → List ViewerPicture → List Entry → List Entry → Option Kept → Image
+    image look pattern marker texts files copied deleted viewers user system kept = record {
+      look = look;
+      pattern = pattern;
+      marker = marker;
+      texts = texts;
+      files = files;
+      copied = copied;
+      deleted = deleted;
+      viewers = viewers;
+      user = user;
+      system = system;
+      kept = kept;
+    }
+
+-- ---- an image, and no byte after it
+
+pub whole_takes : (written : ℕ) (bytes : List ℕ) (i : Image) → InLong written
+    → whole_image_at written bytes ≡ Some (i, []) → FitsImage written i × (bytes ≡ image_bytes i)
+unfolding whole_image_at
+whole_takes written bytes i small e =
+    let (x, x_is, e1) = bind_some (image_at written bytes) _ _ e in
+    let (none_left, e2) = test_some (nat_eq (length x.1) 0) (given {A = Image × List ℕ} x) (i, []) e1 in
+    let t = (image_part written small).takes bytes i [] (x_is ∙ e2) in
+    (t.fits, t.parts ∙ append-nil (image_bytes i))
+
+pub whole_again : (written : ℕ) (bytes : List ℕ) (i : Image) → InLong written → FitsImage written i
+    → bytes ≡ image_bytes i → whole_image_at written bytes ≡ Some (i, [])
+unfolding whole_image_at
+whole_again written bytes i small fits exact =
+    let read : image_at written bytes ≡ Some (i, []) =
+    ap (image_at written) (exact ∙ sym (append-nil (image_bytes i))) ∙ (image_part written small).again i [] fits in
+    rw read refl

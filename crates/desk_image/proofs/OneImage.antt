@@ -1,0 +1,34 @@
+-- Bytes are the image of one desktop at most, since what they are read as says which desktop it is.
+use Rattle.std.specs.Prelude.{◌≡◌, ℕ, ◌≤◌, List, [], Some}
+use Rattle.std.proofs.Common.{sym, ap, subst, ◌∙◌, arith}
+use Rattle.event_bytes.proofs.PartLaws.{some_is}
+use Rattle.event_loop_laws.specs.Limits.{most_written}
+use Rattle.event_loop_laws.specs.Desktop.{KeptDesktop}
+use Rattle.event_loop_laws.specs.Seen.{seen}
+use Rattle.event_loop_laws.specs.Sound.{IsKeptWhole}
+use Rattle.desk_image.specs.Image.{Image, image_of, Spells}
+use Rattle.desk_image.specs.Fitting.{FitsImage}
+use Rattle.desk_image.specs.Reading.{whole_image_at}
+use Rattle.desk_image.specs.Laws.{UniqueLaw}
+use Rattle.desk_image.proofs.DesktopFits.{desktop_fits}
+use Rattle.desk_image.proofs.Images.{whole_again}
+use Rattle.desk_image.proofs.OneDesktop.{same_desktop}
+
+written_low : (d : KeptDesktop) → IsKeptWhole d → d.written ≤ most_written
+unfolding seen
+written_low d whole = (whole.sound []).written_within
+
+-- the bytes of an image are read as it
+pub read_back : (written : ℕ) (bytes : List ℕ) (d : KeptDesktop) → Spells written bytes d
+    → whole_image_at written bytes ≡ Some (image_of d, [])
+read_back written bytes d spells =
+    let low = written_low d spells.whole in
+    let count = spells.count in
+    whole_again written bytes (image_of d) (omega (arith, low, count))
+    (subst (λ (n : ℕ). FitsImage n (image_of d)) count (desktop_fits d spells.whole spells.parts)) spells.exact
+
+pub one_image : UniqueLaw
+one_image written bytes d e first second = same_desktop d e first.whole second.whole
+    (first.count ∙ sym second.count) (ap (λ (x : Image × List ℕ). x.0)
+    (some_is {A = Image × List ℕ} (image_of d, []) (image_of e, [])
+    (sym (read_back written bytes d first) ∙ read_back written bytes e second)))

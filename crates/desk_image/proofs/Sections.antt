@@ -1,0 +1,129 @@
+-- An image in sections is the image.
+use Rattle.std.proofs.Common.{◌≡◌, ℕ, ◌-◌, List, Option, Some, None, refl, sym, ◌∙◌, Result, Ok, ap}
+use Rattle.event_bytes.specs.Parts.{◌>>=◌}
+use Rattle.event_loop_laws.specs.Limits.{most_held}
+use Rattle.desk_image.specs.declared.fault.ImageFault.{ImageFault}
+use Rattle.desk_image.specs.declared.picture.ViewerPicture.{ViewerPicture}
+use Rattle.desk_image.specs.declared.source.ByteSource.{Ghosts as SourceGhosts}
+use Rattle.desk_image.specs.Fitting.{total, totals}
+use Rattle.desk_image.specs.Image.{Image}
+use Rattle.desk_image.specs.Reading.{optional_at, look_at, pattern_at, cell_at, texts_at, files_at, pieces_at}
+use Rattle.desk_image.specs.Reading.{viewers_at, track_at, kept_at, image_at}
+use Rattle.desk_image.specs.Steps.{Front, front_at, Held, held_at, Shown, shown_at, sections_at}
+use Rattle.desk_image.specs.Streams.{Reads}
+use Rattle.desk_image.proofs.Parts.{follows_on}
+
+-- what is made of some steps, and goes on
+module _ {D E : Type 0} (next : D → Option E) where
+  one : {A : Type 0} (a : Option A) (make : A → D) → (a >>= (λ x. Some (make x))) >>= next ≡ a >>= λ x. next (make x)
+  one None make = refl
+  one (Some x) make = refl
+
+  two : {A B : Type 0} (a : Option A) (b : A → Option B) (make : A → B → D)
+      → (a >>= λ x. b x >>= λ y. Some (make x y)) >>= next ≡ a >>= λ x. b x >>= λ y. next (make x y)
+  two None b make = refl
+  two (Some x) b make = one (b x) (make x)
+
+  three : {A B C : Type 0} (a : Option A) (b : A → Option B) (c : A → B → Option C) (make : A → B → C → D)
+      → (a >>= λ x. b x >>= λ y. c x y >>= λ z. Some (make x y z)) >>= next
+      ≡ a >>= λ x. b x >>= λ y. c x y >>= λ z. next (make x y z)
+  three None b c make = refl
+  three (Some x) b c make = two (b x) (c x) (make x)
+
+  four : {A B C F : Type 0} (a : Option A) (b : A → Option B) (c : A → B → Option C) (f : A → B → C → Option F)
+      (make : A → B → C → F → D)
+      → (a >>= λ x. b x >>= λ y. c x y >>= λ z. f x y z >>= λ w. Some (make x y z w)) >>= next
+      ≡ a >>= λ x. b x >>= λ y. c x y >>= λ z. f x y z >>= λ w. next (make x y z w)
+  four None b c f make = refl
+  four (Some x) b c f make = three (b x) (c x) (f x) (make x)
+
+-- each section, and what follows it
+module _ {E : Type 0} where
+  front_then : (next : Front × List ℕ → Option E) (bytes : List ℕ) → front_at bytes >>= next
+      ≡ look_at bytes >>= λ look. pattern_at look.1 >>= λ pattern. optional_at cell_at pattern.1 >>= λ marker.
+      next ((look.0, pattern.0, marker.0), marker.1)
+  unfolding front_at
+  front_then next bytes = three next (look_at bytes) (λ look. pattern_at look.1)
+      (λ look pattern. optional_at cell_at pattern.1) (λ look pattern marker. ((look.0, pattern.0, marker.0), marker.1))
+
+  held_then : (written : ℕ) (next : Held × List ℕ → Option E) (bytes : List ℕ) → held_at written bytes >>= next
+      ≡ texts_at written most_held bytes >>= λ texts.
+      files_at written (most_held - totals texts.0) texts.1 >>= λ files.
+      pieces_at written (most_held - totals texts.0 - totals files.0) files.1 >>= λ copied.
+      pieces_at written (most_held - totals texts.0 - totals files.0 - total copied.0) copied.1 >>= λ deleted.
+      next ((texts.0, files.0, copied.0, deleted.0), deleted.1)
+  unfolding held_at
+  held_then written next bytes = four next (texts_at written most_held bytes)
+      (λ texts. files_at written (most_held - totals texts.0) texts.1)
+      (λ texts files. pieces_at written (most_held - totals texts.0 - totals files.0) files.1)
+      (λ texts files copied.
+      pieces_at written (most_held - totals texts.0 - totals files.0 - total copied.0) copied.1)
+      (λ texts files copied deleted. ((texts.0, files.0, copied.0, deleted.0), deleted.1))
+
+  shown_then : (next : Shown × List ℕ → Option E) (bytes : List ℕ) → shown_at bytes >>= next
+      ≡ track_at bytes >>= λ user. track_at user.1 >>= λ system. optional_at kept_at system.1 >>= λ kept.
+      next ((user.0, system.0, kept.0), kept.1)
+  unfolding shown_at
+  shown_then next bytes = three next (track_at bytes) (λ user. track_at user.1)
+      (λ user system. optional_at kept_at system.1) (λ user system kept. ((user.0, system.0, kept.0), kept.1))
+
+-- what follows each section
+abbrev pub with_shown : Front → Held → List ViewerPicture → Shown × List ℕ → Option (Image × List ℕ)
+with_shown front held viewers shown = Some (
+  record {
+    look = front.0;
+    pattern = front.1;
+    marker = front.2;
+    texts = held.0;
+    files = held.1;
+    copied = held.2;
+    deleted = held.3;
+    viewers = viewers;
+    user = shown.0.0;
+    system = shown.0.1;
+    kept = shown.0.2;
+  },
+  shown.1,
+)
+
+abbrev pub with_held : Front → Held × List ℕ → Option (Image × List ℕ)
+with_held front held = viewers_at held.1 >>= λ viewers. shown_at viewers.1 >>= with_shown front held.0 viewers.0
+
+abbrev pub with_front : ℕ → Front × List ℕ → Option (Image × List ℕ)
+with_front written front = held_at written front.1 >>= with_held front.0
+
+pub image_in_sections : (written : ℕ) (bytes : List ℕ) → image_at written bytes ≡ sections_at written bytes
+unfolding image_at
+image_in_sections written bytes = sym (front_then (with_front written) bytes
+    ∙ (λ i. look_at bytes >>= λ look. pattern_at look.1 >>= λ pattern. optional_at cell_at pattern.1 >>= λ marker.
+    (held_then written (with_held (look.0, pattern.0, marker.0)) marker.1
+    ∙ (λ j. texts_at written most_held marker.1 >>= λ texts.
+    files_at written (most_held - totals texts.0) texts.1 >>= λ files.
+    pieces_at written (most_held - totals texts.0 - totals files.0) files.1 >>= λ copied.
+    pieces_at written (most_held - totals texts.0 - totals files.0 - total copied.0) copied.1 >>= λ deleted.
+    viewers_at deleted.1 >>= λ viewers.
+    shown_then (with_shown (look.0, pattern.0, marker.0) (texts.0, files.0, copied.0, deleted.0) viewers.0) viewers.1
+    j)) i))
+
+-- ---- a section was read, and what follows it
+
+module _ {S X Z : Type 0} {s : SourceGhosts S} {x : X} {all : Z → Image} {result : Result Z ImageFault}
+    {old mid new : S} (through : (a b c : S) → s.same_ground a b → s.same_ground b c → s.same_ground a c) (written : ℕ) where
+  pub after_front : {view : X → Front} → Reads s view (Ok x) front_at old mid
+      → Reads s all result (λ bytes. with_front written (view x, bytes)) mid new
+      → Reads s all result (image_at written) old new
+  after_front front others = follows_on through (image_at written) front
+      (λ bytes after is. image_in_sections written bytes ∙ ap (λ r. r >>= with_front written) is) others
+
+  pub after_held : {view : X → Held} (front : Front) → Reads s view (Ok x) (held_at written) old mid
+      → Reads s all result (λ bytes. with_held front (view x, bytes)) mid new
+      → Reads s all result (λ bytes. with_front written (front, bytes)) old new
+  after_held front held others = follows_on through (λ bytes. with_front written (front, bytes)) held
+      (λ bytes after is. ap (λ r. r >>= with_held front) is) others
+
+  pub after_viewers : {view : X → List ViewerPicture} (front : Front) (held : Held)
+      → Reads s view (Ok x) viewers_at old mid
+      → Reads s all result (λ bytes. shown_at bytes >>= with_shown front held (view x)) mid new
+      → Reads s all result (λ bytes. with_held front (held, bytes)) old new
+  after_viewers front held viewers others = follows_on through (λ bytes. with_held front (held, bytes)) viewers
+      (λ bytes after is. ap (λ r. r >>= λ viewers. shown_at viewers.1 >>= with_shown front held viewers.0) is) others

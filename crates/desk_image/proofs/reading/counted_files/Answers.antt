@@ -1,0 +1,40 @@
+use Rattle.std.proofs.Common.{◌≡◌, ◌∷◌, [], ◌++◌, refl, ◌∙◌, arith}
+use Rattle.std.proofs.lemmas.Result.{err_from_is_err_and}
+use Rattle.desk_image.specs.Steps.{last_key}
+use Rattle.desk_image.proofs.Loop.{goes_on, ends, is_done, all_fit}
+use Rattle.desk_image.proofs.Totals.{totals_push}
+use Rattle.desk_image.proofs.Rising.{name_put, names_wait_on, last_key_push}
+use Rattle.desk_image.proofs.reading.counted_files.Goals as goal
+
+pub loop-preserved : goal.loop-preserved
+loop-preserved g c =
+    let passed = c.in_ok-name.ensures.fits.1.0 in
+    let all = c.loop.files.entries in
+    let name = c.in_ok-name.name in
+    let text = c.in_ok-name.text in
+    let put : c.insert.new.self.entries ≡ all ++ (name, text) ∷ [] =
+    c.in_ok-insert.ensures.entries
+    ∙ name_put all (last_key all) name text passed c.loop.invariant.wait in
+    rw (put, last_key_push all name text) (record {
+      at = rw c.in_ok-name.ensures.left (goes_on g.met.S.ByteSource.ground_through c.loop.invariant.at _ _
+          c.loop-test.true c.in_ok-name.ensures.reads c.in_ok-name.ensures.fits);
+      left = omega (
+        arith,
+        totals_push all (name, text),
+        c.in_ok-name.ensures.left,
+        c.loop.invariant.left,
+      );
+      wait = names_wait_on all (last_key all) name text passed c.loop.invariant.wait;
+    })
+
+pub returns-in_err-name-clause-reads : goal.returns-in_err-name-clause-reads
+returns-in_err-name-clause-reads g c =
+    let p = err_from_is_err_and c.from_residual.result c.from_residual.ensures.1 in
+    rw (p.1, p.2) (ends g.met.S.ByteSource.ground_through c.loop.invariant.at _ _ c.in_err-name.field-0.0
+    c.loop-test.true c.in_err-name.ensures.reads)
+
+pub returns-clause-reads : goal.returns-clause-reads
+returns-clause-reads g c = is_done c.loop.invariant.at _ _ c.loop-test.false refl
+
+pub returns-clause-fits : goal.returns-clause-fits
+returns-clause-fits g c = all_fit c.loop.invariant.at

@@ -1,0 +1,41 @@
+-- What holds of images, whoever reads or writes them.
+use Rattle.std.specs.Prelude.{◌≡◌, ℕ, ◌+◌, ◌%◌, ◌^◌, ◌<◌, ◌≤◌, ◌↔◌, List, [], length, Some}
+use Rattle.event_loop_laws.specs.Desktop.{KeptDesktop, empty_desktop}
+use Rattle.event_loop_laws.specs.Sound.{IsKeptWhole}
+use Rattle.desk_image.specs.declared.empty.TheConstants.{EMPTY_IMAGE}
+use Rattle.desk_image.specs.declared.limits.TheConstants.{IMAGE_BYTES, SECTOR_BYTES}
+use Rattle.desk_image.specs.Image.{Image, image_of, image_bytes, IsSpellable, Spells}
+use Rattle.desk_image.specs.Fitting.{FitsImage}
+use Rattle.desk_image.specs.Reading.{whole_image_at}
+
+-- what is read is an image whose parts fit, and such an image is read
+abbrev pub ReadingLaw : Type 0
+ReadingLaw = (written : ℕ) (bytes : List ℕ) (i : Image) → written < 2 ^ 32
+    → (whole_image_at written bytes ≡ Some (i, [])) ↔ (FitsImage written i × (bytes ≡ image_bytes i))
+
+-- the bytes of the empty desktop
+abbrev pub empty_bytes : List ℕ
+empty_bytes = EMPTY_IMAGE
+
+-- it is written so, and read again
+abbrev pub EmptyLaw : Type 0
+EmptyLaw = (image_bytes (image_of empty_desktop) ≡ empty_bytes)
+    × (whole_image_at 0 empty_bytes ≡ Some (image_of empty_desktop, []))
+
+-- the parts of a desktop that holds together fit
+abbrev pub FittingLaw : Type 0
+FittingLaw = (d : KeptDesktop) → IsKeptWhole d → IsSpellable d → FitsImage d.written (image_of d)
+
+-- two desktops that hold together have the same parts only if they are one
+abbrev pub ImagingLaw : Type 0
+ImagingLaw = (d e : KeptDesktop) → IsKeptWhole d → IsKeptWhole e → d.written ≡ e.written → image_of d ≡ image_of e
+    → d ≡ e
+
+-- bytes are the image of one desktop at most
+abbrev pub UniqueLaw : Type 0
+UniqueLaw = (written : ℕ) (bytes : List ℕ) (d e : KeptDesktop) → Spells written bytes d → Spells written bytes e → d ≡ e
+
+-- an image has room in a slot, after the characters that fill no sector
+abbrev pub RoomLaw : Type 0
+RoomLaw = (written : ℕ) (bytes : List ℕ) (d : KeptDesktop) → Spells written bytes d
+    → written % SECTOR_BYTES + length bytes ≤ IMAGE_BYTES

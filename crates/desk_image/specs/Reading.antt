@@ -1,0 +1,236 @@
+-- Reading an image from left to right.
+use Rattle.std.specs.Prelude.{ℕ, zero, suc, ◌+◌, ◌-◌, ◌*◌, Bool, ◌&&◌, ◌==◌, if◌then◌else◌, nat_le}
+use Rattle.std.specs.Prelude.{nat_lt, List, [], ◌∷◌}
+use Rattle.std.specs.Prelude.{length, Option, Some, None, ℤ, pos, ◌-ℤ◌}
+use Rattle.event_bytes.specs.Parts.{Reader, ◌>>=◌, when, byte_at, word_at, counted_at}
+use Rattle.event_bytes.specs.Reading.{name_at}
+use Rattle.piece_ring.specs.declared.piece.Look.{Look}
+use Rattle.piece_ring.specs.declared.piece.Piece.{Piece}
+use Rattle.viewer_tracks.specs.declared.display.TheConstants.{ROWS, COLUMNS, SYSTEM_LEFT}
+use Rattle.viewer_tracks.specs.declared.display.Track.{Track}
+use Rattle.viewer_tracks.specs.declared.display.Track.TheVariants.{User, System}
+use Rattle.viewer_tracks.specs.Viewers.{Entry}
+use Rattle.event_loop_laws.specs.declared.limits.TheConstants.{FONTS, COLOURS}
+use Rattle.event_loop_laws.specs.declared.viewer.Kept.{Kept}
+use Rattle.event_loop_laws.specs.Limits.{most_files, most_held, most_pattern}
+use Rattle.event_loop_laws.specs.Tables.{Texts, Files}
+use Rattle.desk_image.specs.declared.picture.Ranked.{Ranked}
+use Rattle.desk_image.specs.declared.picture.ViewerPicture.{ViewerPicture}
+use Rattle.desk_image.specs.Image.{Image}
+use Rattle.desk_image.specs.Fitting.{less, after_text, follows, after_file, total, totals, after_viewer, above}
+
+-- ---- forms
+
+-- so many items, each read by what those before it leave
+unfoldable pub times : {S A : Type 0} → (S → Reader A) → (S → A → S) → ℕ → S → Reader (List A)
+times item next zero s bytes = Some ([], bytes)
+times item next (suc n) s bytes = do
+  x ← item s bytes
+  xs ← times item next n (next s x.0) x.1
+  Some (x.0 ∷ xs.0, xs.1)
+
+-- 0, or 1 and a value
+abbrev pub optional_at : {A : Type 0} → Reader A → Reader (Option A)
+optional_at read bytes = do
+  flag ← byte_at bytes
+  if flag.0 == 0 then Some (None, flag.1) else if flag.0 == 1 then (do
+    x ← read flag.1
+    Some (Some x.0, x.1)) else None
+
+unfoldable pub long_at : Reader ℕ
+long_at bytes = do
+  high ← word_at bytes
+  low ← word_at high.1
+  Some (high.0 * 65536 + low.0, low.1)
+
+-- ---- looks and pieces
+
+unfoldable pub offset_at : Reader ℤ
+offset_at bytes = do
+  b ← byte_at bytes
+  if nat_lt b.0 128 then Some (pos b.0 -ℤ pos 64, b.1) else None
+
+unfoldable pub raw_look_at : Reader Look
+raw_look_at bytes = do
+  font ← byte_at bytes
+  colour ← byte_at font.1
+  voff ← offset_at colour.1
+  Some (record { font = font.0; colour = colour.0; voff = voff.0 }, voff.1)
+
+abbrev pub is_look : Look → Bool
+is_look l = nat_lt l.font FONTS && nat_lt l.colour COLOURS
+
+unfoldable pub look_at : Reader Look
+look_at bytes = when is_look raw_look_at bytes
+
+unfoldable pub raw_piece_at : Reader Piece
+raw_piece_at bytes = do
+  off ← long_at bytes
+  len ← long_at off.1
+  look ← look_at len.1
+  last ← byte_at look.1
+  if last.0 == 0 then Some (record { off = off.0; len = len.0; look = look.0 }, last.1) else None
+
+abbrev pub is_piece : ℕ → ℕ → Piece → Bool
+is_piece written room p = nat_lt 0 p.len && (nat_le p.len room && nat_le (p.off + p.len) written)
+
+unfoldable pub piece_at : ℕ → ℕ → Reader Piece
+piece_at written room bytes = when (is_piece written room) raw_piece_at bytes
+
+unfoldable pub pieces_at : ℕ → ℕ → Reader (List Piece)
+pieces_at written room bytes = do
+  count ← long_at bytes
+  times (piece_at written) less count.0 room count.1
+
+-- ---- texts and files
+
+abbrev pub text_at : ℕ → ℕ × ℕ → Reader (ℕ × List Piece)
+text_at written s bytes = do
+  number ← word_at bytes
+  if nat_le s.0 number.0 then (do
+    pieces ← pieces_at written s.1 number.1
+    Some ((number.0, pieces.0), pieces.1)) else None
+
+unfoldable pub texts_at : ℕ → ℕ → Reader (Texts (List Piece))
+texts_at written room bytes = do
+  count ← word_at bytes
+  times (text_at written) after_text count.0 (0, room) count.1
+
+abbrev pub file_at : ℕ → Option (List ℕ) × ℕ → Reader (List ℕ × List Piece)
+file_at written s bytes = do
+  name ← name_at bytes
+  if follows s.0 name.0 then (do
+    pieces ← pieces_at written s.1 name.1
+    Some ((name.0, pieces.0), pieces.1)) else None
+
+unfoldable pub files_at : ℕ → ℕ → Reader (Files (List Piece))
+files_at written room bytes = do
+  count ← word_at bytes
+  if nat_le count.0 most_files then times (file_at written) after_file count.0 (None, room) count.1 else None
+
+-- ---- viewers
+
+unfoldable pub ranked_at : Reader Ranked
+ranked_at bytes = do
+  rank ← byte_at bytes
+  beg ← long_at rank.1
+  end ← long_at beg.1
+  Some (record { rank = rank.0; beg = beg.0; end = end.0 }, end.1)
+
+abbrev pub viewer_at : ℕ → Reader ViewerPicture
+viewer_at least bytes = do
+  id ← byte_at bytes
+  if nat_le least id.0 then (do
+    menu ← word_at id.1
+    main ← word_at menu.1
+    org ← long_at main.1
+    caret ← optional_at long_at org.1
+    selection ← optional_at ranked_at caret.1
+    Some (
+      record {
+        id = id.0;
+        viewer = record { menu = menu.0; main = main.0; org = org.0 };
+        caret = caret.0;
+        selection = selection.0;
+      },
+      selection.1,
+    )) else None
+
+unfoldable pub viewers_at : Reader (List ViewerPicture)
+viewers_at bytes = do
+  count ← byte_at bytes
+  times viewer_at after_viewer count.0 0 count.1
+
+-- ---- tracks
+
+unfoldable pub raw_entry_at : Reader Entry
+raw_entry_at bytes = do
+  viewer ← byte_at bytes
+  height ← byte_at viewer.1
+  Some (record { viewer = viewer.0; height = height.0 }, height.1)
+
+abbrev pub is_entry : ℕ → Entry → Bool
+is_entry room e = nat_lt 0 e.height && nat_le e.height room
+
+unfoldable pub entry_at : ℕ → Reader Entry
+entry_at room bytes = when (is_entry room) raw_entry_at bytes
+
+unfoldable pub track_at : Reader (List Entry)
+track_at bytes = do
+  count ← byte_at bytes
+  times entry_at above count.0 ROWS count.1
+
+-- ---- the rest
+
+unfoldable pub pattern_at : Reader (List ℕ)
+pattern_at bytes = when (λ pattern. nat_le (length pattern) most_pattern) (counted_at byte_at) bytes
+
+unfoldable pub raw_cell_at : Reader (ℕ × ℕ)
+raw_cell_at bytes = do
+  x ← byte_at bytes
+  y ← byte_at x.1
+  Some ((x.0, y.0), y.1)
+
+abbrev pub is_cell : ℕ × ℕ → Bool
+is_cell c = nat_lt c.0 COLUMNS && nat_lt c.1 ROWS
+
+unfoldable pub cell_at : Reader (ℕ × ℕ)
+cell_at bytes = when is_cell raw_cell_at bytes
+
+-- a track by its left column
+unfoldable pub side_at : Reader Track
+side_at bytes = do
+  x ← byte_at bytes
+  if x.0 == 0 then Some (User, x.1) else if x.0 == SYSTEM_LEFT then Some (System, x.1) else None
+
+unfoldable pub raw_kept_at : Reader Kept
+raw_kept_at bytes = do
+  viewer ← byte_at bytes
+  track ← side_at viewer.1
+  top ← byte_at track.1
+  Some (record { viewer = viewer.0; track = track.0; top = top.0 }, top.1)
+
+abbrev pub is_kept : Kept → Bool
+is_kept k = nat_lt 0 k.top && nat_le k.top ROWS
+
+unfoldable pub kept_at : Reader Kept
+kept_at bytes = when is_kept raw_kept_at bytes
+
+-- ---- the whole
+
+-- an image for which so many characters were written
+unfoldable pub image_at : ℕ → Reader Image
+image_at written bytes = do
+  look ← look_at bytes
+  pattern ← pattern_at look.1
+  marker ← optional_at cell_at pattern.1
+  texts ← texts_at written most_held marker.1
+  files ← files_at written (most_held - totals texts.0) texts.1
+  copied ← pieces_at written (most_held - totals texts.0 - totals files.0) files.1
+  deleted ← pieces_at written (most_held - totals texts.0 - totals files.0 - total copied.0) copied.1
+  viewers ← viewers_at deleted.1
+  user ← track_at viewers.1
+  system ← track_at user.1
+  kept ← optional_at kept_at system.1
+  Some (
+    record {
+      look = look.0;
+      pattern = pattern.0;
+      marker = marker.0;
+      texts = texts.0;
+      files = files.0;
+      copied = copied.0;
+      deleted = deleted.0;
+      viewers = viewers.0;
+      user = user.0;
+      system = system.0;
+      kept = kept.0;
+    },
+    kept.1,
+  )
+
+-- an image, and no byte after it
+unfoldable pub whole_image_at : ℕ → Reader Image
+whole_image_at written bytes = do
+  image ← image_at written bytes
+  if length image.1 == 0 then Some image else None

@@ -1,0 +1,104 @@
+-- Reading an image in the steps of the code: what `specs/Reading.antt` says at once, said in smaller parts.
+use Rattle.std.specs.Prelude.{ℕ, ◌-◌, nat_le, if◌then◌else◌, List, [], ◌∷◌, Option, Some, None}
+use Rattle.event_bytes.specs.Parts.{Reader, ◌>>=◌, byte_at, bytes_at}
+use Rattle.piece_ring.specs.declared.piece.Look.{Look}
+use Rattle.piece_ring.specs.declared.piece.Piece.{Piece}
+use Rattle.viewer_tracks.specs.Viewers.{Entry}
+use Rattle.event_loop_laws.specs.declared.viewer.Kept.{Kept}
+use Rattle.event_loop_laws.specs.Limits.{most_held, most_pattern}
+use Rattle.event_loop_laws.specs.Tables.{Texts, Files}
+use Rattle.desk_image.specs.Fitting.{total, totals, FitsTexts, FitsFiles, FitsPieces}
+use Rattle.desk_image.specs.Image.{Image}
+use Rattle.desk_image.specs.Reading.{optional_at, look_at, pattern_at, cell_at, texts_at, files_at, pieces_at}
+use Rattle.desk_image.specs.Reading.{viewers_at, track_at, kept_at}
+
+-- ---- bytes
+
+-- the next byte, whatever number it is
+abbrev pub any_at : Reader ℕ
+any_at [] = None
+any_at (b ∷ bs) = Some (b, bs)
+
+-- the end
+abbrev pub end_at : Reader ℕ
+end_at [] = Some (0, [])
+end_at (b ∷ bs) = None
+
+-- bytes after their number, no more than a pattern may have
+unfoldable pub short_at : Reader (List ℕ)
+short_at bytes = do
+  count ← byte_at bytes
+  if nat_le count.0 most_pattern then bytes_at count.0 count.1 else None
+
+-- the key of the last entry
+abbrev pub last_key : {K X : Type 0} → List (K × X) → Option K
+last_key [] = None
+last_key (e ∷ []) = Some e.0
+last_key (e ∷ (f ∷ es)) = last_key (f ∷ es)
+
+-- ---- the sections of an image
+
+-- the look, the pattern and the marker
+abbrev pub Front : Type 0
+Front = Look × List ℕ × Option (ℕ × ℕ)
+
+unfoldable pub front_at : Reader Front
+front_at bytes = do
+  look ← look_at bytes
+  pattern ← pattern_at look.1
+  marker ← optional_at cell_at pattern.1
+  Some ((look.0, pattern.0, marker.0), marker.1)
+
+-- the texts, the files, and what the two buffers have
+abbrev pub Held : Type 0
+Held = Texts (List Piece) × Files (List Piece) × List Piece × List Piece
+
+unfoldable pub held_at : ℕ → Reader Held
+held_at written bytes = do
+  texts ← texts_at written most_held bytes
+  files ← files_at written (most_held - totals texts.0) texts.1
+  copied ← pieces_at written (most_held - totals texts.0 - totals files.0) files.1
+  deleted ← pieces_at written (most_held - totals texts.0 - totals files.0 - total copied.0) copied.1
+  Some ((texts.0, files.0, copied.0, deleted.0), deleted.1)
+
+-- each of these fits what those before it leave
+abbrev pub FitHeld : ℕ → Texts (List Piece) → Files (List Piece) → List Piece → List Piece → Type 0
+FitHeld written texts files copied deleted = FitsTexts written most_held texts
+    × (FitsFiles written (most_held - totals texts) files
+    × (FitsPieces written (most_held - totals texts - totals files) copied
+    × FitsPieces written (most_held - totals texts - totals files - total copied) deleted))
+
+-- both tracks, and the viewer that was closed last
+abbrev pub Shown : Type 0
+Shown = List Entry × List Entry × Option Kept
+
+unfoldable pub shown_at : Reader Shown
+shown_at bytes = do
+  user ← track_at bytes
+  system ← track_at user.1
+  kept ← optional_at kept_at system.1
+  Some ((user.0, system.0, kept.0), kept.1)
+
+-- all sections, with the viewers between them
+abbrev pub sections_at : ℕ → Reader Image
+sections_at written bytes = do
+  front ← front_at bytes
+  held ← held_at written front.1
+  viewers ← viewers_at held.1
+  shown ← shown_at viewers.1
+  Some (
+    record {
+      look = front.0.0;
+      pattern = front.0.1;
+      marker = front.0.2;
+      texts = held.0.0;
+      files = held.0.1;
+      copied = held.0.2;
+      deleted = held.0.3;
+      viewers = viewers.0;
+      user = shown.0.0;
+      system = shown.0.1;
+      kept = shown.0.2;
+    },
+    shown.1,
+  )

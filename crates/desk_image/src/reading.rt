@@ -1,0 +1,760 @@
+//! Reading an image, byte by byte.
+//!
+//! Each function reads what its name says from the front of the source, and tests it: `Damaged` where the bytes begin
+//! with nothing of the kind. The contracts name the readers of `specs/Reading.antt`.
+ghost use Rattle.std.specs.Prelude.{◌≡◌, ◌+◌, ◌-◌, ◌<◌, ◌≤◌, length, map, IfOk, IfSome, None, IsTrue};
+ghost use Rattle.std.specs.Prelude.{int_le};
+ghost use Rattle.viewer_tracks.specs.declared.display.TheConstants.{ROWS as rows};
+ghost use Rattle.event_bytes.specs.Bytes.{is_name};
+ghost use Rattle.event_bytes.specs.Parts.{byte_at, word_at, bytes_at};
+ghost use Rattle.event_bytes.specs.Reading.{name_at};
+ghost use Rattle.event_loop_laws.specs.declared.limits.TheConstants.{LEAST_OFFSET, GREATEST_OFFSET};
+ghost use Rattle.event_loop_laws.specs.Looks.{IsLook};
+ghost use Rattle.desk_image.specs.Fitting.{Chain, FitsPiece, less, total, totals, FitsPieces, FitsText, after_text};
+ghost use Rattle.desk_image.specs.Fitting.{FitsTexts, FitsFile, after_file, FitsFiles, follows, FitsRanked};
+ghost use Rattle.desk_image.specs.Fitting.{FitsViewer, after_viewer, FitsViewers, FitsEntry, above, FitsTrack};
+ghost use Rattle.desk_image.specs.Fitting.{FitsPattern, FitsCell, FitsKept, FitsImage};
+ghost use Rattle.desk_image.specs.Pictures.{entry_of, pictured};
+ghost use Rattle.desk_image.specs.Reading.{times, optional_at, long_at, offset_at, raw_look_at, look_at};
+ghost use Rattle.desk_image.specs.Reading.{raw_piece_at, piece_at, pieces_at, text_at, texts_at, file_at, files_at};
+ghost use Rattle.desk_image.specs.Reading.{ranked_at, viewer_at, viewers_at, raw_entry_at, entry_at, track_at};
+ghost use Rattle.desk_image.specs.Reading.{pattern_at, raw_cell_at, cell_at, side_at, raw_kept_at, kept_at};
+ghost use Rattle.desk_image.specs.Reading.{image_at, whole_image_at, is_piece as pieces};
+ghost use Rattle.desk_image.specs.Steps.{any_at, end_at, short_at, last_key, front_at, held_at, FitHeld, shown_at};
+ghost use Rattle.desk_image.specs.Streams.{Reads};
+
+use crate::holder::Holder;
+use crate::{
+    ByteSource, ImageFault, PATTERN, Picture, Ranked, Stretch, Stretches, TRACK, ViewerPicture,
+};
+use arrayvec::ArrayVec;
+use event_bytes::Name;
+use event_loop_laws::{COLOURS, FONTS, Kept, MOST_FILES, MOST_HELD, Viewer};
+use piece_ring::{Look, Piece};
+use sector_disk::Fault;
+use std::alloc::Global;
+use std::collections::BTreeMap;
+use std::vec::Vec;
+use text_core::{Buffer, Text};
+use viewer_tracks::{COLUMNS, ROWS, SYSTEM_LEFT, Track};
+
+// ---- numbers
+
+/// The next byte of a source. `Damaged`: there is none.
+fn next_from<S: ByteSource>(source: &mut S) -> Result<u8, ImageFault>
+    ensures reads { Reads S.ByteSource (λ byte. byte) result any_at source.old source.new }
+{
+    match source.get() {
+        Ok(Some(byte)) => Ok(byte),
+        Ok(None) => Err(ImageFault::Damaged),
+        Err(Fault) => Err(ImageFault::Fault),
+    }
+}
+
+/// A number of one byte.
+#[tactic(auto, unfolding(event_bytes::specs::Parts::byte_at))]
+fn byte_from<S: ByteSource>(source: &mut S) -> Result<u8, ImageFault>
+    ensures reads { Reads S.ByteSource (λ byte. byte) result byte_at source.old source.new }
+{
+    next_from(source)
+}
+
+/// A number of two bytes.
+#[tactic(auto, unfolding(event_bytes::specs::Parts::word_at))]
+fn word_from<S: ByteSource>(source: &mut S) -> Result<u16, ImageFault>
+    ensures reads { Reads S.ByteSource (λ number. number) result word_at source.old source.new }
+{
+    let high = byte_from(source)?;
+    let low = byte_from(source)?;
+    Ok(high as u16 * 256 + low as u16)
+}
+
+/// A number of four bytes.
+#[tactic(auto, unfolding(crate::specs::Reading::long_at))]
+fn long_from<S: ByteSource>(source: &mut S) -> Result<u32, ImageFault>
+    ensures reads { Reads S.ByteSource (λ number. number) result long_at source.old source.new }
+{
+    let high = word_from(source)?;
+    let low = word_from(source)?;
+    Ok(high as u32 * 65_536 + low as u32)
+}
+
+/// A number of four bytes, where there is one.
+fn position_from<S: ByteSource>(source: &mut S) -> Result<Option<u32>, ImageFault>
+    ensures reads { Reads S.ByteSource (λ number. number) result (optional_at long_at) source.old source.new }
+{
+    match byte_from(source)? {
+        0 => Ok(None),
+        1 => Ok(Some(long_from(source)?)),
+        _ => Err(ImageFault::Damaged),
+    }
+}
+
+// ---- looks and pieces
+
+/// A vertical offset.
+#[tactic(auto, unfolding(crate::specs::Reading::offset_at))]
+fn offset_from<S: ByteSource>(source: &mut S) -> Result<i8, ImageFault>
+    ensures reads { Reads S.ByteSource (λ offset. offset) result offset_at source.old source.new }
+    ensures least { IfOk result (λ offset. IsTrue (int_le LEAST_OFFSET offset)) }
+    ensures greatest { IfOk result (λ offset. IsTrue (int_le offset GREATEST_OFFSET)) }
+{
+    let byte = byte_from(source)?;
+    if byte >= 128 {
+        return Err(ImageFault::Damaged);
+    }
+    Ok(byte as i8 - 64)
+}
+
+/// A look, of which the offset alone is tested.
+#[tactic(auto, unfolding(crate::specs::Reading::raw_look_at))]
+fn raw_look_from<S: ByteSource>(source: &mut S) -> Result<Look, ImageFault>
+    ensures reads { Reads S.ByteSource (λ look. look) result raw_look_at source.old source.new }
+    ensures least { IfOk result (λ look. IsTrue (int_le LEAST_OFFSET look.voff)) }
+    ensures greatest { IfOk result (λ look. IsTrue (int_le look.voff GREATEST_OFFSET)) }
+{
+    let font = byte_from(source)?;
+    let colour = byte_from(source)?;
+    let voff = offset_from(source)?;
+    Ok(Look { font, colour, voff })
+}
+
+/// A look that characters may have.
+#[tactic(auto, unfolding(crate::specs::Reading::look_at))]
+fn look_from<S: ByteSource>(source: &mut S) -> Result<Look, ImageFault>
+    ensures reads { Reads S.ByteSource (λ look. look) result look_at source.old source.new }
+    ensures fits { IfOk result IsLook }
+{
+    let look = raw_look_from(source)?;
+    if look.font < FONTS && look.colour < COLOURS {
+        Ok(look)
+    } else {
+        Err(ImageFault::Damaged)
+    }
+}
+
+/// A piece, of which the look alone is tested.
+#[tactic(auto, unfolding(crate::specs::Reading::raw_piece_at))]
+fn raw_piece_from<S: ByteSource>(source: &mut S) -> Result<Piece, ImageFault>
+    ensures reads { Reads S.ByteSource (λ piece. piece) result raw_piece_at source.old source.new }
+    ensures look { IfOk result (λ piece. IsLook piece.look) }
+{
+    let off = long_from(source)?;
+    let len = long_from(source)?;
+    let look = look_from(source)?;
+    if byte_from(source)? == 0 {
+        Ok(Piece { off, len, look })
+    } else {
+        Err(ImageFault::Damaged)
+    }
+}
+
+/// Whether the piece has a character, and no more than there is room for, all of them written.
+fn is_piece(written: u32, room: u32, piece: &Piece) -> bool
+    ensures { result ≡ pieces written room piece.now }
+{
+    0 < piece.len && piece.len <= room && piece.off as u64 + piece.len as u64 <= written as u64
+}
+
+/// A piece that fits.
+#[tactic(auto, unfolding(crate::specs::Reading::piece_at))]
+fn piece_from<S: ByteSource>(source: &mut S, written: u32, room: u32) -> Result<Piece, ImageFault>
+    ensures reads { Reads S.ByteSource (λ piece. piece) result (piece_at written room) source.old source.new }
+    ensures fits { IfOk result (FitsPiece written room) }
+{
+    let piece = raw_piece_from(source)?;
+    if is_piece(written, room, &piece) {
+        Ok(piece)
+    } else {
+        Err(ImageFault::Damaged)
+    }
+}
+
+/// So many pieces. What is left of the room stands there afterwards.
+fn counted_pieces<S: ByteSource, H: Holder>(
+    alloc: Global,
+    source: &mut S,
+    written: u32,
+    room: &mut u32,
+    count: u32,
+) -> Result<H, ImageFault>
+    ensures reads { Reads S.ByteSource H.held result (times (piece_at written) less count room.old)
+        source.old source.new }
+    ensures fits { IfOk result (λ holder. Chain (FitsPiece written) less room.old (H.held holder)) }
+    ensures many { IfOk result (λ holder. length (H.held holder) ≡ count) }
+    ensures left { IfOk result (λ holder. room.new ≡ room.old - total (H.held holder)) }
+{
+    let mut pieces = H::empty(alloc)?;
+    let mut left = *room;
+    for _ in 0..count {
+        let piece = piece_from(source, written, left)?;
+        left -= piece.len;
+        pieces.put(alloc, piece)?;
+    }
+    *room = left;
+    Ok(pieces)
+}
+
+/// Pieces after their number.
+#[tactic(auto, unfolding(crate::specs::Reading::pieces_at))]
+fn pieces_from<S: ByteSource, H: Holder>(
+    alloc: Global,
+    source: &mut S,
+    written: u32,
+    room: &mut u32,
+) -> Result<H, ImageFault>
+    ensures reads { Reads S.ByteSource H.held result (pieces_at written room.old) source.old source.new }
+    ensures fits { IfOk result (λ holder. FitsPieces written room.old (H.held holder)) }
+    ensures left { IfOk result (λ holder. room.new ≡ room.old - total (H.held holder)) }
+{
+    let count = long_from(source)?;
+    counted_pieces(alloc, source, written, room, count)
+}
+
+// ---- texts and files
+
+/// A text after its number, which is `least` or above.
+fn text_from<S: ByteSource>(
+    alloc: Global,
+    source: &mut S,
+    written: u32,
+    least: u32,
+    room: &mut u32,
+) -> Result<(u16, Text), ImageFault>
+    ensures reads { Reads S.ByteSource (λ text. text) result (text_at written (least, room.old)) source.old source.new }
+    ensures fits { IfOk result (FitsText written (least, room.old)) }
+    ensures left { IfOk result (λ text. room.new ≡ room.old - total text.1) }
+{
+    let number = word_from(source)?;
+    if (number as u32) < least {
+        return Err(ImageFault::Damaged);
+    }
+    let text: Text = pieces_from(alloc, source, written, room)?;
+    Ok((number, text))
+}
+
+/// So many texts, by rising numbers.
+fn counted_texts<S: ByteSource>(
+    alloc: Global,
+    source: &mut S,
+    written: u32,
+    room: &mut u32,
+    count: u16,
+) -> Result<BTreeMap<u16, Text>, ImageFault>
+    ensures reads { Reads S.ByteSource (λ texts. texts.entries) result
+        (times (text_at written) after_text count (0, room.old)) source.old source.new }
+    ensures fits { IfOk result (λ texts. Chain (FitsText written) after_text (0, room.old) texts.entries) }
+    ensures many { IfOk result (λ texts. length texts.entries ≡ count) }
+    ensures left { IfOk result (λ texts. room.new ≡ room.old - totals texts.entries) }
+{
+    let mut texts = BTreeMap::new(alloc);
+    let mut least = 0;
+    for _ in 0..count {
+        let (number, text) = text_from(alloc, source, written, least, room)?;
+        least = number as u32 + 1;
+        texts.insert(number, text)?;
+    }
+    Ok(texts)
+}
+
+/// Texts after their number.
+#[tactic(auto, unfolding(crate::specs::Reading::texts_at))]
+fn texts_from<S: ByteSource>(
+    alloc: Global,
+    source: &mut S,
+    written: u32,
+    room: &mut u32,
+) -> Result<BTreeMap<u16, Text>, ImageFault>
+    ensures reads { Reads S.ByteSource (λ texts. texts.entries) result (texts_at written room.old)
+        source.old source.new }
+    ensures fits { IfOk result (λ texts. FitsTexts written room.old texts.entries) }
+    ensures left { IfOk result (λ texts. room.new ≡ room.old - totals texts.entries) }
+{
+    let count = word_from(source)?;
+    counted_texts(alloc, source, written, room, count)
+}
+
+/// So many bytes.
+fn counted_bytes<S: ByteSource>(
+    source: &mut S,
+    count: u8,
+) -> Result<ArrayVec<u8, PATTERN>, ImageFault>
+    requires { count ≤ 31 }
+    ensures reads { Reads S.ByteSource (λ bytes. bytes.items) result (bytes_at count) source.old source.new }
+    ensures many { IfOk result (λ bytes. length bytes.items ≡ count) }
+{
+    let mut bytes = ArrayVec::new();
+    for _ in 0..count {
+        bytes.push(next_from(source)?);
+    }
+    Ok(bytes)
+}
+
+/// Bytes after their number, which is at most 31.
+#[tactic(auto, unfolding(crate::specs::Steps::short_at))]
+fn short_from<S: ByteSource>(source: &mut S) -> Result<ArrayVec<u8, PATTERN>, ImageFault>
+    ensures reads { Reads S.ByteSource (λ bytes. bytes.items) result short_at source.old source.new }
+    ensures fits { IfOk result (λ bytes. FitsPattern bytes.items) }
+{
+    let count = byte_from(source)?;
+    if count as usize > PATTERN {
+        return Err(ImageFault::Damaged);
+    }
+    counted_bytes(source, count)
+}
+
+/// A pattern.
+#[tactic(auto, using(crate::proofs::Bytes::pattern_is_short))]
+fn pattern_from<S: ByteSource>(source: &mut S) -> Result<ArrayVec<u8, PATTERN>, ImageFault>
+    ensures reads { Reads S.ByteSource (λ bytes. bytes.items) result pattern_at source.old source.new }
+    ensures fits { IfOk result (λ bytes. FitsPattern bytes.items) }
+{
+    short_from(source)
+}
+
+/// A name.
+#[tactic(auto, using(crate::proofs::Bytes::name_is_short))]
+fn name_from<S: ByteSource>(source: &mut S) -> Result<Name, ImageFault>
+    ensures reads { Reads S.ByteSource (λ name. name) result name_at source.old source.new }
+    ensures fits { IfOk result (λ name. IsTrue (is_name name)) }
+{
+    let bytes = short_from(source)?;
+    match Name::new(bytes.as_slice()) {
+        Some(name) => Ok(name),
+        None => Err(ImageFault::Damaged),
+    }
+}
+
+/// Whether the name comes after those of all files.
+fn comes_last(files: &BTreeMap<Name, Text>, name: &Name) -> bool
+    ensures { result ≡ follows (last_key files.now.entries) name.now }
+{
+    match files.last_key_value() {
+        None => true,
+        Some((last, _)) => last < name,
+    }
+}
+
+/// A file, whose name comes after those of the files before it.
+fn file_from<S: ByteSource>(
+    alloc: Global,
+    source: &mut S,
+    written: u32,
+    files: &BTreeMap<Name, Text>,
+    room: &mut u32,
+) -> Result<(Name, Text), ImageFault>
+    ensures reads { Reads S.ByteSource (λ file. file) result (file_at written (last_key files.now.entries, room.old))
+        source.old source.new }
+    ensures fits { IfOk result (FitsFile written (last_key files.now.entries, room.old)) }
+    ensures left { IfOk result (λ file. room.new ≡ room.old - total file.1) }
+{
+    let name = name_from(source)?;
+    if !comes_last(files, &name) {
+        return Err(ImageFault::Damaged);
+    }
+    let text: Text = pieces_from(alloc, source, written, room)?;
+    Ok((name, text))
+}
+
+/// So many files, by rising names.
+fn counted_files<S: ByteSource>(
+    alloc: Global,
+    source: &mut S,
+    written: u32,
+    room: &mut u32,
+    count: u16,
+) -> Result<BTreeMap<Name, Text>, ImageFault>
+    ensures reads { Reads S.ByteSource (λ files. files.entries) result
+        (times (file_at written) after_file count (None, room.old)) source.old source.new }
+    ensures fits { IfOk result (λ files. Chain (FitsFile written) after_file (None, room.old) files.entries) }
+    ensures many { IfOk result (λ files. length files.entries ≡ count) }
+    ensures left { IfOk result (λ files. room.new ≡ room.old - totals files.entries) }
+{
+    let mut files = BTreeMap::new(alloc);
+    for _ in 0..count {
+        let (name, text) = file_from(alloc, source, written, &files, room)?;
+        files.insert(name, text)?;
+    }
+    Ok(files)
+}
+
+/// Files after their number.
+#[tactic(auto, unfolding(crate::specs::Reading::files_at))]
+fn files_from<S: ByteSource>(
+    alloc: Global,
+    source: &mut S,
+    written: u32,
+    room: &mut u32,
+) -> Result<BTreeMap<Name, Text>, ImageFault>
+    ensures reads { Reads S.ByteSource (λ files. files.entries) result (files_at written room.old)
+        source.old source.new }
+    ensures fits { IfOk result (λ files. FitsFiles written room.old files.entries) }
+    ensures left { IfOk result (λ files. room.new ≡ room.old - totals files.entries) }
+{
+    let count = word_from(source)?;
+    if count as u32 > MOST_FILES {
+        return Err(ImageFault::Damaged);
+    }
+    counted_files(alloc, source, written, room, count)
+}
+
+// ---- viewers
+
+/// A selection with its rank.
+#[tactic(auto, unfolding(crate::specs::Reading::ranked_at))]
+fn ranked_from<S: ByteSource>(source: &mut S) -> Result<Ranked, ImageFault>
+    ensures reads { Reads S.ByteSource (λ ranked. ranked) result ranked_at source.old source.new }
+    ensures fits { IfOk result FitsRanked }
+{
+    let rank = byte_from(source)?;
+    let beg = long_from(source)?;
+    let end = long_from(source)?;
+    Ok(Ranked { rank, beg, end })
+}
+
+/// A selection with its rank, where there is one.
+fn selection_from<S: ByteSource>(source: &mut S) -> Result<Option<Ranked>, ImageFault>
+    ensures reads { Reads S.ByteSource (λ ranked. ranked) result (optional_at ranked_at) source.old source.new }
+    ensures fits { IfOk result (λ ranked. IfSome ranked FitsRanked) }
+{
+    match byte_from(source)? {
+        0 => Ok(None),
+        1 => Ok(Some(ranked_from(source)?)),
+        _ => Err(ImageFault::Damaged),
+    }
+}
+
+/// A viewer, whose id is `least` or above.
+fn viewer_from<S: ByteSource>(source: &mut S, least: u32) -> Result<ViewerPicture, ImageFault>
+    ensures reads { Reads S.ByteSource (λ viewer. viewer) result (viewer_at least) source.old source.new }
+    ensures fits { IfOk result (FitsViewer least) }
+{
+    let id = byte_from(source)?;
+    if (id as u32) < least {
+        return Err(ImageFault::Damaged);
+    }
+    let menu = word_from(source)?;
+    let main = word_from(source)?;
+    let org = long_from(source)?;
+    let caret = position_from(source)?;
+    let selection = selection_from(source)?;
+    Ok(ViewerPicture {
+        id,
+        viewer: Viewer { menu, main, org },
+        caret,
+        selection,
+    })
+}
+
+/// So many viewers, by rising ids.
+fn counted_viewers<S: ByteSource>(
+    alloc: Global,
+    source: &mut S,
+    count: u8,
+) -> Result<Vec<ViewerPicture>, ImageFault>
+    ensures reads { Reads S.ByteSource (λ viewers. viewers.items) result (times viewer_at after_viewer count 0)
+        source.old source.new }
+    ensures fits { IfOk result (λ viewers. Chain FitsViewer after_viewer 0 viewers.items) }
+    ensures many { IfOk result (λ viewers. length viewers.items ≡ count) }
+{
+    let mut viewers = Vec::new(alloc);
+    let mut least = 0;
+    for _ in 0..count {
+        let viewer = viewer_from(source, least)?;
+        least = viewer.id as u32 + 1;
+        viewers.push(viewer)?;
+    }
+    Ok(viewers)
+}
+
+/// Viewers after their number.
+#[tactic(auto, unfolding(crate::specs::Reading::viewers_at))]
+fn viewers_from<S: ByteSource>(
+    alloc: Global,
+    source: &mut S,
+) -> Result<Vec<ViewerPicture>, ImageFault>
+    ensures reads { Reads S.ByteSource (λ viewers. viewers.items) result viewers_at source.old source.new }
+    ensures fits { IfOk result (λ viewers. FitsViewers viewers.items) }
+{
+    let count = byte_from(source)?;
+    counted_viewers(alloc, source, count)
+}
+
+// ---- tracks
+
+/// A viewer of a track, of which nothing is tested.
+#[tactic(auto, unfolding(crate::specs::Reading::raw_entry_at))]
+fn raw_entry_from<S: ByteSource>(source: &mut S) -> Result<Stretch, ImageFault>
+    ensures reads { Reads S.ByteSource entry_of result raw_entry_at source.old source.new }
+{
+    let viewer = byte_from(source)?;
+    let height = byte_from(source)?;
+    Ok(Stretch { viewer, height })
+}
+
+/// A viewer of a track, which has a row, and no more than there are.
+#[tactic(auto, unfolding(crate::specs::Reading::entry_at))]
+fn entry_from<S: ByteSource>(source: &mut S, room: u8) -> Result<Stretch, ImageFault>
+    ensures reads { Reads S.ByteSource entry_of result (entry_at room) source.old source.new }
+    ensures fits { IfOk result (λ stretch. FitsEntry room (entry_of stretch)) }
+{
+    let stretch = raw_entry_from(source)?;
+    if 0 < stretch.height && stretch.height <= room {
+        Ok(stretch)
+    } else {
+        Err(ImageFault::Damaged)
+    }
+}
+
+/// So many viewers of a track, bottom up.
+fn counted_track<S: ByteSource>(source: &mut S, count: u8) -> Result<Stretches, ImageFault>
+    ensures reads { Reads S.ByteSource (λ track. map entry_of track.items) result (times entry_at above count rows)
+        source.old source.new }
+    ensures fits { IfOk result (λ track. FitsTrack (map entry_of track.items)) }
+{
+    let mut track = Stretches::new();
+    let mut room = ROWS;
+    for _ in 0..count {
+        let stretch = entry_from(source, room)?;
+        room -= stretch.height;
+        track.push(stretch);
+    }
+    Ok(track)
+}
+
+/// A track: its viewers, after their number.
+#[tactic(auto, unfolding(crate::specs::Reading::track_at))]
+fn track_from<S: ByteSource>(source: &mut S) -> Result<Stretches, ImageFault>
+    ensures reads { Reads S.ByteSource (λ track. map entry_of track.items) result track_at source.old source.new }
+    ensures fits { IfOk result (λ track. FitsTrack (map entry_of track.items)) }
+{
+    let count = byte_from(source)?;
+    counted_track(source, count)
+}
+
+// ---- the rest
+
+/// A column and a row, of which nothing is tested.
+#[tactic(auto, unfolding(crate::specs::Reading::raw_cell_at))]
+fn raw_cell_from<S: ByteSource>(source: &mut S) -> Result<(u8, u8), ImageFault>
+    ensures reads { Reads S.ByteSource (λ cell. cell) result raw_cell_at source.old source.new }
+{
+    let x = byte_from(source)?;
+    let y = byte_from(source)?;
+    Ok((x, y))
+}
+
+/// A cell of the display.
+#[tactic(auto, unfolding(crate::specs::Reading::cell_at))]
+fn cell_from<S: ByteSource>(source: &mut S) -> Result<(u8, u8), ImageFault>
+    ensures reads { Reads S.ByteSource (λ cell. cell) result cell_at source.old source.new }
+    ensures fits { IfOk result FitsCell }
+{
+    let cell = raw_cell_from(source)?;
+    if cell.0 < COLUMNS && cell.1 < ROWS {
+        Ok(cell)
+    } else {
+        Err(ImageFault::Damaged)
+    }
+}
+
+/// A cell of the display, where there is one.
+fn marker_from<S: ByteSource>(source: &mut S) -> Result<Option<(u8, u8)>, ImageFault>
+    ensures reads { Reads S.ByteSource (λ cell. cell) result (optional_at cell_at) source.old source.new }
+    ensures fits { IfOk result (λ cell. IfSome cell FitsCell) }
+{
+    match byte_from(source)? {
+        0 => Ok(None),
+        1 => Ok(Some(cell_from(source)?)),
+        _ => Err(ImageFault::Damaged),
+    }
+}
+
+/// A track, by its left column.
+#[tactic(auto, unfolding(crate::specs::Reading::side_at))]
+fn side_from<S: ByteSource>(source: &mut S) -> Result<Track, ImageFault>
+    ensures reads { Reads S.ByteSource (λ side. side) result side_at source.old source.new }
+{
+    match byte_from(source)? {
+        0 => Ok(Track::User),
+        SYSTEM_LEFT => Ok(Track::System),
+        _ => Err(ImageFault::Damaged),
+    }
+}
+
+/// The viewer that was closed last, of which the track alone is tested.
+#[tactic(auto, unfolding(crate::specs::Reading::raw_kept_at))]
+fn raw_kept_from<S: ByteSource>(source: &mut S) -> Result<Kept, ImageFault>
+    ensures reads { Reads S.ByteSource (λ kept. kept) result raw_kept_at source.old source.new }
+{
+    let viewer = byte_from(source)?;
+    let track = side_from(source)?;
+    let top = byte_from(source)?;
+    Ok(Kept { viewer, track, top })
+}
+
+/// The viewer that was closed last.
+#[tactic(auto, unfolding(crate::specs::Reading::kept_at))]
+fn one_kept_from<S: ByteSource>(source: &mut S) -> Result<Kept, ImageFault>
+    ensures reads { Reads S.ByteSource (λ kept. kept) result kept_at source.old source.new }
+    ensures fits { IfOk result FitsKept }
+{
+    let kept = raw_kept_from(source)?;
+    if 0 < kept.top && kept.top <= ROWS {
+        Ok(kept)
+    } else {
+        Err(ImageFault::Damaged)
+    }
+}
+
+/// The viewer that was closed last, where there is one.
+fn kept_from<S: ByteSource>(source: &mut S) -> Result<Option<Kept>, ImageFault>
+    ensures reads { Reads S.ByteSource (λ kept. kept) result (optional_at kept_at) source.old source.new }
+    ensures fits { IfOk result (λ kept. IfSome kept FitsKept) }
+{
+    match byte_from(source)? {
+        0 => Ok(None),
+        1 => Ok(Some(one_kept_from(source)?)),
+        _ => Err(ImageFault::Damaged),
+    }
+}
+
+// ---- the whole
+
+/// The end of the source. `Damaged`: a byte is still to come.
+fn end_from<S: ByteSource>(source: &mut S) -> Result<(), ImageFault>
+    ensures reads { Reads S.ByteSource (λ nothing. 0) result end_at source.old source.new }
+{
+    match source.get() {
+        Ok(None) => Ok(()),
+        Ok(Some(_)) => Err(ImageFault::Damaged),
+        Err(Fault) => Err(ImageFault::Fault),
+    }
+}
+
+/// What an image says first.
+#[derive(Drop)]
+struct Front {
+    look: Look,
+    pattern: ArrayVec<u8, PATTERN>,
+    marker: Option<(u8, u8)>,
+}
+
+/// The texts, and what lies in the buffers.
+#[derive(Drop)]
+struct Held {
+    texts: BTreeMap<u16, Text>,
+    files: BTreeMap<Name, Text>,
+    copied: Buffer,
+    deleted: Buffer,
+}
+
+/// Where viewers stand.
+#[derive(Drop)]
+struct Shown {
+    user: Stretches,
+    system: Stretches,
+    kept: Option<Kept>,
+}
+
+/// The look, the pattern and the marker.
+#[tactic(auto, unfolding(crate::specs::Steps::front_at))]
+fn front_from<S: ByteSource>(source: &mut S) -> Result<Front, ImageFault>
+    ensures reads { Reads S.ByteSource (λ front. (front.look, front.pattern.items, front.marker)) result front_at
+        source.old source.new }
+    ensures look { IfOk result (λ front. IsLook front.look) }
+    ensures pattern { IfOk result (λ front. FitsPattern front.pattern.items) }
+    ensures marker { IfOk result (λ front. IfSome front.marker FitsCell) }
+{
+    let look = look_from(source)?;
+    let pattern = pattern_from(source)?;
+    let marker = marker_from(source)?;
+    Ok(Front {
+        look,
+        pattern,
+        marker,
+    })
+}
+
+/// The texts, the files, and what lies in the buffers.
+#[tactic(auto, unfolding(crate::specs::Steps::held_at))]
+fn held_from<S: ByteSource>(alloc: Global, source: &mut S, written: u32) -> Result<Held, ImageFault>
+    ensures reads { Reads S.ByteSource (λ held. (held.texts.entries, held.files.entries, held.copied, held.deleted))
+        result (held_at written) source.old source.new }
+    ensures fits { IfOk result
+        (λ held. FitHeld written held.texts.entries held.files.entries held.copied held.deleted) }
+{
+    let mut room = MOST_HELD;
+    let texts = texts_from(alloc, source, written, &mut room)?;
+    let files = files_from(alloc, source, written, &mut room)?;
+    let copied: Buffer = pieces_from(alloc, source, written, &mut room)?;
+    let deleted: Buffer = pieces_from(alloc, source, written, &mut room)?;
+    Ok(Held {
+        texts,
+        files,
+        copied,
+        deleted,
+    })
+}
+
+/// The tracks, and the viewer that was closed last.
+#[tactic(auto, unfolding(crate::specs::Steps::shown_at))]
+fn shown_from<S: ByteSource>(source: &mut S) -> Result<Shown, ImageFault>
+    ensures reads { Reads S.ByteSource
+        (λ shown. (map entry_of shown.user.items, map entry_of shown.system.items, shown.kept)) result shown_at
+        source.old source.new }
+    ensures user { IfOk result (λ shown. FitsTrack (map entry_of shown.user.items)) }
+    ensures system { IfOk result (λ shown. FitsTrack (map entry_of shown.system.items)) }
+    ensures kept { IfOk result (λ shown. IfSome shown.kept FitsKept) }
+{
+    let user = track_from(source)?;
+    let system = track_from(source)?;
+    let kept = kept_from(source)?;
+    Ok(Shown { user, system, kept })
+}
+
+/// An image.
+#[tactic(auto, using(crate::proofs::Sections::image_in_sections), unfolding(crate::specs::Fitting::FitsImage))]
+fn picture_from<S: ByteSource>(
+    alloc: Global,
+    source: &mut S,
+    written: u32,
+) -> Result<Picture, ImageFault>
+    ensures reads { Reads S.ByteSource pictured result (image_at written) source.old source.new }
+    ensures fits { IfOk result (λ picture. FitsImage written (pictured picture)) }
+{
+    let front = front_from(source)?;
+    let held = held_from(alloc, source, written)?;
+    let viewers = viewers_from(alloc, source)?;
+    let shown = shown_from(source)?;
+    Ok(Picture {
+        look: front.look,
+        pattern: front.pattern,
+        marker: front.marker,
+        texts: held.texts,
+        files: held.files,
+        copied: held.copied,
+        deleted: held.deleted,
+        viewers,
+        user: shown.user,
+        system: shown.system,
+        kept: shown.kept,
+    })
+}
+
+/// Reads an image, all bytes of the source, for which so many characters were written.
+///
+/// `Damaged` where the bytes aren't an image whose parts fit; `Fault` where a byte could not be read; `NoMemory`.
+#[tactic(auto, unfolding(crate::specs::Reading::whole_image_at))]
+pub fn read_picture<S: ByteSource>(
+    alloc: Global,
+    source: &mut S,
+    written: u32,
+) -> Result<Picture, ImageFault>
+    ensures reads { Reads S.ByteSource pictured result (whole_image_at written) source.old source.new }
+    ensures fits { IfOk result (λ picture. FitsImage written (pictured picture)) }
+{
+    let picture = picture_from(alloc, source, written)?;
+    end_from(source)?;
+    Ok(picture)
+}

@@ -1,0 +1,152 @@
+//! Putting an image, part by part.
+ghost use Rattle.std.specs.Prelude.{◌≡◌, ◌<◌, ◌^◌, length, OnOk};
+ghost use Rattle.event_bytes.specs.Parts.{byte, word, counted};
+ghost use Rattle.piece_ring.specs.Flat.{flat};
+ghost use Rattle.event_loop_laws.specs.Looks.{IsLook, AreLooks};
+ghost use Rattle.desk_image.specs.Streams.{Puts};
+ghost use Rattle.desk_image.specs.Pictures.{entry_of};
+ghost use Rattle.desk_image.specs.Image.{look_bytes, piece_bytes, pieces_bytes, cell_bytes, ranked_bytes, viewer_bytes};
+ghost use Rattle.desk_image.specs.Image.{entry_bytes, kept_bytes, long, optional, AreSome};
+
+use crate::{ByteSink, Ranked, Stretch, ViewerPicture};
+use event_loop_laws::Kept;
+use piece_ring::{Cursor, Look, Piece};
+use sector_disk::Fault;
+
+/// Puts a number of one byte.
+pub fn put_byte<K: ByteSink>(sink: &mut K, number: u8) -> Result<(), Fault>
+    ensures { Puts K.ByteSink result (byte number) sink.old sink.new }
+{
+    sink.put(&[number])
+}
+
+/// Puts a number of two bytes.
+pub fn put_word<K: ByteSink>(sink: &mut K, number: u16) -> Result<(), Fault>
+    ensures { Puts K.ByteSink result (word number) sink.old sink.new }
+{
+    sink.put(&number.to_be_bytes())
+}
+
+/// Puts a number of four bytes.
+fn put_long<K: ByteSink>(sink: &mut K, number: u32) -> Result<(), Fault>
+    ensures { Puts K.ByteSink result (long number) sink.old sink.new }
+{
+    sink.put(&number.to_be_bytes())
+}
+
+/// Puts bytes after their number.
+pub fn put_counted<K: ByteSink>(sink: &mut K, bytes: &[u8]) -> Result<(), Fault>
+    requires { length bytes.now < 2 ^ 8 }
+    ensures { Puts K.ByteSink result (counted byte bytes.now) sink.old sink.new }
+{
+    put_byte(sink, bytes.len() as u8)?;
+    put_bytes(sink, bytes)
+}
+
+/// Puts bytes.
+fn put_bytes<K: ByteSink>(sink: &mut K, bytes: &[u8]) -> Result<(), Fault>
+    ensures { Puts K.ByteSink result bytes.now sink.old sink.new }
+{
+    sink.put(bytes)
+}
+
+/// Puts a look, its vertical offset counted from the least one.
+pub fn put_look<K: ByteSink>(sink: &mut K, look: Look) -> Result<(), Fault>
+    requires { IsLook look }
+    ensures { Puts K.ByteSink result (look_bytes look) sink.old sink.new }
+{
+    let shifted = (look.voff + 64) as u8;
+    sink.put(&[look.font, look.colour, shifted])
+}
+
+/// Puts a cell, if there is one.
+pub fn put_cell<K: ByteSink>(sink: &mut K, cell: Option<(u8, u8)>) -> Result<(), Fault>
+    ensures { Puts K.ByteSink result (optional cell_bytes cell) sink.old sink.new }
+{
+    match cell {
+        None => sink.put(&[0]),
+        Some((x, y)) => sink.put(&[1, x, y]),
+    }
+}
+
+/// Puts a piece.
+fn put_piece<K: ByteSink>(sink: &mut K, piece: Piece) -> Result<(), Fault>
+    requires { IsLook piece.look }
+    ensures { Puts K.ByteSink result (piece_bytes piece) sink.old sink.new }
+{
+    put_long(sink, piece.off)?;
+    put_long(sink, piece.len)?;
+    put_look(sink, piece.look)?;
+    put_byte(sink, 0)
+}
+
+/// Puts the pieces that are left to a cursor, of which there are so many, after their number. Once they were put none
+/// of them was empty.
+pub fn put_pieces<K: ByteSink>(
+    sink: &mut K,
+    count: u32,
+    mut pieces: Cursor<'_>,
+) -> Result<(), Fault>
+    requires count { length pieces.left ≡ count }
+    requires looks { AreLooks (flat pieces.left) }
+    ensures puts { Puts K.ByteSink result (pieces_bytes pieces.entry.left) sink.old sink.new }
+    ensures some { OnOk result (AreSome pieces.entry.left) }
+{
+    put_long(sink, count)?;
+    while let Some(piece) = pieces.next_piece() {
+        put_piece(sink, piece)?;
+    }
+    Ok(())
+}
+
+/// Puts the position of a caret, if there is one.
+fn put_caret<K: ByteSink>(sink: &mut K, caret: Option<u32>) -> Result<(), Fault>
+    ensures { Puts K.ByteSink result (optional long caret) sink.old sink.new }
+{
+    let Some(position) = caret else {
+        return put_byte(sink, 0);
+    };
+    put_byte(sink, 1)?;
+    put_long(sink, position)
+}
+
+/// Puts a selection, if there is one.
+fn put_ranked<K: ByteSink>(sink: &mut K, selection: Option<Ranked>) -> Result<(), Fault>
+    ensures { Puts K.ByteSink result (optional ranked_bytes selection) sink.old sink.new }
+{
+    let Some(ranked) = selection else {
+        return put_byte(sink, 0);
+    };
+    sink.put(&[1, ranked.rank])?;
+    put_long(sink, ranked.beg)?;
+    put_long(sink, ranked.end)
+}
+
+/// Puts a viewer with what is marked in it.
+pub fn put_viewer<K: ByteSink>(sink: &mut K, picture: ViewerPicture) -> Result<(), Fault>
+    ensures { Puts K.ByteSink result (viewer_bytes picture) sink.old sink.new }
+{
+    put_byte(sink, picture.id)?;
+    put_word(sink, picture.viewer.menu)?;
+    put_word(sink, picture.viewer.main)?;
+    put_long(sink, picture.viewer.org)?;
+    put_caret(sink, picture.caret)?;
+    put_ranked(sink, picture.selection)
+}
+
+/// Puts a viewer of a track with how many rows it has.
+pub fn put_entry<K: ByteSink>(sink: &mut K, entry: Stretch) -> Result<(), Fault>
+    ensures { Puts K.ByteSink result (entry_bytes (entry_of entry)) sink.old sink.new }
+{
+    sink.put(&[entry.viewer, entry.height])
+}
+
+/// Puts the viewer that was closed last, if there is one.
+pub fn put_kept<K: ByteSink>(sink: &mut K, kept: Option<Kept>) -> Result<(), Fault>
+    ensures { Puts K.ByteSink result (optional kept_bytes kept) sink.old sink.new }
+{
+    match kept {
+        None => sink.put(&[0]),
+        Some(kept) => sink.put(&[1, kept.viewer, kept.track.left(), kept.top]),
+    }
+}

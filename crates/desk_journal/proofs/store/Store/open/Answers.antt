@@ -1,0 +1,19 @@
+use Rattle.std.proofs.Common.{sym, subst, refl}
+use Rattle.store_layout.specs.Kept.{IsKept}
+use Rattle.desk_journal.specs.Live.{shown}
+use Rattle.desk_journal.proofs.Settling.{kept_shows}
+use Rattle.desk_journal.proofs.store.Store.open.Goals as goal
+
+pub returns-in-Ok-clause-ok : goal.returns-in-Ok-clause-ok
+returns-in-Ok-clause-ok g c =
+    let x = c.in-Ok.loaded in
+    let e = c.in-Ok.ensures in
+    let disk = c.load.new.disk in
+    record {
+      found = e.found;
+      durable = λ honest.
+          kept_shows (g.D.Disk.size disk) (g.D.Disk.trail disk) x.slot x.epoch x.events (shown x.desktop)
+          (subst (λ n. IsKept n (g.D.Disk.trail disk) x.slot x.epoch x.events (shown x.desktop)) (sym e.kept.as_large)
+          (e.shown (e.kept.already honest)).0);
+      usable = refl;
+    }

@@ -1,0 +1,38 @@
+use Rattle.std.proofs.Common.{◌≡◌, ◌<◌, ◌+◌, Ok, ap, sym, subst, refl, arith, false}
+use Rattle.store_layout.specs.declared.layout.TheConstants.{JOURNAL_EVENTS}
+use Rattle.store_layout.specs.Kept.{IsKept}
+use Rattle.desk_journal.specs.Live.{shown}
+use Rattle.desk_journal.specs.Posting.{IsAcknowledged}
+use Rattle.desk_journal.specs.View.{StoreView}
+use Rattle.desk_journal.proofs.Settling.{kept_shows}
+use Rattle.desk_journal.proofs.store.Store.put.Goals as goal
+
+pub returns-clause-ok : goal.returns-clause-ok
+returns-clause-ok g c =
+    let s = c.self.inside in
+    let r = c.in_ok-reply.ensures in
+    let after = c.record.new in
+    let live = shown after.desktop in
+    let room : s.events < JOURNAL_EVENTS = subst (λ v. v.must_reopen ≡ false → v.events < JOURNAL_EVENTS)
+    (sym c.self.view_is) c.requires c.if-self.false in
+    let store : StoreView g.row.D.Denot = record {
+      disk = after.disk;
+      desktop = live;
+      kept = after.desktop.desktop;
+      epoch = s.epoch;
+      events = s.events + 1;
+      must_reopen = false;
+    } in
+    subst (λ old. IsAcknowledged g.D.Disk c.args.event.now c.in_ok-reply.reply old store) c.self.view_is (record {
+      stepped = r.stepped;
+      durable = λ honest.
+          let before = r.device.already honest in
+          kept_shows (g.D.Disk.size after.disk) (g.D.Disk.trail after.disk) s.slot s.epoch (s.events + 1) live
+          (subst (λ n. IsKept n (g.D.Disk.trail after.disk) s.slot s.epoch (s.events + 1) live)
+          (sym r.device.as_large) (r.added before s.epoch ((c.self.invariant c.if-self.false).5 before).0));
+      more = λ _. (refl, refl);
+      anew = λ full. absurd (let never : s.events < s.events = omega (arith, full, room) in omega (arith, never));
+      usable = refl;
+      known = r.replies;
+      refusal = λ code is. r.refusal code (ap (λ x. Ok x) is);
+    })

@@ -1,0 +1,143 @@
+//! Bytes that come one by one and fill sectors.
+ghost use Rattle.std.specs.Prelude.{◌≡◌, ◌+◌, ◌*◌, ◌^◌, ◌<◌, ◌≤◌, ◌++◌, ◌∷◌, [], ℕ, List, OnOk, length, replicate};
+ghost use Rattle.desk_image.specs.declared.limits.TheConstants.{SECTOR_BYTES};
+
+use desk_image::SECTOR_BYTES;
+use sector_disk::{Disk, Fault, Sector};
+
+/// A sector of zeros.
+fn blank() -> Sector
+    ensures { result ≡ replicate SECTOR_BYTES 0 }
+{
+    [0; SECTOR_BYTES as usize]
+}
+
+/// Bytes on their way to sectors. Those that fill a sector are written when the next one comes, and the last ones by
+/// `finish`. It holds one sector, and no disk: each call is given the disk.
+#[derive(Drop)]
+pub struct Filling {
+    /// The first sector.
+    from: u32,
+
+    /// How many sectors there are from that one on. Bytes that don't fit them are dropped.
+    limit: u32,
+
+    /// How many of them are written.
+    full: u32,
+
+    /// How many bytes of the buffer came; those after them are zeros.
+    used: usize,
+    buffer: Sector,
+    ghost within: { full < limit },
+    ghost fits: { used ≤ SECTOR_BYTES },
+    ghost numbered: { from + limit < 2 ^ 32 },
+}
+
+impl Filling {
+    ghost use Rattle.sector_disk.specs.Trail.{Content, CountsFault, now};
+    ghost use Rattle.sector_disk.specs.Confined.{IsConfined};
+    ghost use Rattle.sector_streams.specs.Stored.{Holds};
+    ghost use Rattle.sector_streams.specs.Filling.{first_sector, most_sectors, SectorsOf, IsSpread, HasTaken};
+
+    /// No bytes yet, on their way to `limit` sectors from sector `from` on.
+    pub fn new(from: u32, limit: u32) -> Filling
+        requires some { 0 < limit }
+        requires numbered { from + limit < 2 ^ 32 }
+        ensures from { first_sector result ≡ from }
+        ensures limit { most_sectors result ≡ limit }
+        ensures taken { (c : Content) → HasTaken c result [] }
+    {
+        Filling {
+            from,
+            limit,
+            full: 0,
+            used: 0,
+            buffer: blank(),
+        }
+    }
+
+    /// Writes a full buffer where another sector is left, and empties it.
+    fn turn_over<D: Disk>(&mut self, disk: &mut D) -> Result<(), Fault>
+        requires { first_sector self.old + most_sectors self.old ≤ D.size disk.old }
+        ensures kept { IsConfined D.size D.honest D.trail (SectorsOf self.old) disk.old disk.new }
+        ensures cause { CountsFault result (D.failures disk.old) (D.failures disk.new) }
+        ensures from { self.new.from ≡ self.old.from }
+        ensures limit { self.new.limit ≡ self.old.limit }
+        ensures turned { OnOk result (self.new.used ≡ SECTOR_BYTES → self.new.full + 1 ≡ self.new.limit) }
+        ensures spread { OnOk result (D.honest disk.old → (bytes : List ℕ)
+            → IsSpread (now (D.trail disk.old)).reads self.old.from self.old.full self.old.used self.old.buffer bytes
+            → IsSpread (now (D.trail disk.new)).reads self.old.from self.new.full self.new.used self.new.buffer bytes) }
+    {
+        if self.used < SECTOR_BYTES as usize || self.full + 1 >= self.limit {
+            return Ok(());
+        }
+        disk.write(self.from + self.full, &self.buffer)?;
+        self.full += 1;
+        self.used = 0;
+        self.buffer = blank();
+        Ok(())
+    }
+
+    /// Takes one byte into the buffer, where there is room.
+    fn take(&mut self, byte: u8)
+        ensures from { self.new.from ≡ self.old.from }
+        ensures limit { self.new.limit ≡ self.old.limit }
+        ensures taken { (c : Content) (bytes : List ℕ)
+            → (self.old.used ≡ SECTOR_BYTES → self.old.full + 1 ≡ self.old.limit)
+            → HasTaken c self.old bytes → HasTaken c self.new (bytes ++ byte ∷ []) }
+    {
+        if self.used < SECTOR_BYTES as usize {
+            self.buffer[self.used] = byte;
+            self.used += 1;
+        }
+    }
+
+    /// Takes one byte, and writes the sector before it where that one is full.
+    fn put_byte<D: Disk>(&mut self, disk: &mut D, byte: u8) -> Result<(), Fault>
+        requires { first_sector self.old + most_sectors self.old ≤ D.size disk.old }
+        ensures kept { IsConfined D.size D.honest D.trail (SectorsOf self.old) disk.old disk.new }
+        ensures cause { CountsFault result (D.failures disk.old) (D.failures disk.new) }
+        ensures from { first_sector self.new ≡ first_sector self.old }
+        ensures limit { most_sectors self.new ≡ most_sectors self.old }
+        ensures taken { OnOk result (D.honest disk.old → (before : List ℕ)
+            → HasTaken (now (D.trail disk.old)).reads self.old before
+            → HasTaken (now (D.trail disk.new)).reads self.new (before ++ byte ∷ [])) }
+    {
+        self.turn_over(disk)?;
+        self.take(byte);
+        Ok(())
+    }
+
+    /// Takes the bytes, those that fit the sectors, and writes each sector that is full when a byte after it comes.
+    /// `Fault`: the disk failed in this call, and what was taken is no longer said.
+    pub fn put_over<D: Disk>(&mut self, disk: &mut D, bytes: &[u8]) -> Result<(), Fault>
+        requires { first_sector self.old + most_sectors self.old ≤ D.size disk.old }
+        ensures kept { IsConfined D.size D.honest D.trail (SectorsOf self.old) disk.old disk.new }
+        ensures cause { CountsFault result (D.failures disk.old) (D.failures disk.new) }
+        ensures from { first_sector self.new ≡ first_sector self.old }
+        ensures limit { most_sectors self.new ≡ most_sectors self.old }
+        ensures taken { OnOk result (D.honest disk.old → (before : List ℕ)
+            → HasTaken (now (D.trail disk.old)).reads self.old before
+            → HasTaken (now (D.trail disk.new)).reads self.new (before ++ bytes.now)) }
+    {
+        for byte in bytes {
+            self.put_byte(disk, *byte)?;
+        }
+        Ok(())
+    }
+
+    /// Writes the last sector, also where the bytes don't fill it or there are none; it ends with zeros. `Fault`: the
+    /// disk failed in this call.
+    pub fn finish<D: Disk>(&self, disk: &mut D) -> Result<(), Fault>
+        requires { first_sector self.now + most_sectors self.now ≤ D.size disk.old }
+        ensures kept { IsConfined D.size D.honest D.trail (SectorsOf self.now) disk.old disk.new }
+        ensures cause { CountsFault result (D.failures disk.old) (D.failures disk.new) }
+        ensures held { OnOk result (D.honest disk.old → (bytes : List ℕ)
+            → HasTaken (now (D.trail disk.old)).reads self.now bytes
+            → length bytes ≤ SECTOR_BYTES * most_sectors self.now
+            → Holds (now (D.trail disk.new)).reads (first_sector self.now) bytes) }
+    {
+        let last = self.from + self.full;
+        disk.write(last, &self.buffer)
+    }
+}

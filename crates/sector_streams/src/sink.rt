@@ -1,0 +1,62 @@
+//! A sink whose bytes fill sectors of a disk.
+ghost use Rattle.std.specs.Prelude.{◌≡◌, ◌≤◌, ◌+◌};
+ghost use Rattle.sector_streams.specs.Filling.{first_sector, most_sectors};
+
+use crate::filling::Filling;
+use desk_image::ByteSink;
+use sector_disk::{Disk, Fault};
+
+/// Bytes on their way to sectors of a disk, for the time of a call. It borrows the disk and the filling, and leaves
+/// both as its last call left them.
+pub struct SectorSink<'a, D: Disk> {
+    disk: &'a mut D,
+    filling: &'a mut Filling,
+    ghost on_disk: { first_sector filling.now + most_sectors filling.now ≤ D.size disk.now },
+}
+
+impl<'a, D: Disk> SectorSink<'a, D> {
+    /// A sink that goes on where the filling stands.
+    pub fn over(disk: &'a mut D, filling: &'a mut Filling) -> Self
+        requires { first_sector filling.old + most_sectors filling.old ≤ D.size disk.old }
+        ensures disk { result.disk.now ≡ disk.old }
+        ensures filling { result.filling.now ≡ filling.old }
+        ensures same_disk { result.disk.ghost_name ≡ disk.entry.ghost_name }
+        ensures same_filling { result.filling.ghost_name ≡ filling.entry.ghost_name }
+    {
+        SectorSink { disk, filling }
+    }
+}
+
+impl<D: Disk> Drop for SectorSink<'_, D> {
+    /// Gives disk and filling back.
+    fn drop(self)
+        ensures disk { self.exit.0.now ≡ self.entry.disk.now }
+        ensures filling { self.exit.1.0.now ≡ self.entry.filling.now }
+    {
+        let SectorSink {
+            disk: _,
+            filling: _,
+        } = self;
+    }
+}
+
+impl<'a, D: Disk> ByteSink for SectorSink<'a, D> {
+    ghost use Rattle.sector_disk.specs.Trail.{now};
+    ghost use Rattle.sector_streams.specs.Filling.{HasTaken, OnSameSectors, sectors_self, sectors_through};
+
+    ghost has_put = { λ s bytes. D.honest s.disk.now → HasTaken (now (D.trail s.disk.now)).reads s.filling.now bytes };
+
+    ghost failures = { λ s. D.Disk.failures s.disk.now };
+
+    ghost same_ground = { λ a b. OnSameSectors D.Disk a.disk.now b.disk.now a.filling.now b.filling.now
+        a.disk.ghost_name b.disk.ghost_name a.filling.ghost_name b.filling.ghost_name };
+
+    ghost ground_self = { λ s. sectors_self };
+
+    ghost ground_through = { λ a b c ab bc. sectors_through ab bc };
+
+    /// Takes the bytes. `Fault`: the disk failed in this call.
+    fn put(&mut self, bytes: &[u8]) -> Result<(), Fault> {
+        self.filling.put_over(self.disk, bytes)
+    }
+}

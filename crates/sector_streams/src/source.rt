@@ -1,0 +1,64 @@
+//! A source whose bytes come from sectors of a disk.
+ghost use Rattle.std.specs.Prelude.{◌≡◌};
+ghost use Rattle.sector_streams.specs.Draining.{IsOnDisk};
+
+use crate::draining::Draining;
+use desk_image::ByteSource;
+use sector_disk::{Disk, Fault};
+
+/// Bytes on their way out of sectors of a disk, for the time of a call. It borrows the disk and the draining, and
+/// leaves both as its last call left them.
+pub struct SectorSource<'a, D: Disk> {
+    disk: &'a mut D,
+    draining: &'a mut Draining,
+    ghost on_disk: { IsOnDisk (D.size disk.now) draining.now },
+}
+
+impl<'a, D: Disk> SectorSource<'a, D> {
+    /// A source that goes on where the draining stands.
+    pub fn over(disk: &'a mut D, draining: &'a mut Draining) -> Self
+        requires { IsOnDisk (D.size disk.old) draining.old }
+        ensures disk { result.disk.now ≡ disk.old }
+        ensures draining { result.draining.now ≡ draining.old }
+        ensures same_disk { result.disk.ghost_name ≡ disk.entry.ghost_name }
+        ensures same_draining { result.draining.ghost_name ≡ draining.entry.ghost_name }
+    {
+        SectorSource { disk, draining }
+    }
+}
+
+impl<D: Disk> Drop for SectorSource<'_, D> {
+    /// Gives disk and draining back.
+    fn drop(self)
+        ensures disk { self.exit.0.now ≡ self.entry.disk.now }
+        ensures draining { self.exit.1.0.now ≡ self.entry.draining.now }
+    {
+        let SectorSource {
+            disk: _,
+            draining: _,
+        } = self;
+    }
+}
+
+impl<'a, D: Disk> ByteSource for SectorSource<'a, D> {
+    ghost use Rattle.sector_disk.specs.Trail.{now};
+    ghost use Rattle.sector_streams.specs.Draining.{IsLoaded, bytes_left, OnSameBytes, bytes_self, bytes_through};
+
+    ghost remaining = { λ s. bytes_left (now (D.trail s.disk.now)).reads s.draining.now };
+
+    ghost failures = { λ s. D.Disk.failures s.disk.now };
+
+    ghost honest = { λ s. D.honest s.disk.now × IsLoaded (now (D.trail s.disk.now)).reads s.draining.now };
+
+    ghost same_ground = { λ a b. OnSameBytes D.Disk a.disk.now b.disk.now a.draining.now b.draining.now
+        a.disk.ghost_name b.disk.ghost_name a.draining.ghost_name b.draining.ghost_name };
+
+    ghost ground_self = { λ s. bytes_self };
+
+    ghost ground_through = { λ a b c ab bc. bytes_through ab bc };
+
+    /// The next byte; None at the end. `Fault`: the disk failed in this call.
+    fn get(&mut self) -> Result<Option<u8>, Fault> {
+        self.draining.next(self.disk)
+    }
+}

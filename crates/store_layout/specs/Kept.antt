@@ -1,0 +1,71 @@
+-- What a disk that nothing is pending on stands for, and which sectors each call writes.
+use Rattle.std.specs.Prelude.{◌≡◌, ◌⊎◌, ◌<◌, ◌≤◌, ◌+◌, ◌*◌, ℕ, List, length, take, true, false}
+use Rattle.sector_disk.specs.Trail.{Content, Trail, now}
+use Rattle.event_bytes.specs.declared.event.Event.{Event}
+use Rattle.event_bytes.specs.Spelling.{Begins}
+use Rattle.event_loop_laws.specs.Desktop.{Desktop}
+use Rattle.desk_image.specs.declared.limits.TheConstants.{SECTOR_BYTES}
+use Rattle.store_layout.specs.declared.layout.TheConstants.{JOURNAL_EVENTS, AREA_SECTORS, IMAGE_SECTORS}
+use Rattle.store_layout.specs.Layout.{is_open, slot_gate, slot_head, gate, body, image_at, area_at, head, IsGoodHead}
+use Rattle.store_layout.specs.Meaning.{Standing, Stands, desktop_of, HasImage, area_bytes, full_sectors}
+
+-- nothing is pending on the disk, and what it reads shows this
+pub record IsSettled (size : ℕ) (disk : Trail) (s : Standing) : Type 0 where
+  pub quiet : (n : ℕ) → (now disk).pending n ≡ false
+  pub stands : Stands size (now disk).reads s
+
+-- the disk is settled and shows the desktop, by this slot and epoch and so many events
+pub record IsKept (size : ℕ) (disk : Trail) (live number count : ℕ) (desktop : Desktop) : Type 0 where
+  pub standing : Standing
+  pub settled : IsSettled size disk standing
+  pub slot : standing.slot ≡ live
+  pub epoch : standing.epoch ≡ number
+  pub events : length standing.events ≡ count
+  pub is : desktop_of standing ≡ desktop
+
+-- ---- the characters in the area
+
+-- the first n sectors of the area hold the first of these characters
+abbrev pub HasFront : Content → ℕ → List ℕ → Type 0
+HasFront c n characters = area_bytes c n ≡ take (SECTOR_BYTES * n) characters
+
+-- the head of the slot in use names so many sectors of characters, and they are the front of these
+pub record IsFront (c : Content) (live saved : ℕ) (characters : List ℕ) : Type 0 where
+  pub named : full_sectors (head c live).written ≡ saved
+  pub same : HasFront c saved characters
+
+-- ---- an event into the journal
+
+-- where event k goes: its body, and the gate behind it, if there is one
+abbrev pub NextRecord : ℕ → ℕ → ℕ → Type 0
+NextRecord slot k n = (n ≡ body slot k) ⊎ ((n ≡ gate slot (k + 1)) × (k + 1 < JOURNAL_EVENTS))
+
+-- event k stands behind its closed gate, and a closed gate behind it
+pub record IsStaged (size : ℕ) (disk : Trail) (s : Standing) (event : Event) (k : ℕ) : Type 0 where
+  pub settled : IsSettled size disk s
+  pub begins : Begins ((now disk).reads (body s.slot k)) event
+  pub closed : k + 1 < JOURNAL_EVENTS → is_open ((now disk).reads (gate s.slot (k + 1))) ≡ false
+
+-- ---- a checkpoint into the other slot
+
+-- its gate, where it is open
+abbrev pub OpenGate : Content → ℕ → ℕ → Type 0
+OpenGate c slot n = (n ≡ slot_gate slot) × (is_open (c (slot_gate slot)) ≡ true)
+
+-- what is written behind its closed gate: its head, the first gate of its journal, its image
+abbrev pub InSlot : ℕ → ℕ → Type 0
+InSlot slot n = (n ≡ slot_head slot) ⊎ ((n ≡ gate slot 0) ⊎ ((image_at slot ≤ n) × (n < image_at slot + IMAGE_SECTORS)))
+
+-- the sectors of characters from the first that the slot in use doesn't name
+abbrev pub InArea : ℕ → ℕ → Type 0
+InArea saved n = (area_at saved ≤ n) × (n < area_at AREA_SECTORS)
+
+abbrev pub InCheckpoint : ℕ → ℕ → ℕ → Type 0
+InCheckpoint slot saved n = InSlot slot n ⊎ InArea saved n
+
+-- a slot has this desktop and an empty journal
+pub record IsNewSlot (c : Content) (slot number : ℕ) (desktop : Desktop) : Type 0 where
+  pub good : IsGoodHead (head c slot)
+  pub epoch : (head c slot).epoch ≡ number
+  pub image : HasImage c slot desktop
+  pub journal : is_open (c (gate slot 0)) ≡ false

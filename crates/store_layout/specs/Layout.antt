@@ -1,0 +1,62 @@
+-- Where the parts of a store stand on its disk, by sector, and what tells a label, an open gate and a head. The numbers
+-- stand in src/layout.rt. A store has two slots, 0 and 1, each with a gate, a head, a journal and an image.
+use Rattle.std.specs.Prelude.{◌≡◌, ℕ, ◌+◌, ◌*◌, ◌≤◌, List, Bool, nat_eq, codes, take, drop}
+use Rattle.std.specs.List.{starts_with}
+use Rattle.std.specs.Int.{w32, from_be_bytes}
+use Rattle.sector_disk.specs.Trail.{Content}
+use Rattle.desk_image.specs.declared.limits.TheConstants.{IMAGE_BYTES}
+use Rattle.event_loop_laws.specs.Limits.{most_written}
+use Rattle.store_layout.specs.declared.head.Head.{Head}
+use Rattle.store_layout.specs.declared.layout.TheConstants.{SLOT_GATES, SLOT_HEADS, JOURNALS, JOURNAL_SECTORS}
+use Rattle.store_layout.specs.declared.layout.TheConstants.{IMAGES, IMAGE_SECTORS, AREA, LAYOUT}
+
+-- the label's sector begins so
+unfoldable pub is_label : List ℕ → Bool
+is_label bytes = starts_with nat_eq bytes (codes "OBERONDESKSTORE1")
+
+-- a gate that doesn't begin so is closed
+unfoldable pub is_open : List ℕ → Bool
+is_open bytes = starts_with nat_eq bytes (codes "OPENGATE")
+
+-- the gate of a slot
+abbrev pub slot_gate : ℕ → ℕ
+slot_gate slot = SLOT_GATES + 2 * slot
+
+-- the head of a slot
+abbrev pub slot_head : ℕ → ℕ
+slot_head slot = SLOT_HEADS + 2 * slot
+
+-- gate k and body k of a slot's journal, k below JOURNAL_EVENTS
+abbrev pub gate : ℕ → ℕ → ℕ
+gate slot k = JOURNALS + JOURNAL_SECTORS * slot + 2 * k
+
+abbrev pub body : ℕ → ℕ → ℕ
+body slot k = gate slot k + 1
+
+-- the first sector of a slot's image
+abbrev pub image_at : ℕ → ℕ
+image_at slot = IMAGES + IMAGE_SECTORS * slot
+
+-- sector k of the area of characters
+abbrev pub area_at : ℕ → ℕ
+area_at k = AREA + k
+
+-- a head: four numbers of four bytes, the highest byte first; the rest of the sector isn't read
+unfoldable pub head_of : List ℕ → Head
+head_of bytes = record {
+  version = from_be_bytes w32 (take 4 bytes);
+  epoch = from_be_bytes w32 (take 4 (drop 4 bytes));
+  written = from_be_bytes w32 (take 4 (drop 8 bytes));
+  extent = from_be_bytes w32 (take 4 (drop 12 bytes));
+}
+
+-- the head of a slot
+abbrev pub head : Content → ℕ → Head
+head c slot = head_of (c (slot_head slot))
+
+-- a head that a slot in use can have
+pub record IsGoodHead (h : Head) : Type 0 where
+  pub version : h.version ≡ LAYOUT
+  pub epoch : 1 ≤ h.epoch
+  pub written : h.written ≤ most_written
+  pub extent : h.extent ≤ IMAGE_BYTES

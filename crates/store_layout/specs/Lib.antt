@@ -1,0 +1,7 @@
+pub mod Layout
+pub mod Meaning
+pub mod Footprint
+pub mod Finding
+pub mod Kept
+pub mod Bits
+pub mod StandingLaws

@@ -1,0 +1,20 @@
+//! What the sectors of a store mean.
+//!
+//! A store has a label and two slots; one slot is in use. A slot has a head, the image of a desktop, and a journal of
+//! the events since. `src/layout.rt` says which sector has what, `specs/Meaning.antt` what a content of the disk means,
+//! `specs/Footprint.antt` on which sectors that depends, and `specs/Finding.antt` what opening finds. No disk is
+//! touched here.
+#![tactic(auto)]
+
+mod head;
+mod laws;
+mod layout;
+mod sectors;
+
+pub use head::Head;
+pub use laws::{finding_law, footprint_law, showing_law};
+pub use layout::{
+    AREA_SECTORS, IMAGE_SECTORS, JOURNAL_EVENTS, LABEL, LAST_EPOCH, LAYOUT, SLOTS, STORE_SECTORS,
+    area_at, body, gate, image_at, slot_gate, slot_head,
+};
+pub use sectors::{body_of, closed_gate, event_of, has_label, is_open_gate, label, open_gate};

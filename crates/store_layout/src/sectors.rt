@@ -1,0 +1,71 @@
+//! The sectors of a store as bytes.
+ghost use Rattle.std.specs.Prelude.{◌≡◌, true, false, Some, IfSome};
+ghost use Rattle.event_bytes.specs.declared.event.Event.{Event};
+ghost use Rattle.event_bytes.specs.Spelling.{Begins};
+ghost use Rattle.store_layout.specs.Layout.{is_open, is_label};
+
+use event_bytes::Event;
+use sector_disk::Sector;
+
+/// The label, and then zeros.
+#[tactic(auto, unfolding(crate::specs::Layout::is_label))]
+pub fn label() -> Sector
+    ensures { is_label result ≡ true }
+{
+    let mut label = [0; 1024];
+    label[..16].copy_from_slice(b"OBERONDESKSTORE1");
+    label
+}
+
+/// The word of an open gate, and then zeros.
+#[tactic(auto, unfolding(crate::specs::Layout::is_open))]
+pub fn open_gate() -> Sector
+    ensures { is_open result ≡ true }
+{
+    let mut gate = [0; 1024];
+    gate[..8].copy_from_slice(b"OPENGATE");
+    gate
+}
+
+/// Zeros.
+#[tactic(auto, unfolding(crate::specs::Layout::is_open))]
+pub fn closed_gate() -> Sector
+    ensures { is_open result ≡ false }
+{
+    [0; 1024]
+}
+
+/// The spelling of the event, and then zeros.
+pub fn body_of(event: &Event) -> Sector
+    ensures { Begins result event.now }
+{
+    let spelling = event.encode();
+    let mut body = [0; 1024];
+    body[..spelling.len()].copy_from_slice(spelling.as_slice());
+    body
+}
+
+/// Whether a sector has the label.
+#[tactic(auto, unfolding(crate::specs::Layout::is_label))]
+pub fn has_label(bytes: &Sector) -> bool
+    ensures { result ≡ is_label bytes.now }
+{
+    bytes.starts_with(b"OBERONDESKSTORE1")
+}
+
+/// Whether a gate is open.
+#[tactic(auto, unfolding(crate::specs::Layout::is_open))]
+pub fn is_open_gate(bytes: &Sector) -> bool
+    ensures { result ≡ is_open bytes.now }
+{
+    bytes.starts_with(b"OPENGATE")
+}
+
+/// The event that a body begins with, if it begins with one.
+pub fn event_of(body: &Sector) -> Option<Event>
+    ensures found { IfSome result (Begins body.now) }
+    ensures only { (event : Event) → Begins body.now event → result ≡ Some event }
+{
+    let (event, _) = Event::decode(body)?;
+    Some(event)
+}
