@@ -1,14 +1,11 @@
 #!/usr/bin/env bash
-# A checkpoint of 262,144 characters in one piece and in 10,000, against bare writes and syncs of as many sectors; and opening such a store,
-# by time and peak memory, beside sqlite3 opening a database of as much text. `bench/checkpoint.sh [TIMES] [FOLDER]`
+# A checkpoint of 262,144 characters in one piece and in 10,000, against the bare writes and syncs of one; and opening such a store, by time
+# and peak memory, beside sqlite3 opening a database of as much text. `bench/checkpoint.sh [TIMES] [FOLDER]`. Of ROUNDS (10) rounds the
+# fastest counts, since what a sync costs varies with all that the machine writes.
 set -eu
-top=$(cd "$(dirname "$0")/.." && pwd)
+. "$(dirname "$0")/parts.sh" "${2:-}"
 times=${1:-100}
-folder=$(mktemp -d -p "${2:-$top}")
-trap 'rm -rf "$folder"' EXIT
 cc -O2 -o "$folder/sectors" "$top/bench/sectors.c"
-"$top/oberon" < /dev/null
-program=$top/crates/oberon/out/oberon
 cd "$folder"
 
 # The text stands in a viewer beside a tool text, by which its colour changes.
@@ -26,13 +23,6 @@ x=$(head -c 900 /dev/zero | tr '\0' x)
 } > many
 for k in $(seq "$times"); do echo checkpoint; done > checkpoints
 
-# Nanoseconds that a command takes.
-took() {
-    local begun
-    begun=$(date +%s%N)
-    "$@"
-    echo $(($(date +%s%N) - begun))
-}
 opened() { "$program" check desk > said; }
 renewed() { "$program" play desk < checkpoints > said; }
 bare() { ./sectors plain "$sectors" "$times"; }
@@ -44,14 +34,13 @@ for text in one many; do
     "$program" format desk > said
     { cat $text; echo checkpoint; echo checkpoint; } | "$program" play desk | sort | uniq -c > said
     [ "$(wc -l < said)" = 1 ] || { echo 'an event was refused'; exit 1; }
-    # The image, the head and gate 0.
-    sectors=$((($(length 0) + 1023) / 1024 + 2))
+    sectors=$((($(length 0) + 1023) / 1024))
     head -c 15995904 /dev/zero > plain && sync -d plain
-    opening=$(took opened)
-    play=$(took renewed)
-    loop=$(took bare)
+    opening=$(fastest opened)
+    play=$(fastest renewed)
+    loop=$(fastest bare)
     awk -v what="$text" -v n="$times" -v sectors="$sectors" -v play=$((play - opening)) -v loop="$loop" -v opening="$opening" 'BEGIN {
-        printf "%s: opening %.1f ms; a checkpoint (%d sectors) %.2f ms, bare %.2f ms, ratio %.2f\n",
+        printf "%s: opening %.1f ms; a checkpoint (image of %d sectors) %.2f ms, bare %.2f ms, ratio %.2f\n",
             what, opening / 1e6, sectors, play / n / 1e6, loop / n / 1e6, play / loop }'
     if [ -x /usr/bin/time ]; then
         /usr/bin/time -f "$text: opening and checking %e s, %M KB at most" "$program" check desk > said

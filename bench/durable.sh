@@ -3,23 +3,12 @@
 # on a store that has just been made, on one whose journal was filled before, and through ten journals with the checkpoints between them.
 # `bench/durable.sh [ROUNDS] [FOLDER]`
 set -eu
-top=$(cd "$(dirname "$0")/.." && pwd)
+. "$(dirname "$0")/parts.sh" "${2:-}"
 rounds=${1:-5}
-folder=$(mktemp -d -p "${2:-$top}")
-trap 'rm -rf "$folder"' EXIT
 cc -O2 -o "$folder/bare" "$top/bench/durable.c"
-"$top/oberon" < /dev/null
-program=$top/crates/oberon/out/oberon
 for k in $(seq 256); do echo 'file A.Text hello'; done > "$folder/script"
 for k in $(seq 2560); do echo 'file A.Text hello'; done > "$folder/long"
 
-# Nanoseconds that a command takes.
-took() {
-    local begun
-    begun=$(date +%s%N)
-    "$@"
-    echo $(($(date +%s%N) - begun))
-}
 posts() { "$program" play "$folder/desk" < "$folder/script" > "$folder/replies"; }
 bare() { "$folder/bare" "$folder/plain" 1; }
 long_posts() { "$program" play "$folder/desk" < "$folder/long" > "$folder/replies"; }

@@ -1,23 +1,28 @@
-/* The bare writes of checkpoints: `sectors FILE COUNT TIMES` writes TIMES times COUNT sectors one after another and syncs, with a sync
-   before them, and a sector and a sync after them. */
+/* The bare writes and syncs of checkpoints: `sectors FILE COUNT TIMES` does, TIMES times, what a store does whose image takes COUNT sectors:
+   the gate of the slot that isn't in use and a sync; the image, the head, the first gate of the journal and a sync; the gate and a sync. */
 #include <fcntl.h>
 #include <stdlib.h>
 #include <string.h>
 #include <unistd.h>
 
 static char bytes[1024];
+static int file;
+
+/* Writes a sector. Says whether it failed. */
+static int put(long n) { return pwrite(file, bytes, 1024, 1024L * n) != 1024; }
 
 int main(int count, char **words) {
     if (count != 4) return 2;
-    int file = open(words[1], O_RDWR), sectors = atoi(words[2]);
+    file = open(words[1], O_RDWR);
     if (file < 0) return 4;
     memset(bytes, 'x', sizeof bytes);
     for (int k = 0; k < atoi(words[3]); k++) {
-        if (fdatasync(file)) return 4;
-        for (int n = 0; n < sectors; n++)
-            if (pwrite(file, bytes, 1024, 1024L * (1029 + n)) != 1024) return 4;
-        if (fdatasync(file)) return 4;
-        if (pwrite(file, bytes, 1024, 1024L) != 1024 || fdatasync(file)) return 4;
+        int slot = k % 2;
+        if (put(1 + 2 * slot) || fdatasync(file)) return 4;
+        for (int n = 0; n < atoi(words[2]); n++)
+            if (put(1029 + 3200 * slot + n)) return 4;
+        if (put(2 + 2 * slot) || put(5 + 512 * slot) || fdatasync(file)) return 4;
+        if (put(1 + 2 * slot) || fdatasync(file)) return 4;
     }
     return 0;
 }

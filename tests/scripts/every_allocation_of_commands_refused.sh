@@ -1,33 +1,10 @@
 # Each allocation of a run of all commands is refused in turn, over a store in memory, and each third over one in a file. The replies are
 # the same, or the first of them and `memory` with status 5; and a store in a file then shows just what the events led to whose replies came.
 # A disk in memory that can't record a write fails as a disk does: then the word is `fault`, and the status 4.
-cc -shared -fPIC -o refuse.so "$TESTS/refuse_allocation.c" || exit 1
+. "$TESTS/refusing.sh"
 { "$TESTS/hand_in" System.Tool "$TESTS/tool.text"; cat "$TESTS/walk.in" "$TESTS/clicks.in"; } | grep -v '^screen$\|^list$\|^show ' > events
 "$OBERON" < events > whole
 "$OBERON" format new.disk > formatted || exit 1
-
-# Plays the events with allocation $1 refused, over the store that the other arguments name.
-play() {
-    number=$1
-    shift
-    rm -f refused
-    LD_PRELOAD=./refuse.so REFUSE=$number REFUSED=refused "$PROGRAM" "$@" < events > got 2> said
-}
-
-# The replies in `got` and `said`, after status $1, are the whole ones, or the first of them and the word of that status.
-right() {
-    case $1 in
-        0) cmp -s got whole; return ;;
-        4) [ $order = memory ] || return; word=fault ;;
-        5) word=memory ;;
-        *) return 1 ;;
-    esac
-    if [ -s got ]; then
-        [ "$(tail -n 1 got)" = $word ] && head -n -1 got > first && cmp -s -n "$(wc -c < first)" first whole
-    else
-        [ "$(cat said)" = $word ]
-    fi
-}
 
 # The store in the file shows what the events led to whose replies stand in `got`.
 shows_the_first() {

@@ -1,31 +1,9 @@
 # Each allocation of a run of hello.in is refused in turn, over a store in memory and over one in a file. The replies are the same, or the
 # first of them and `memory` with status 5; and a store in a file then shows just the events whose reply was `ok`. A disk in memory
 # that can't record a write fails as a disk does: then the word is `fault`, and the status 4.
-cc -shared -fPIC -o refuse.so "$TESTS/refuse_allocation.c" || exit 1
-"$OBERON" < "$TESTS/scripts/hello.in" > whole
-
-# The replies in `got` and `said`, after status $1, are the whole ones, or the first of their lines and the word of that status.
-right() {
-    case $1 in
-        0) cmp -s got whole; return ;;
-        4) [ $order = memory ] || return; word=fault ;;
-        5) word=memory ;;
-        *) return 1 ;;
-    esac
-    if [ -s got ]; then
-        [ "$(tail -n 1 got)" = $word ] && head -n -1 got > first && cmp -s -n "$(wc -c < first)" first whole
-    else
-        [ "$(cat said)" = $word ]
-    fi
-}
-
-# Plays with allocation $1 refused, over the store that the other arguments name.
-play() {
-    number=$1
-    shift
-    rm -f refused
-    LD_PRELOAD=./refuse.so REFUSE=$number REFUSED=refused "$PROGRAM" "$@" < "$TESTS/scripts/hello.in" > got 2> said
-}
+. "$TESTS/refusing.sh"
+cp "$TESTS/scripts/hello.in" events
+"$OBERON" < events > whole
 
 for order in memory file; do
     number=0

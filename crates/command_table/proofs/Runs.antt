@@ -1,7 +1,6 @@
 -- Runs of letters, digits and periods, and what a stretch around a position knows of them.
-use Rattle.std.specs.Prelude.{ℕ, zero, suc, ◌≡◌, ◌+◌, ◌-◌, ◌<◌, ◌≤◌, ◌==◌, nat_le, min, max, Bool, true, false}
-use Rattle.std.specs.Prelude.{IsTrue, List, [], ◌∷◌, length, take, drop, slice_index, slice_range, Option, Some, None}
-use Rattle.std.specs.Prelude.{if◌then◌else◌}
+use Rattle.std.specs.Prelude.{ℕ, zero, suc, ◌≡◌, ◌+◌, ◌-◌, ◌<◌, ◌≤◌, ◌==◌, min, max, Bool, true, false}
+use Rattle.std.specs.Prelude.{List, [], ◌∷◌, length, take, drop, slice_index, slice_range, Option, Some, None}
 use Rattle.std.specs.Option.{option_map}
 use Rattle.std.specs.List.{prefix_len}
 use Rattle.std.specs.Prelude.{◌⊎◌}
@@ -11,11 +10,14 @@ use Rattle.std.proofs.lemmas.Bool.Decides.{nat_tests}
 use Rattle.std.proofs.lemmas.List.{get_or-take, get_or-drop, drop-take, length-take, length-take-le, drop-drop}
 use Rattle.std.proofs.lemmas.List.{take-take}
 use Rattle.std.proofs.lemmas.List.Sums.{prefix_len-le-length, prefix_len_passes, prefix_len_stops}
-use Rattle.std.proofs.lemmas.List.Sums.{prefix_len-drop_yes, prefix_len-drop_no, prefix_len-drop_all}
+use Rattle.std.proofs.lemmas.List.Sums.{prefix_len-drop_yes}
+use Rattle.piece_ring.specs.Text.{Text}
 use Rattle.event_bytes.specs.Bytes.{is_name_byte}
+use Rattle.readers_scanners.specs.Reading.{bytes}
+use Rattle.readers_scanners.proofs.Running.{length-bytes}
 use Rattle.command_table.specs.declared.command.Command.{Command}
 use Rattle.command_table.specs.Commands.{command_named}
-use Rattle.command_table.specs.Call.{run_from, word_begin, word_end, word_at, called_at, IsLongestRun, WordIsLongest}
+use Rattle.command_table.specs.Call.{run_from, word_begin, word_end, word_at, called_at, WordIsLongest}
 use Rattle.command_table.proofs.Words.{long_word, no_word}
 
 -- ---- where a run begins
@@ -240,6 +242,15 @@ module _ (bs : List ℕ) (p start : ℕ) (is : start ≡ p - 18) (within : p ≤
         no_run bs p e ∙ sym (ap (further start) (no_run window at (ap (λ n. n == 0) empty)))
     by_run false e (inl long) = long_call (is_some (run_from bs p) e) long
     by_run false e (inr short) = short_call e (is_some (run_from bs p) e) short
+
+-- what is called in the stretch of a text is called there
+pub called_there : (characters : List ℕ) (text : Text ℕ) (p start : ℕ) (window : List ℕ) (call : Option (Command × ℕ))
+    → start ≡ p - 18 → p ≤ length text → window ≡ take 37 (drop start (bytes characters text))
+    → call ≡ called_at window (p - start) → further start call ≡ called_at (bytes characters text) p
+called_there characters text p start window call starts within read is =
+    let size = length-bytes characters text in
+    ap (further start) (is ∙ ap (λ w. called_at w (p - start)) read)
+    ∙ sym (called_in_window (bytes characters text) p start starts (omega (arith, within, size)))
 
 -- ---- the word is the longest run
 

@@ -1,5 +1,5 @@
 -- The word of a call: the longest run of letters, digits and periods that holds the byte at a position.
-use Rattle.std.specs.Prelude.{ℕ, zero, suc, ◌≡◌, ◌+◌, ◌-◌, ◌<◌, ◌≤◌, ◌==◌, Bool, false, IsTrue, if◌then◌else◌, List}
+use Rattle.std.specs.Prelude.{ℕ, zero, suc, ◌≡◌, ◌+◌, ◌-◌, ◌<◌, ◌≤◌, ◌==◌, false, IsTrue, if◌then◌else◌, List}
 use Rattle.std.specs.Prelude.{[], length, drop, slice_index, slice_range, Option}
 use Rattle.std.specs.Option.{option_map}
 use Rattle.std.specs.List.{prefix_len}

@@ -1,5 +1,5 @@
 -- The parts of an image of which lists are made, and those that stand alone.
-use Rattle.std.proofs.Common.{◌≡◌, ℕ, ◌+◌, ◌-◌, ◌*◌, ◌/◌, ◌%◌, ◌^◌, ◌<◌, ◌≤◌, true, cond, ltb, List, [], ◌∷◌, ◌++◌}
+use Rattle.std.proofs.Common.{◌≡◌, ℕ, ◌+◌, ◌-◌, ◌*◌, ◌/◌, ◌%◌, ◌^◌, ◌<◌, true, cond, ltb, List, [], ◌∷◌, ◌++◌}
 use Rattle.std.proofs.Common.{Some, None, refl, sym, ap, subst, ◌∙◌, arith, inl, inr}
 use Rattle.std.specs.Prelude.{IsTrue, nat_eq, ℤ, pos, negsuc, ◌-ℤ◌, int_le}
 use Rattle.std.proofs.lemmas.Bool.{ltb-true, lt-ltb, cases_lt, eqb-true}
@@ -12,6 +12,7 @@ use Rattle.piece_ring.specs.declared.piece.Look.{Look}
 use Rattle.piece_ring.specs.declared.piece.Piece.{Piece}
 use Rattle.event_loop_laws.specs.declared.limits.TheConstants.{LEAST_OFFSET, GREATEST_OFFSET}
 use Rattle.event_loop_laws.specs.Looks.{IsLook}
+use Rattle.desk_image.specs.Image.{below_zero, offsets}
 use Rattle.desk_image.specs.Image.{long, shifted, look_bytes, piece_bytes, cell_bytes, InLong}
 use Rattle.desk_image.specs.Fitting.{FitsPiece, FitsPattern, FitsCell}
 use Rattle.desk_image.specs.Reading.{long_at, offset_at, raw_look_at, is_look, look_at, raw_piece_at, is_piece}
@@ -61,43 +62,43 @@ long_part = record { takes = from; again = back }
 -- ---- looks
 
 abbrev offset_of : ℕ → ℤ
-offset_of n = pos n -ℤ pos 64
+offset_of n = pos n -ℤ pos below_zero
 
 abbrev IsOffset : ℤ → Type 0
 IsOffset z = IsTrue (int_le LEAST_OFFSET z) × IsTrue (int_le z GREATEST_OFFSET)
 
-offset_from_byte : (n : ℕ) → n < 128 → (shifted (offset_of n) ≡ n) × IsOffset (offset_of n)
-offset_from_byte n lt = elim (cases_lt n 64) [
-  | inl low ↦ let e : offset_of n ≡ negsuc (63 - n) = omega (arith, ints) in
+offset_from_byte : (n : ℕ) → n < offsets → (shifted (offset_of n) ≡ n) × IsOffset (offset_of n)
+offset_from_byte n lt = elim (cases_lt n below_zero) [
+  | inl low ↦ let e : offset_of n ≡ negsuc (below_zero - (n + 1)) = omega (arith, ints) in
       subst (λ (z : ℤ). (shifted z ≡ n) × IsOffset z) (sym e)
       (omega arith, (grind (arith, nat_tests), grind (arith, nat_tests)))
-  | inr high ↦ let e : offset_of n ≡ pos (n - 64) = omega (arith, ints) in
+  | inr high ↦ let e : offset_of n ≡ pos (n - below_zero) = omega (arith, ints) in
       subst (λ (z : ℤ). (shifted z ≡ n) × IsOffset z) (sym e)
       (omega arith, (grind (arith, nat_tests), grind (arith, nat_tests)))
 ]
 
-byte_from_offset : (z : ℤ) → IsOffset z → (shifted z < 128) × (offset_of (shifted z) ≡ z)
+byte_from_offset : (z : ℤ) → IsOffset z → (shifted z < offsets) × (offset_of (shifted z) ≡ z)
 byte_from_offset (pos n) fits =
-    let small : n ≤ 63 = grind (arith, nat_tests, fits.1) in (omega (arith, small), omega (arith, ints))
+    let small : n < below_zero = grind (arith, nat_tests, fits.1) in (omega (arith, small), omega (arith, ints))
 byte_from_offset (negsuc n) fits =
-    let small : n ≤ 63 = grind (arith, nat_tests, fits.0) in (omega (arith, small), omega (arith, ints, small))
+    let small : n < below_zero = grind (arith, nat_tests, fits.0) in (omega (arith, small), omega (arith, ints, small))
 
 offset_part : IsPart (λ z. byte (shifted z)) IsOffset offset_at
 unfolding offset_at
 offset_part = record {
   takes = λ bytes z rest e.
       let (b, b_is, e1) =
-      bind_some (byte_at bytes) (λ b. cond (ltb b.0 128) (given {A = ℤ × List ℕ} (offset_of b.0, b.1)) None) (z, rest)
-      e in
-      let (small, e2) = test_some (ltb b.0 128) (given {A = ℤ × List ℕ} (offset_of b.0, b.1)) (z, rest) e1 in
+      bind_some (byte_at bytes) (λ b. cond (ltb b.0 offsets) (given {A = ℤ × List ℕ} (offset_of b.0, b.1)) None)
+      (z, rest) e in
+      let (small, e2) = test_some (ltb b.0 offsets) (given {A = ℤ × List ℕ} (offset_of b.0, b.1)) (z, rest) e1 in
       let first = byte_part.takes bytes b.0 b.1 b_is in
-      let law = offset_from_byte b.0 (ltb-true b.0 128 small) in
+      let law = offset_from_byte b.0 (ltb-true b.0 offsets small) in
       subst (λ (y : ℤ × List ℕ). Takes (λ z. byte (shifted z)) IsOffset bytes y.0 y.1)
       (some_is {A = ℤ × List ℕ} (offset_of b.0, b.1) (z, rest) e2)
       (record { fits = law.1; parts = first.parts ∙ ap (λ n. n ∷ b.1) (sym law.0) });
   again = λ z rest fits.
       let law = byte_from_offset z fits in
-      rw (byte_part.again (shifted z) rest (omega (arith, law.0)), lt-ltb (shifted z) 128 law.0, law.1) refl;
+      rw (byte_part.again (shifted z) rest (omega (arith, law.0)), lt-ltb (shifted z) offsets law.0, law.1) refl;
 }
 
 abbrev RawLook : Look → Type 0

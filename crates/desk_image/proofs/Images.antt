@@ -5,7 +5,7 @@ use Rattle.std.specs.Prelude.{cond, nat_le, nat_eq}
 use Rattle.std.proofs.lemmas.Bool.{eqb-true}
 use Rattle.std.proofs.lemmas.Bool.Decides.{nat_tests}
 use Rattle.std.proofs.lemmas.List.{append-nil}
-use Rattle.event_bytes.specs.Parts.{byte, word, byte_at, IsPart}
+use Rattle.event_bytes.specs.Parts.{Reader, byte, word, byte_at, IsPart}
 use Rattle.event_bytes.proofs.EventParts.{name_part}
 use Rattle.event_bytes.proofs.PartLaws.{given, some_is, bind_some, test_some, Nothing, whole, field, last, only, recast}
 use Rattle.event_bytes.proofs.PartLaws.{byte_part, word_part}
@@ -26,6 +26,7 @@ use Rattle.desk_image.specs.Image.{entry_bytes, kept_bytes, image_bytes, InByte,
 use Rattle.desk_image.specs.Fitting.{Chain, FitsPieces, less, total, totals, FitsText, after_text, FitsTexts, follows}
 use Rattle.desk_image.specs.Fitting.{FitsFile, after_file, FitsFiles, FitsRanked, FitsViewer, after_viewer, FitsViewers}
 use Rattle.desk_image.specs.Fitting.{FitsEntry, above, FitsTrack, FitsKept, FitsImage}
+use Rattle.desk_image.specs.Reading.{keyed_at}
 use Rattle.desk_image.specs.Reading.{pieces_at, text_at, texts_at, file_at, files_at, ranked_at, viewer_at, viewers_at}
 use Rattle.desk_image.specs.Reading.{raw_entry_at, is_entry, entry_at, track_at, side_at, raw_kept_at, is_kept, kept_at}
 use Rattle.desk_image.specs.Reading.{image_at, whole_image_at}
@@ -39,32 +40,28 @@ pieces_part written room small = listed_part less (λ r. piece_part written r sm
 
 -- ---- texts and files
 
-abbrev NumberedText : Type 0
-NumberedText = ℕ × List Piece
+keyed_part : {K : Type 0} {write : K → List ℕ} {Fits : K → Type 0} {read : Reader K} → IsPart write Fits read
+    → (test : K → Bool) (written room : ℕ) → InLong written
+    → IsPart (λ (t : K × List Piece). write t.0 ++ pieces_bytes t.1)
+    (λ t. Fits t.0 × ((test t.0 ≡ true) × FitsPieces written room t.1)) (keyed_at read test written room)
+keyed_part {K} part test written room small = whole (
+    field _ (λ (t : K × List Piece). t.0) part (λ key _.
+    tested (λ (t : K × List Piece). test t.0) (test key) (λ t known. ap test known.1) (λ _.
+    last (λ (t : K × List Piece). t.1) (λ pieces. (key, pieces)) (pieces_part written room small)
+    (λ pieces. (tt, refl)) (λ pieces. refl) (λ t known. ap (λ (k : K). (k, t.1)) (sym known.1)))))
 
 pub text_part : (written : ℕ) → InLong written → (s : ℕ × ℕ)
     → IsPart text_bytes (FitsText written s) (text_at written s)
-text_part written small s = whole (
-    field _ (λ (t : NumberedText). t.0) word_part (λ number _.
-    tested (λ (t : NumberedText). nat_le s.0 t.0) (nat_le s.0 number) (λ t known. ap (nat_le s.0) known.1) (λ _.
-    last (λ (t : NumberedText). t.1) (λ pieces. (number, pieces)) (pieces_part written s.1 small)
-    (λ pieces. (tt, refl)) (λ pieces. refl) (λ t known. ap (λ n. (n, t.1)) (sym known.1)))))
+text_part written small s = keyed_part word_part (nat_le s.0) written s.1 small
 
 pub texts_part : (written room : ℕ) → InLong written
     → IsPart (listed word text_bytes) (FitsTexts written room) (texts_at written room)
 unfolding texts_at
 texts_part written room small = listed_part after_text (text_part written small) (0, room) word_part
 
-abbrev NamedText : Type 0
-NamedText = List ℕ × List Piece
-
 pub file_part : (written : ℕ) → InLong written → (s : Option (List ℕ) × ℕ)
     → IsPart file_bytes (FitsFile written s) (file_at written s)
-file_part written small s = whole (
-    field _ (λ (f : NamedText). f.0) name_part (λ name _.
-    tested (λ (f : NamedText). follows s.0 f.0) (follows s.0 name) (λ f known. ap (follows s.0) known.1) (λ _.
-    last (λ (f : NamedText). f.1) (λ pieces. (name, pieces)) (pieces_part written s.1 small)
-    (λ pieces. (tt, refl)) (λ pieces. refl) (λ f known. ap (λ n. (n, f.1)) (sym known.1)))))
+file_part written small s = keyed_part name_part (follows s.0) written s.1 small
 
 pub files_part : (written room : ℕ) → InLong written
     → IsPart (listed word file_bytes) (FitsFiles written room) (files_at written room)

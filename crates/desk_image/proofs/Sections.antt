@@ -1,5 +1,5 @@
 -- An image in sections is the image.
-use Rattle.std.proofs.Common.{◌≡◌, ℕ, ◌-◌, List, Option, Some, None, refl, sym, ◌∙◌, Result, Ok, ap}
+use Rattle.std.proofs.Common.{◌≡◌, ℕ, ◌-◌, List, Option, Some, None, refl, sym, ◌∙◌, Result, Ok, Err, ap}
 use Rattle.event_bytes.specs.Parts.{◌>>=◌}
 use Rattle.event_loop_laws.specs.Limits.{most_held}
 use Rattle.desk_image.specs.declared.fault.ImageFault.{ImageFault}
@@ -11,7 +11,7 @@ use Rattle.desk_image.specs.Reading.{optional_at, look_at, pattern_at, cell_at, 
 use Rattle.desk_image.specs.Reading.{viewers_at, track_at, kept_at, image_at}
 use Rattle.desk_image.specs.Steps.{Front, front_at, Held, held_at, Shown, shown_at, sections_at}
 use Rattle.desk_image.specs.Streams.{Reads}
-use Rattle.desk_image.proofs.Parts.{follows_on}
+use Rattle.desk_image.proofs.Parts.{follows_on, fails, makes}
 
 -- what is made of some steps, and goes on
 module _ {D E : Type 0} (next : D → Option E) where
@@ -108,7 +108,8 @@ image_in_sections written bytes = sym (front_then (with_front written) bytes
 -- ---- a section was read, and what follows it
 
 module _ {S X Z : Type 0} {s : SourceGhosts S} {x : X} {all : Z → Image} {result : Result Z ImageFault}
-    {old mid new : S} (through : (a b c : S) → s.same_ground a b → s.same_ground b c → s.same_ground a c) (written : ℕ) where
+    {old mid new : S} (through : (a b c : S) → s.same_ground a b → s.same_ground b c → s.same_ground a c)
+    (written : ℕ) where
   pub after_front : {view : X → Front} → Reads s view (Ok x) front_at old mid
       → Reads s all result (λ bytes. with_front written (view x, bytes)) mid new
       → Reads s all result (image_at written) old new
@@ -127,3 +128,42 @@ module _ {S X Z : Type 0} {s : SourceGhosts S} {x : X} {all : Z → Image} {resu
       → Reads s all result (λ bytes. with_held front (held, bytes)) old new
   after_viewers front held viewers others = follows_on through (λ bytes. with_held front (held, bytes)) viewers
       (λ bytes after is. ap (λ r. r >>= λ viewers. shown_at viewers.1 >>= with_shown front held viewers.0) is) others
+
+-- ---- what follows the first two sections
+
+module _ {S X Y Z : Type 0} {s : SourceGhosts S} {view_front : X → Front} {x : X} {view_held : Y → Held} {y : Y}
+    {all : Z → Image} {old mid far : S}
+    (through : (a b c : S) → s.same_ground a b → s.same_ground b c → s.same_ground a c) (written : ℕ)
+    (front : Reads s view_front (Ok x) front_at old mid)
+    (held : Reads s view_held (Ok y) (held_at written) mid far) where
+  after_both : {result : Result Z ImageFault} {new : S}
+      → Reads s all result (λ bytes. with_held (view_front x) (view_held y, bytes)) far new
+      → Reads s all result (image_at written) old new
+  after_both others = after_front through written front (after_held through written (view_front x) held others)
+
+  -- the viewers were not read
+  pub without_viewers : {V : Type 0} {view : V → List ViewerPicture} {e : ImageFault} {new : S}
+      → Reads s view (Err e) viewers_at far new → Reads s all (Err e) (image_at written) old new
+  without_viewers viewers = after_both (fails all (λ bytes. with_held (view_front x) (view_held y, bytes)) viewers
+      (λ bytes is. ap
+      (λ r. r >>= λ viewers. shown_at viewers.1 >>= with_shown (view_front x) (view_held y) viewers.0) is))
+
+  module _ {V : Type 0} {view : V → List ViewerPicture} {v : V} {end new : S}
+      (viewers : Reads s view (Ok v) viewers_at far end) where
+    after_three : {result : Result Z ImageFault}
+        → Reads s all result (λ bytes. shown_at bytes >>= with_shown (view_front x) (view_held y) (view v)) end new
+        → Reads s all result (image_at written) old new
+    after_three others = after_both (after_viewers through written (view_front x) (view_held y) viewers others)
+
+    -- the tracks were not read
+    pub without_shown : {W : Type 0} {view_shown : W → Shown} {e : ImageFault}
+        → Reads s view_shown (Err e) shown_at end new → Reads s all (Err e) (image_at written) old new
+    without_shown shown = after_three (fails all _ shown
+        (λ bytes is. ap (λ r. r >>= with_shown (view_front x) (view_held y) (view v)) is))
+
+    -- all was read
+    pub with_all : {W : Type 0} {view_shown : W → Shown} {w : W} (z : Z) → Reads s view_shown (Ok w) shown_at end new
+        → ((after : List ℕ) → with_shown (view_front x) (view_held y) (view v) (view_shown w, after)
+        ≡ Some (all z, after)) → Reads s all (Ok z) (image_at written) old new
+    with_all z shown is = after_three (makes all z _ shown
+        (λ bytes after read. ap (λ r. r >>= with_shown (view_front x) (view_held y) (view v)) read ∙ is after))

@@ -5,6 +5,7 @@ use Rattle.std.specs.Prelude.{ℤ, pos, negsuc}
 use Rattle.std.specs.Prelude.{Option, Some, None}
 use Rattle.std.specs.List.{flat_map}
 use Rattle.std.specs.Int.{w32, to_be_bytes}
+use Rattle.std.specs.Int.RustNames.{unsigned_abs}
 use Rattle.std.specs.Map.{keys_of, values_of}
 use Rattle.event_bytes.specs.Parts.{byte, word, counted}
 use Rattle.piece_ring.specs.declared.piece.Look.{Look}
@@ -13,6 +14,7 @@ use Rattle.viewer_tracks.specs.declared.display.Track.TheVariants.{User, System}
 use Rattle.viewer_tracks.specs.Columns.{shown}
 use Rattle.viewer_tracks.specs.Display.{left_of}
 use Rattle.viewer_tracks.specs.Viewers.{Entry}
+use Rattle.event_loop_laws.specs.declared.limits.TheConstants.{LEAST_OFFSET, GREATEST_OFFSET}
 use Rattle.event_loop_laws.specs.declared.viewer.Viewer.{Viewer}
 use Rattle.event_loop_laws.specs.declared.viewer.Caret.{Caret}
 use Rattle.event_loop_laws.specs.declared.viewer.Selection.{Selection}
@@ -80,10 +82,17 @@ image_of d = record {
 abbrev pub long : ℕ → List ℕ
 long n = to_be_bytes w32 n
 
+-- how many vertical offsets lie below 0, and how many there are
+abbrev pub below_zero : ℕ
+below_zero = unsigned_abs LEAST_OFFSET
+
+abbrev pub offsets : ℕ
+offsets = below_zero + unsigned_abs GREATEST_OFFSET + 1
+
 -- a vertical offset, counted from the least one
 abbrev pub shifted : ℤ → ℕ
-shifted (pos n) = n + 64
-shifted (negsuc n) = 63 - n
+shifted (pos n) = n + below_zero
+shifted (negsuc n) = below_zero - (n + 1)
 
 -- 0 where there is nothing, else 1 and the value
 abbrev pub optional : {A : Type 0} → (A → List ℕ) → Option A → List ℕ

@@ -16,7 +16,7 @@ use Rattle.event_loop_laws.specs.Limits.{most_files, most_held, most_pattern}
 use Rattle.event_loop_laws.specs.Tables.{Texts, Files}
 use Rattle.desk_image.specs.declared.picture.Ranked.{Ranked}
 use Rattle.desk_image.specs.declared.picture.ViewerPicture.{ViewerPicture}
-use Rattle.desk_image.specs.Image.{Image}
+use Rattle.desk_image.specs.Image.{Image, below_zero, offsets}
 use Rattle.desk_image.specs.Fitting.{less, after_text, follows, after_file, total, totals, after_viewer, above}
 
 -- ---- forms
@@ -48,7 +48,7 @@ long_at bytes = do
 unfoldable pub offset_at : Reader ℤ
 offset_at bytes = do
   b ← byte_at bytes
-  if nat_lt b.0 128 then Some (pos b.0 -ℤ pos 64, b.1) else None
+  if nat_lt b.0 offsets then Some (pos b.0 -ℤ pos below_zero, b.1) else None
 
 unfoldable pub raw_look_at : Reader Look
 raw_look_at bytes = do
@@ -84,12 +84,16 @@ pieces_at written room bytes = do
 
 -- ---- texts and files
 
+-- a key that passes a test, and a text
+abbrev pub keyed_at : {K : Type 0} → Reader K → (K → Bool) → ℕ → ℕ → Reader (K × List Piece)
+keyed_at read test written room bytes = do
+  key ← read bytes
+  if test key.0 then (do
+    pieces ← pieces_at written room key.1
+    Some ((key.0, pieces.0), pieces.1)) else None
+
 abbrev pub text_at : ℕ → ℕ × ℕ → Reader (ℕ × List Piece)
-text_at written s bytes = do
-  number ← word_at bytes
-  if nat_le s.0 number.0 then (do
-    pieces ← pieces_at written s.1 number.1
-    Some ((number.0, pieces.0), pieces.1)) else None
+text_at written s bytes = keyed_at word_at (nat_le s.0) written s.1 bytes
 
 unfoldable pub texts_at : ℕ → ℕ → Reader (Texts (List Piece))
 texts_at written room bytes = do
@@ -97,11 +101,7 @@ texts_at written room bytes = do
   times (text_at written) after_text count.0 (0, room) count.1
 
 abbrev pub file_at : ℕ → Option (List ℕ) × ℕ → Reader (List ℕ × List Piece)
-file_at written s bytes = do
-  name ← name_at bytes
-  if follows s.0 name.0 then (do
-    pieces ← pieces_at written s.1 name.1
-    Some ((name.0, pieces.0), pieces.1)) else None
+file_at written s bytes = keyed_at name_at (follows s.0) written s.1 bytes
 
 unfoldable pub files_at : ℕ → ℕ → Reader (Files (List Piece))
 files_at written room bytes = do

@@ -29,7 +29,9 @@ use crate::{
 };
 use arrayvec::ArrayVec;
 use event_bytes::Name;
-use event_loop_laws::{COLOURS, FONTS, Kept, MOST_FILES, MOST_HELD, Viewer};
+use event_loop_laws::{
+    COLOURS, FONTS, GREATEST_OFFSET, Kept, LEAST_OFFSET, MOST_FILES, MOST_HELD, Viewer,
+};
 use piece_ring::{Look, Piece};
 use sector_disk::Fault;
 use std::alloc::Global;
@@ -100,10 +102,10 @@ fn offset_from<S: ByteSource>(source: &mut S) -> Result<i8, ImageFault>
     ensures greatest { IfOk result (λ offset. IsTrue (int_le offset GREATEST_OFFSET)) }
 {
     let byte = byte_from(source)?;
-    if byte >= 128 {
+    if byte > (GREATEST_OFFSET - LEAST_OFFSET) as u8 {
         return Err(ImageFault::Damaged);
     }
-    Ok(byte as i8 - 64)
+    Ok(byte as i8 + LEAST_OFFSET)
 }
 
 /// A look, of which the offset alone is tested.

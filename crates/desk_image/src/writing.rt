@@ -9,7 +9,7 @@ ghost use Rattle.desk_image.specs.Image.{look_bytes, piece_bytes, pieces_bytes, 
 ghost use Rattle.desk_image.specs.Image.{entry_bytes, kept_bytes, long, optional, AreSome};
 
 use crate::{ByteSink, Ranked, Stretch, ViewerPicture};
-use event_loop_laws::Kept;
+use event_loop_laws::{Kept, LEAST_OFFSET};
 use piece_ring::{Cursor, Look, Piece};
 use sector_disk::Fault;
 
@@ -55,7 +55,7 @@ pub fn put_look<K: ByteSink>(sink: &mut K, look: Look) -> Result<(), Fault>
     requires { IsLook look }
     ensures { Puts K.ByteSink result (look_bytes look) sink.old sink.new }
 {
-    let shifted = (look.voff + 64) as u8;
+    let shifted = (look.voff - LEAST_OFFSET) as u8;
     sink.put(&[look.font, look.colour, shifted])
 }
 

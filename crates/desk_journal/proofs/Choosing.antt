@@ -50,28 +50,14 @@ heads_good c first second in_first in_second = λ slot low opened. elim (one_of_
 abbrev IsUsed : Content → ℕ × Head → Type 0
 IsUsed c x = IsInUse c x.0 × (head c x.0 ≡ x.1)
 
-first_used : (c : Content) (first : Head) → IsFound c 0 (Some first)
-    → (is_open (c (slot_gate 1)) ≡ true → (head c 1).epoch ≤ (head c 0).epoch) → IsUsed c (0, first)
-first_used c first found older = (
+is_used : (c : Content) (slot idle : ℕ) (h : Head) → slot + idle ≡ 1 → IsFound c slot (Some h)
+    → (is_open (c (slot_gate idle)) ≡ true → (head c idle).epoch < (head c slot).epoch + idle) → IsUsed c (slot, h)
+is_used c slot idle h two found older = (
   record {
-    two = omega arith;
+    two = omega (arith, two);
     opened = found.0;
-    other = λ idle sum opened. let is : 1 ≡ idle = omega (arith, sum) in
-        subst (λ n. is_open (c (slot_gate n)) ≡ true → (head c n).epoch < (head c 0).epoch + n) is
-        (λ open_too. omega (arith, older open_too)) opened;
-  },
-  found.1,
-)
-
-second_used : (c : Content) (second : Head) → IsFound c 1 (Some second)
-    → (is_open (c (slot_gate 0)) ≡ true → (head c 0).epoch < (head c 1).epoch) → IsUsed c (1, second)
-second_used c second found older = (
-  record {
-    two = omega arith;
-    opened = found.0;
-    other = λ idle sum opened. let is : 0 ≡ idle = omega (arith, sum) in
-        subst (λ n. is_open (c (slot_gate n)) ≡ true → (head c n).epoch < (head c 1).epoch + n) is
-        (λ open_too. omega (arith, older open_too)) opened;
+    other = λ other sum. let is : idle ≡ other = omega (arith, two, sum) in
+        subst (λ n. is_open (c (slot_gate n)) ≡ true → (head c n).epoch < (head c slot).epoch + n) is older;
   },
   found.1,
 )
@@ -82,12 +68,12 @@ both_used : (c : Content) (first second : Head) (chosen : ℕ × Head) (newer : 
 both_used c first second chosen true in_first in_second order is =
     let same : chosen ≡ (1, second) = cc is in
     let less : first.epoch < second.epoch = ltb-true first.epoch second.epoch order in
-    subst (IsUsed c) (sym same) (second_used c second in_second (λ opened.
+    subst (IsUsed c) (sym same) (is_used c 1 0 second refl in_second (λ opened.
     omega (arith, less, ap (λ h. h.epoch) in_first.1, ap (λ h. h.epoch) in_second.1)))
 both_used c first second chosen false in_first in_second order is =
     let same : chosen ≡ (0, first) = cc is in
     let least : second.epoch ≤ first.epoch = ltb-false first.epoch second.epoch order in
-    subst (IsUsed c) (sym same) (first_used c first in_first (λ opened.
+    subst (IsUsed c) (sym same) (is_used c 0 1 first refl in_first (λ opened.
     omega (arith, least, ap (λ h. h.epoch) in_first.1, ap (λ h. h.epoch) in_second.1)))
 
 chosen_used : (c : Content) (first second : Option Head) (chosen : ℕ × Head) → IsFound c 0 first → IsFound c 1 second
@@ -95,10 +81,10 @@ chosen_used : (c : Content) (first second : Option Head) (chosen : ℕ × Head) 
 chosen_used c None None chosen in_first in_second is = absurd cc
 chosen_used c (Some first) None chosen in_first in_second is =
     let same : chosen ≡ (0, first) = cc is in
-    subst (IsUsed c) (sym same) (first_used c first in_first (λ opened. absurd (clash opened in_second)))
+    subst (IsUsed c) (sym same) (is_used c 0 1 first refl in_first (λ opened. absurd (clash opened in_second)))
 chosen_used c None (Some second) chosen in_first in_second is =
     let same : chosen ≡ (1, second) = cc is in
-    subst (IsUsed c) (sym same) (second_used c second in_second (λ opened. absurd (clash opened in_first)))
+    subst (IsUsed c) (sym same) (is_used c 1 0 second refl in_second (λ opened. absurd (clash opened in_first)))
 chosen_used c (Some first) (Some second) chosen in_first in_second is =
     both_used c first second chosen (nat_lt first.epoch second.epoch) in_first in_second refl is
 

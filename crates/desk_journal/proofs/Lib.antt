@@ -1,4 +1,3 @@
-pub mod Both
 pub mod Chaining
 pub mod Choosing
 pub mod Failing

@@ -1,23 +1,26 @@
 -- Reading a slot: its journal, event by event, and what the disk shows then.
-use Rattle.std.proofs.Common.{◌≡◌, ◌⊎◌, inl, inr, ℕ, ◌+◌, ◌<◌, ◌≤◌, List, []}
+use Rattle.std.proofs.Common.{◌≡◌, ◌⊎◌, inl, inr, ℕ, ◌+◌, ◌*◌, ◌<◌, ◌≤◌, List, [], length}
 use Rattle.std.proofs.Common.{◌∷◌, ◌++◌, length-append, append_assoc}
 use Rattle.std.proofs.Common.{refl, sym, ◌∙◌, ap, subst, arith, true, false}
 use Rattle.std.proofs.lemmas.List.{append-nil}
 use Rattle.std.proofs.lemmas.Bool.{cases_lt}
-use Rattle.sector_disk.specs.Trail.{Content, Trail, now}
+use Rattle.sector_disk.specs.Trail.{Content, Trail, now, Touches, Nowhere}
+use Rattle.sector_disk.proofs.Touching.{still_all, still_settled}
 use Rattle.event_bytes.specs.declared.event.Event.{Event}
 use Rattle.event_bytes.specs.Spelling.{Begins}
 use Rattle.event_loop_laws.specs.Desktop.{Desktop}
 use Rattle.event_loop_laws.specs.Sound.{Grows}
 use Rattle.event_loop_laws.specs.Step.{step}
-use Rattle.store_layout.specs.declared.layout.TheConstants.{JOURNAL_EVENTS, LABEL, STORE_SECTORS}
-use Rattle.store_layout.specs.Layout.{is_label, is_open, slot_gate, slot_head, gate, body, head}
-use Rattle.store_layout.specs.Meaning.{IsJournal, HasImage, Stands}
-use Rattle.store_layout.specs.Footprint.{IsLedTo, IsInUse}
-use Rattle.store_layout.specs.Finding.{IsNoEvent, AreHeadsGood, AreShut, HasBadHead, IsDamage}
-use Rattle.store_layout.specs.Kept.{IsKept}
-use Rattle.desk_journal.specs.Load.{IsReadTo, IsReadWhole}
-use Rattle.desk_journal.proofs.Recording.{steps_on}
+use Rattle.desk_image.specs.declared.limits.TheConstants.{SECTOR_BYTES}
+use Rattle.store_layout.specs.declared.head.Head.{Head}
+use Rattle.store_layout.specs.declared.layout.TheConstants.{JOURNAL_EVENTS}
+use Rattle.store_layout.specs.Layout.{is_open, slot_gate, slot_head, gate, body, image_at, head}
+use Rattle.store_layout.specs.Meaning.{IsJournal, HasImage, Standing, Stands, Shows}
+use Rattle.store_layout.specs.Footprint.{IsLedTo}
+use Rattle.store_layout.specs.Finding.{IsNoEvent, AreShut, HasBadHead, IsDamage, IsDamagedAt}
+use Rattle.store_layout.specs.Kept.{IsKept, IsFront}
+use Rattle.desk_journal.specs.Load.{IsLocated, IsReadTo, IsReadWhole}
+use Rattle.desk_journal.proofs.Recording.{steps_on, front_longer}
 
 -- ---- the journal
 
@@ -87,39 +90,107 @@ grown_on old mid new first second = (
 
 -- ---- the whole
 
--- a slot in use over good heads, with its image and its journal
-pub loaded : (size slot number count : ℕ) (c : Content) (start desktop : Desktop) → STORE_SECTORS ≤ size
-    → is_label (c LABEL) ≡ true → IsInUse c slot → AreHeadsGood c → (head c slot).epoch ≡ number
-    → HasImage c slot start → IsReadWhole c slot count start desktop
-    → (disk : Trail) → ((n : ℕ) → (now disk).pending n ≡ false) → (now disk).reads ≡ c
-    → IsKept size disk slot number count desktop
-loaded size slot number count c start desktop large label used heads epoch image whole disk quiet is = record {
-  standing = record { slot = slot; epoch = number; start = start; events = whole.events };
-  settled = record {
-    quiet = quiet;
-    stands = subst (λ r. Stands size r (record { slot = slot; epoch = number; start = start; events = whole.events }))
-        (sym is) (record {
-          large = large;
-          label = label;
-          two = used.two;
-          live = used.opened;
-          good = heads slot used.two used.opened;
-          epoch = epoch;
-          other = λ idle sum opened. (
-            heads idle (omega (arith, sum)) opened,
-            subst (λ n. (head c idle).epoch < n + idle) epoch (used.other idle sum opened),
-          );
-          image = image;
-          journal = whole.journal;
-        });
-  };
-  slot = refl;
-  epoch = refl;
-  events = whole.long;
-  is = sym whole.is;
-}
-
 -- no slot is open, or the head of one that is open is bad
 pub slot_damage : (c : Content) (n : ℕ)
     → ((n ≡ slot_gate 0) × AreShut c) ⊎ ((slot : ℕ) × (n ≡ slot_head slot) × HasBadHead c slot) → IsDamage c n
 slot_damage c n found = elim found [ inl shut ↦ inl shut | inr bad ↦ inr (inl bad) ]
+
+module _ {size slot : ℕ} {h : Head} {old mid : Trail} (found : IsLocated size (now old).reads slot h)
+    (first : Touches Nowhere old mid) where
+  -- what the reads of its head and of others find in the slot
+  found_there : (P : Content → Type 0) → (head (now mid).reads slot ≡ h → P (now mid).reads) → P (now old).reads
+  found_there P has = subst (λ c. head c slot ≡ h → P c) (still_all old mid first) has found.is
+
+  -- the slot has no image
+  pub image_damage : {n : ℕ} → (head (now mid).reads slot ≡ h
+      → (n ≡ image_at slot) × ((start : Desktop) → HasImage (now mid).reads slot start → ⊥))
+      → IsDamagedAt size (now old).reads n
+  image_damage {n = n} none =
+      let bad = found_there (λ c. (n ≡ image_at slot) × ((start : Desktop) → HasImage c slot start → ⊥)) none in
+      record {
+        large = found.large;
+        label = found.label;
+        damage = inr (inr (inl (slot, bad.0, record { heads = found.heads; used = found.used; none = bad.1 })));
+      }
+
+  module _ {start : Desktop} (has : head (now mid).reads slot ≡ h → HasImage (now mid).reads slot start) {late : Trail}
+      (second : Touches Nowhere mid late) where
+    image : HasImage (now old).reads slot start
+    image = found_there (λ c. HasImage c slot start) has
+
+    same : (now late).reads ≡ (now old).reads
+    same = still_all mid late second ∙ still_all old mid first
+
+    -- a body under an open gate is no event
+    pub body_damage : {n : ℕ} → ((k : ℕ) × (n ≡ body slot k) × IsNoEvent (now late).reads slot k)
+        → IsDamagedAt size (now old).reads n
+    body_damage bad = record {
+      large = found.large;
+      label = found.label;
+      damage = inr (inr (inr (
+        slot,
+        bad.0,
+        bad.1,
+        record {
+          heads = found.heads;
+          used = found.used;
+          start = start;
+          image = image;
+          body_is = subst (λ c. IsNoEvent c slot bad.0) same bad.2;
+        },
+      )));
+    }
+
+    -- its journal was read whole
+    module _ {count : ℕ} {desktop : Desktop} (whole : IsReadWhole (now late).reads slot count start desktop) where
+      abbrev standing : Standing
+      standing = record { slot = slot; epoch = h.epoch; start = start; events = whole.events }
+
+      epoch : (head (now old).reads slot).epoch ≡ h.epoch
+      epoch = ap (λ x. x.epoch) found.is
+
+      stands : Stands size (now old).reads standing
+      stands = record {
+        large = found.large;
+        label = found.label;
+        two = found.used.two;
+        live = found.used.opened;
+        good = found.heads slot found.used.two found.used.opened;
+        epoch = epoch;
+        other = λ idle sum opened. (
+          found.heads idle (omega (arith, sum)) opened,
+          subst (λ n. (head (now old).reads idle).epoch < n + idle) epoch (found.used.other idle sum opened),
+        );
+        image = image;
+        journal = subst (λ c. IsJournal c slot 0 whole.events) same whole.journal;
+      }
+
+      pub shows : Shows size h.epoch count desktop (now old).reads
+      shows = record { standing = standing; stands = stands; epoch = refl; events = whole.long; is = sym whole.is }
+
+      pub loaded : {last : Trail} → Touches Nowhere late last → ((n : ℕ) → (now mid).pending n ≡ false)
+          → IsKept size last slot h.epoch count desktop
+      loaded {last = last} third quiet = record {
+        standing = standing;
+        settled = record {
+          quiet = λ n. still_settled late last third n (λ none. none)
+              (still_settled mid late second n (λ none. none) (quiet n));
+          stands = subst (λ c. Stands size c standing) (sym (still_all late last third ∙ same)) stands;
+        };
+        slot = refl;
+        epoch = refl;
+        events = whole.long;
+        is = sym whole.is;
+      }
+
+-- the characters in the area, where more were written and the disk was only read
+pub front_after : {old mid late last : Trail} {slot saved : ℕ} {h : Head} {characters more : List ℕ}
+    → head (now old).reads slot ≡ h → Touches Nowhere old mid → Touches Nowhere mid late → Touches Nowhere late last
+    → (head (now mid).reads slot ≡ h → IsFront (now mid).reads slot saved characters)
+    → SECTOR_BYTES * saved ≤ length characters → Grows characters more → IsFront (now last).reads slot saved more
+front_after {old = old} {mid = mid} {late = late} {last = last} {slot = slot} {saved = saved} {h = h}
+    {characters = characters} {more = more} is first second third has within grows =
+    front_longer (now last).reads slot saved characters more within grows
+    (subst (λ c. IsFront c slot saved characters)
+    (sym (still_all late last third ∙ still_all mid late second))
+    (has (ap (λ c. head c slot) (still_all old mid first) ∙ is)))

@@ -16,17 +16,22 @@ use Rattle.store_layout.specs.declared.head.Head.{Head}
 use Rattle.store_layout.specs.declared.layout.TheConstants.{LAYOUT, SLOTS}
 use Rattle.store_layout.specs.Layout.{is_open, slot_head, gate, image_at, area_at, head, head_of, IsGoodHead}
 use Rattle.store_layout.specs.Meaning.{Makes, full_sectors, left_over}
-use Rattle.store_layout.specs.Kept.{HasFront, IsFront, IsNewSlot}
+use Rattle.store_layout.specs.Kept.{HasFront, IsNewSlot}
 use Rattle.store_layout.specs.StandingLaws.{has_front_stays}
+use Rattle.desk_journal.specs.Written.{IsFilled}
 
--- a desktop that is kept has as many characters as it is seen to have
-count_seen : (characters : List ℕ) (d : KeptDesktop) → (seen characters d).written ≡ d.written
+as_kept : (characters : List ℕ) (d : KeptDesktop) → (seen characters d).written ≡ d.written
 unfolding seen
-count_seen characters d = refl
+as_kept characters d = refl
+
+-- as many characters were written as there are
+pub all_written : (characters : List ℕ) (d : KeptDesktop) → IsOver characters d
+    → (seen characters d).written ≡ length characters
+all_written characters d over = as_kept characters d ∙ sym over.counted
 
 -- the area has room for them
 pub few_characters : (characters : List ℕ) (d : KeptDesktop) → IsOver characters d → length characters ≤ most_written
-few_characters characters d over = subst (λ n. n ≤ most_written) (count_seen characters d ∙ sym over.counted)
+few_characters characters d over = subst (λ n. n ≤ most_written) (all_written characters d over)
     (over.whole.sound characters).written_within
 
 module _ (first second third last : Moment) (slot number extent count : ℕ) (d : KeptDesktop) (characters : List ℕ)
@@ -44,7 +49,7 @@ module _ (first second third last : Moment) (slot number extent count : ℕ) (d 
     (head_written : second ≡ written first (slot_head slot) head_bytes)
     (gate_written : third ≡ written second (gate slot 0) shut) (synced : last ≡ settled third) where
   all_counted : count ≡ length characters
-  all_counted = count_is ∙ count_seen characters d ∙ sym over.counted
+  all_counted = count_is ∙ all_written characters d over
 
   abbrev new_head : Head
   new_head = record { version = LAYOUT; epoch = number; written = length characters; extent = extent }
@@ -95,8 +100,8 @@ module _ (first second third last : Moment) (slot number extent count : ℕ) (d 
         ∙ ap (λ l. seen l d) (take-append-drop (SECTOR_BYTES * full_sectors (length characters)) characters);
   }
 
-  pub slot_written : IsNewSlot last.reads slot number (seen characters d)
-  slot_written = record {
+  fresh : IsNewSlot last.reads slot number (seen characters d)
+  fresh = record {
     good = subst IsGoodHead (sym here) (record {
       version = refl;
       epoch = from_one;
@@ -112,5 +117,9 @@ module _ (first second third last : Moment) (slot number extent count : ℕ) (d 
     journal = ap is_open (ap (λ m. m.reads (gate slot 0)) behind ∙ reads_here second (gate slot 0) shut) ∙ is_shut;
   }
 
-  pub front_written : IsFront last.reads slot (full_sectors (length characters)) characters
-  front_written = record { named = ap (λ h. full_sectors h.written) here; same = area_now }
+  pub slot_filled : IsFilled last slot number characters (seen characters d)
+  slot_filled = record {
+    quiet = λ n. ap (λ m. m.pending n) synced;
+    new = fresh;
+    front = record { named = ap (λ h. full_sectors h.written) here; same = area_now };
+  }

@@ -2,6 +2,8 @@
 use Rattle.std.proofs.Common.{◌≡◌, ◌≢◌, ◌⊎◌, inl, inr, ℕ, ◌+◌, ◌*◌, ◌<◌, ◌≤◌, List, [], ◌∷◌, ◌++◌, length, take}
 use Rattle.std.proofs.Common.{length-append, refl, sym, ◌∙◌, ap, subst, arith, true, false}
 use Rattle.std.proofs.lemmas.List.{take-append-le}
+use Rattle.sector_disk.specs.declared.disk.Disk.{Ghosts}
+use Rattle.sector_disk.specs.Confined.{IsConfined}
 use Rattle.sector_disk.specs.Trail.{Content, Trail, now, LeavesOnly, Touches, Only, Nowhere}
 use Rattle.sector_disk.proofs.Touching.{spared, weakened, chained, at_last, still_reads}
 use Rattle.event_bytes.specs.declared.event.Event.{Event}
@@ -13,9 +15,10 @@ use Rattle.desk_image.specs.declared.limits.TheConstants.{SECTOR_BYTES}
 use Rattle.store_layout.specs.declared.layout.TheConstants.{JOURNAL_EVENTS, LABEL, SLOTS}
 use Rattle.store_layout.specs.Bits.{true_or_false}
 use Rattle.store_layout.specs.Layout.{is_open, slot_gate, slot_head, gate, body, image_at, area_at}
-use Rattle.store_layout.specs.Meaning.{IsJournal, Standing, desktop_of, Stands, MeansEither, and_then}
+use Rattle.store_layout.specs.Meaning.{IsJournal, Standing, desktop_of, Stands, Means, MeansEither, and_then}
 use Rattle.store_layout.specs.Kept.{IsSettled, IsKept, IsFront, NextRecord, IsStaged}
 use Rattle.store_layout.specs.StandingLaws.{IsApart, carried_on, footprint, front_stays, older_stays}
+use Rattle.desk_journal.specs.Written.{HasRecord}
 use Rattle.desk_journal.proofs.Settling.{kept_on, means_on}
 
 -- one event more
@@ -167,36 +170,34 @@ module _ (size : ℕ) (old new : Trail) (s : Standing) (event : Event) (k : ℕ)
   }
 
 -- ---- both, one after the other
-module _ (size : ℕ) (d : Trail) (live number count : ℕ) (event : Event) (desktop : Desktop)
+module _ {size : ℕ} {d : Trail} {live number count : ℕ} {desktop : Desktop}
     (kept : IsKept size d live number count desktop) (room : count < JOURNAL_EVENTS) where
   abbrev s : Standing
   s = kept.standing
 
-  module _ (first : Trail) (stages : Touches (NextRecord live count) d first) where
+  module _ {first : Trail} (stages : Touches (NextRecord live count) d first) where
     here : LeavesOnly d first (λ c. Stands size c s)
     here = staging size d first s count (sym kept.events) room kept.settled
         (subst (λ n. Touches (NextRecord n count) d first) (sym kept.slot) stages)
 
-    pub one_call : LeavesOnly d first (MeansEither size desktop (step desktop event).0)
-    one_call = weakened here (λ c stands. inl (s, stands, kept.is))
+    pub one_call : (event : Event) → LeavesOnly d first (MeansEither size desktop (step desktop event).0)
+    one_call event = weakened here (λ c stands. inl (s, stands, kept.is))
 
-    module _ (quiet : (n : ℕ) → (now first).pending n ≡ false)
-        (begins : Begins ((now first).reads (body live count)) event)
-        (closed : count + 1 < JOURNAL_EVENTS → is_open ((now first).reads (gate live (count + 1))) ≡ false)
-        (new : Trail) (seals : Touches (Only (gate live count)) first new) where
+    module _ {event : Event} {new : Trail} (has : HasRecord (now first) live count event)
+        (seals : Touches (Only (gate live count)) first new) where
       staged : IsStaged size first s event count
       staged = record {
-        settled = record { quiet = quiet; stands = at_last here (now first).reads (λ n settled. refl) };
-        begins = subst (λ n. Begins ((now first).reads (body n count)) event) (sym kept.slot) begins;
+        settled = record { quiet = has.quiet; stands = at_last here (now first).reads (λ n settled. refl) };
+        begins = subst (λ n. Begins ((now first).reads (body n count)) event) (sym kept.slot) has.begins;
         closed = λ more. subst (λ n. is_open ((now first).reads (gate n (count + 1))) ≡ false) (sym kept.slot)
-            (closed more);
+            (has.closed more);
       }
 
       seals_here : Touches (Only (gate s.slot count)) first new
       seals_here = subst (λ n. Touches (Only (gate n count)) first new) (sym kept.slot) seals
 
       pub both_calls : LeavesOnly d new (MeansEither size desktop (step desktop event).0)
-      both_calls = chained one_call (sealing size first new s event count desktop
+      both_calls = chained (one_call event) (sealing size first new s event count desktop
           (sym kept.events) room kept.is staged seals_here)
 
       pub recorded : is_open ((now new).reads (gate live count)) ≡ true → ((n : ℕ) → (now new).pending n ≡ false)
@@ -246,21 +247,28 @@ front_longer c live saved old new within grown was = record {
 }
 
 -- ---- reads, and then the record
-module _ (size size' : ℕ) (old mid new : Trail) (live number k : ℕ) (event : Event) (desktop : Desktop)
-    (same : size' ≡ size) (kept : IsKept size old live number k desktop) (reads : Touches Nowhere old mid) where
-  pub kept_then : IsKept size' mid live number k desktop
-  kept_then = subst (λ n. IsKept n mid live number k desktop) (sym same)
-      (kept_on size old mid live number k desktop kept reads)
+module _ {D : Type 0} (d : Ghosts D) {old mid : D} (run : IsConfined d.size d.honest d.trail Nowhere old mid)
+    (honest : d.honest old) {live number k : ℕ} {desktop : Desktop}
+    (kept : IsKept (d.size old) (d.trail old) live number k desktop) where
+  pub kept_then : IsKept (d.size mid) (d.trail mid) live number k desktop
+  kept_then = subst (λ n. IsKept n (d.trail mid) live number k desktop) (sym run.as_large)
+      (kept_on (d.size old) (d.trail old) (d.trail mid) live number k desktop kept (run.moments honest))
 
-  pub read_only : LeavesOnly old mid (MeansEither size desktop (step desktop event).0)
-  read_only = weakened (means_on size old mid live number k desktop kept reads) (λ c means. inl means)
+  pub unrecorded : LeavesOnly (d.trail old) (d.trail mid) (Means (d.size old) desktop)
+  unrecorded = means_on (d.size old) (d.trail old) (d.trail mid) live number k desktop kept (run.moments honest)
 
-  pub read_then : LeavesOnly mid new (MeansEither size' desktop (step desktop event).0)
-      → LeavesOnly old new (MeansEither size desktop (step desktop event).0)
-  read_then run = chained read_only (subst (λ n. LeavesOnly mid new
-      (MeansEither n desktop (step desktop event).0)) same run)
+  module _ (event : Event) where
+    pub read_only : LeavesOnly (d.trail old) (d.trail mid) (MeansEither (d.size old) desktop (step desktop event).0)
+    read_only = weakened unrecorded (λ c means. inl means)
 
-  pub kept_after : (desktop' : Desktop) → desktop' ≡ (step desktop event).0
-      → IsKept size' new live number (k + 1) (step desktop event).0 → IsKept size new live number (k + 1) desktop'
-  kept_after desktop' is after = subst (λ d. IsKept size new live number (k + 1) d) (sym is)
-      (subst (λ n. IsKept n new live number (k + 1) (step desktop event).0) same after)
+    module _ {new : D} where
+      pub read_then : LeavesOnly (d.trail mid) (d.trail new) (MeansEither (d.size mid) desktop (step desktop event).0)
+          → LeavesOnly (d.trail old) (d.trail new) (MeansEither (d.size old) desktop (step desktop event).0)
+      read_then after = chained read_only (subst (λ n. LeavesOnly (d.trail mid) (d.trail new)
+          (MeansEither n desktop (step desktop event).0)) run.as_large after)
+
+      pub kept_after : {desktop' : Desktop} → desktop' ≡ (step desktop event).0
+          → IsKept (d.size mid) (d.trail new) live number (k + 1) (step desktop event).0
+          → IsKept (d.size old) (d.trail new) live number (k + 1) desktop'
+      kept_after is after = subst (λ x. IsKept (d.size old) (d.trail new) live number (k + 1) x) (sym is)
+          (subst (λ n. IsKept n (d.trail new) live number (k + 1) (step desktop event).0) run.as_large after)

@@ -14,6 +14,7 @@ use Rattle.store_layout.specs.declared.head.Head.{Head}
 use Rattle.store_layout.specs.Layout.{area_at, image_at, head}
 use Rattle.store_layout.specs.Meaning.{Makes, HasImage, area_bytes, full_sectors, left_over}
 use Rattle.store_layout.specs.Kept.{IsFront}
+use Rattle.desk_journal.specs.Load.{IsStart}
 
 -- ---- the area
 
@@ -55,6 +56,19 @@ all_taken old tail rest count was room = record {
     front = length-take-le count tail room
 
 -- ---- the slot
+
+-- the start of a slot, by other names of its bytes and of the characters of the area
+pub start_from : {honest honest' : Type 0} {bytes bytes' area area' characters : List ℕ} {written : ℕ} {d : KeptDesktop}
+    → (honest → honest') → (honest → bytes' ≡ bytes) → (honest → area' ≡ area)
+    → IsStart honest' bytes' written area' characters d → IsStart honest bytes written area characters d
+start_from {written = written} {d = d} still bytes area start = record {
+  tail = λ h. start.tail (still h) ∙ (λ i. area h i ++ take (left_over written) (bytes h i));
+  enough = λ h. subst (λ l. left_over written ≤ length l) (bytes h) (start.enough (still h));
+  spelled = λ h. subst (λ l. Spells written (drop (left_over written) l) d) (bytes h) (start.spelled (still h));
+  long = start.long;
+  whole = start.whole;
+  count = start.count;
+}
 
 module _ (c : Content) (slot : ℕ) (h : Head) (is : head c slot ≡ h) where
   -- a desktop of this head

@@ -1,12 +1,11 @@
 -- What a store knows of its disk between two calls, and how it is after them. `d` is what is known of a disk.
-use Rattle.std.proofs.Common.{◌≡◌, ◌*◌, ◌<◌, ◌≤◌, ℕ, List, length, inl, refl, sym, ◌∙◌, ap, subst, arith}
+use Rattle.std.proofs.Common.{◌≡◌, ◌*◌, ◌<◌, ◌≤◌, ℕ, length, inl, sym, ◌∙◌, ap, subst, arith}
 use Rattle.sector_disk.specs.declared.disk.Disk.{Ghosts}
 use Rattle.sector_disk.specs.Confined.{IsConfined}
 use Rattle.sector_disk.specs.Trail.{Content, now, LeavesOnly, Nowhere}
 use Rattle.sector_disk.proofs.Touching.{weakened, chained, still_all}
 use Rattle.event_bytes.specs.declared.event.Event.{Event}
 use Rattle.event_loop_laws.specs.Desktop.{KeptDesktop}
-use Rattle.event_loop_laws.specs.Seen.{seen}
 use Rattle.event_loop_laws.specs.Step.{step}
 use Rattle.desk_image.specs.declared.limits.TheConstants.{SECTOR_BYTES}
 use Rattle.store_layout.specs.declared.layout.TheConstants.{JOURNAL_EVENTS, SLOTS, STORE_SECTORS}
@@ -19,14 +18,6 @@ use Rattle.desk_journal.specs.Live.{shown, IsLive, StaysLive}
 use Rattle.desk_journal.specs.Posting.{LeavesEither, IsStarved}
 use Rattle.desk_journal.specs.View.{StoreView}
 use Rattle.desk_journal.proofs.Settling.{kept_on}
-
-seen_written : (characters : List ℕ) (kept : KeptDesktop) → (seen characters kept).written ≡ kept.written
-unfolding seen
-seen_written characters kept = refl
-
--- as many characters were written as there are
-pub shown_written : (live : LiveDesktop) → IsLive live → (shown live).written ≡ length live.characters
-shown_written live over = seen_written live.characters live.desktop ∙ sym over.counted
 
 -- what a store knows of its disk: room, and where it is honest what stands there
 abbrev Knows : {D : Type 0} → Ghosts D → D → ℕ → ℕ → ℕ → ℕ → LiveDesktop → Type 0

@@ -9,3 +9,5 @@ pub mod Load
 pub mod Run
 pub mod Stops
 pub mod Live
+pub mod Written
+pub mod Words

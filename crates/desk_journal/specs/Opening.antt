@@ -13,6 +13,8 @@ module _ {D : Type 0} (d : Ghosts D) where
   pub record IsOpened (disk : D) (store : StoreView D) : Type 0 where
     pub found : d.honest disk → Shows (d.size disk) store.epoch store.events store.desktop (now (d.trail disk)).reads
     pub durable : IsDurable d store
+    -- and nothing is pending: what was found is on the medium
+    pub settled : d.honest disk → (n : ℕ) → (now (d.trail store.disk)).pending n ≡ false
     pub usable : store.must_reopen ≡ false
 
   -- NotAStore and Damaged: the disk is so

@@ -3,7 +3,7 @@ use Rattle.std.specs.Prelude.{◌≡◌, ◌≤◌, ◌+◌, ℕ, Bool, true, fa
 use Rattle.std.specs.Prelude.{◌∷◌, ◌++◌, length, take, drop, map, filter, Result, Ok, Err, IfOk}
 use Rattle.std.specs.List.{list_any}
 use Rattle.sector_disk.specs.declared.disk.Disk.{Ghosts}
-use Rattle.sector_disk.specs.Trail.{Content, Trail, Leaves}
+use Rattle.sector_disk.specs.Trail.{Content, Trail, Leaves, now}
 use Rattle.event_bytes.specs.declared.event.Event.{Event}
 use Rattle.event_loop_laws.specs.declared.reply.Reply.{Reply}
 use Rattle.event_loop_laws.specs.declared.reply.Reply.TheVariants.{Done}
@@ -153,4 +153,6 @@ pub record IsReopened {D : Type 0} (d : Ghosts D) (calls : List Call) (closed re
   pub counts : d.honest closed.disk
       → (reopened.epoch, reopened.events) ≡ all_counted calls (closed.epoch, closed.events)
   pub durable : IsDurable d reopened
+  -- nothing is pending: it was opened, and not only kept
+  pub settled : d.honest closed.disk → (n : ℕ) → (now (d.trail reopened.disk)).pending n ≡ false
   pub usable : reopened.must_reopen ≡ false

@@ -1,20 +1,17 @@
 //! Loading what a slot starts from: its characters and its desktop. Nothing is written.
 ghost use Rattle.std.specs.Prelude.{◌≡◌, ◌+◌, ◌*◌, ◌<◌, ◌≤◌, ◌++◌, ◌∷◌, [], ℕ, OnOk, IfOk, IsErrOf, length, take, drop};
-ghost use Rattle.sector_disk.specs.Trail.{Nowhere, now};
-ghost use Rattle.sector_disk.specs.Confined.{IsConfined};
-ghost use Rattle.sector_disk.specs.Faults.{FailsAs, OneOf};
+ghost use Rattle.sector_streams.specs.Draining.{IsLoaded, IsOnDisk, bytes_left};
 ghost use Rattle.sector_streams.specs.Stored.{stored};
-ghost use Rattle.event_loop_laws.specs.Desktop.{Desktop as ADesktop, KeptDesktop};
-ghost use Rattle.event_loop_laws.specs.Sound.{IsKeptWhole};
-ghost use Rattle.desk_image.specs.Image.{Spells};
+ghost use Rattle.event_loop_laws.specs.Desktop.{Desktop as ADesktop};
 ghost use Rattle.desk_image.specs.Passing.{OnlyGets};
 ghost use Rattle.desk_image.specs.Streams.{IsImageFault};
 ghost use Rattle.store_layout.specs.Layout.{head as head_at, image_at, IsGoodHead};
-ghost use Rattle.store_layout.specs.Meaning.{HasImage, area_bytes, full_sectors, left_over};
+ghost use Rattle.store_layout.specs.Meaning.{HasImage, area_bytes, full_sectors};
 ghost use Rattle.store_layout.specs.Kept.{IsFront};
 ghost use Rattle.desk_journal.specs.Errors.{OfReplay};
 ghost use Rattle.desk_journal.specs.Live.{shown, IsLive};
-ghost use Rattle.desk_journal.specs.Load.{image_error};
+ghost use Rattle.desk_journal.specs.Load.{image_error, IsAreaRead, IsStart, HasNoStart};
+ghost use Rattle.desk_journal.specs.Words.{Nowhere, now, IsConfined, FailsAs, OneOf};
 
 use crate::Error;
 use crate::live::LiveDesktop;
@@ -51,7 +48,7 @@ fn load_sector<D: Disk>(disk: &mut D, k: u32, characters: &mut CharFile) -> Resu
     ensures read { OnOk result (D.honest disk.old → characters.old ≡ area_bytes (now (D.trail disk.old)).reads k
         → characters.new ≡ area_bytes (now (D.trail disk.old)).reads (k + 1)) }
 {
-    let mut sector = [0; 1024];
+    let mut sector = [0; SECTOR_BYTES as usize];
     disk.read(area_at(k), &mut sector)?;
     characters.append(&sector)?;
     Ok(())
@@ -92,7 +89,7 @@ fn read_tail<S: ByteSource>(
     ensures only { OnlyGets S.honest S.same_ground source.old source.new }
     ensures faults { FailsAs ImageFault.Fault IsImageFault result (S.failures source.old) (S.failures source.new) }
 {
-    let mut tail = [0; 1024];
+    let mut tail = [0; SECTOR_BYTES as usize];
     for i in 0..count {
         match source.get()? {
             Some(byte) => tail[i] = byte,
@@ -110,19 +107,11 @@ fn read_image<S: ByteSource>(
     written: u32,
     characters: &mut CharFile,
 ) -> Result<Desktop, ImageFault>
-    requires long { length characters.old ≡ SECTOR_BYTES * full_sectors written }
-    requires few { written ≤ SECTOR_BYTES * AREA_SECTORS }
-    ensures tail { OnOk result (S.honest source.old
-        → characters.new ≡ characters.old ++ take (left_over written) (S.remaining source.old)) }
-    ensures spelled { IfOk result (λ d. S.honest source.old
-        → Spells written (drop (left_over written) (S.remaining source.old)) d) }
-    ensures enough { OnOk result (S.honest source.old → left_over written ≤ length (S.remaining source.old)) }
-    ensures longer { OnOk result (length characters.new ≡ written) }
-    ensures whole { IfOk result (λ d. IsKeptWhole d) }
-    ensures count { IfOk result (λ d. d.written ≡ written) }
+    requires { IsAreaRead written characters.old }
+    ensures start { IfOk result
+        (IsStart (S.honest source.old) (S.remaining source.old) written characters.old characters.new) }
     ensures damaged { IsErrOf result ImageFault.Damaged → S.honest source.old
-        → left_over written ≤ length (S.remaining source.old)
-        → (d : KeptDesktop) → Spells written (drop (left_over written) (S.remaining source.old)) d → ⊥ }
+        → HasNoStart (S.remaining source.old) written }
     ensures only { OnlyGets S.honest S.same_ground source.old source.new }
     ensures faults { FailsAs ImageFault.Fault IsImageFault result (S.failures source.old) (S.failures source.new) }
 {
@@ -130,37 +119,26 @@ fn read_image<S: ByteSource>(
     Desktop::from_image(alloc, source, written)
 }
 
-/// Reads the image of so many bytes that begins at a sector: the characters at its front, and then its desktop.
+/// Reads an image through its sectors, from where the draining stands.
 fn read_through<D: Disk>(
     alloc: Global,
     disk: &mut D,
-    slot: u32,
-    head: &Head,
+    draining: &mut Draining,
+    written: u32,
     characters: &mut CharFile,
 ) -> Result<Desktop, ImageFault>
-    requires room { STORE_SECTORS ≤ D.size disk.old }
-    requires two { slot < SLOTS }
-    requires good { IsGoodHead head.now }
-    requires long { length characters.old ≡ SECTOR_BYTES * full_sectors head.now.written }
+    requires there { IsOnDisk (D.size disk.old) draining.old }
+    requires loaded { IsLoaded (now (D.trail disk.old)).reads draining.old }
+    requires area { IsAreaRead written characters.old }
     ensures kept { IsConfined D.size D.honest D.trail Nowhere disk.old disk.new }
     ensures faults { FailsAs ImageFault.Fault IsImageFault result (D.failures disk.old) (D.failures disk.new) }
-    ensures tail { OnOk result (D.honest disk.old → characters.new ≡ characters.old ++ take (left_over head.now.written)
-        (stored (now (D.trail disk.old)).reads (image_at slot) head.now.extent)) }
-    ensures spelled { IfOk result (λ d. D.honest disk.old → Spells head.now.written (drop (left_over head.now.written)
-        (stored (now (D.trail disk.old)).reads (image_at slot) head.now.extent)) d) }
-    ensures enough { OnOk result (D.honest disk.old → left_over head.now.written
-        ≤ length (stored (now (D.trail disk.old)).reads (image_at slot) head.now.extent)) }
-    ensures longer { OnOk result (length characters.new ≡ head.now.written) }
-    ensures whole { IfOk result (λ d. IsKeptWhole d) }
-    ensures count { IfOk result (λ d. d.written ≡ head.now.written) }
+    ensures start { IfOk result (IsStart (D.honest disk.old)
+        (bytes_left (now (D.trail disk.old)).reads draining.old) written characters.old characters.new) }
     ensures damaged { IsErrOf result ImageFault.Damaged → D.honest disk.old
-        → left_over head.now.written ≤ length (stored (now (D.trail disk.old)).reads (image_at slot) head.now.extent)
-        → (d : KeptDesktop) → Spells head.now.written (drop (left_over head.now.written)
-        (stored (now (D.trail disk.old)).reads (image_at slot) head.now.extent)) d → ⊥ }
+        → HasNoStart (bytes_left (now (D.trail disk.old)).reads draining.old) written }
 {
-    let mut draining = Draining::new(image_at(slot), head.extent);
-    let mut source = SectorSource::over(disk, &mut draining);
-    read_image(alloc, &mut source, head.written, characters)
+    let mut source = SectorSource::over(disk, draining);
+    read_image(alloc, &mut source, written, characters)
 }
 
 /// Reads all characters of a slot of this head, and then its desktop.
@@ -177,23 +155,15 @@ fn load_start<D: Disk>(
     requires none { characters.old ≡ [] }
     ensures kept { IsConfined D.size D.honest D.trail Nowhere disk.old disk.new }
     ensures faults { FailsAs ImageFault.Fault IsImageFault result (D.failures disk.old) (D.failures disk.new) }
-    ensures tail { OnOk result (D.honest disk.old → characters.new
-        ≡ area_bytes (now (D.trail disk.old)).reads (full_sectors head.now.written) ++ take (left_over head.now.written)
-        (stored (now (D.trail disk.old)).reads (image_at slot) head.now.extent)) }
-    ensures spelled { IfOk result (λ d. D.honest disk.old → Spells head.now.written (drop (left_over head.now.written)
-        (stored (now (D.trail disk.old)).reads (image_at slot) head.now.extent)) d) }
-    ensures enough { OnOk result (D.honest disk.old → left_over head.now.written
-        ≤ length (stored (now (D.trail disk.old)).reads (image_at slot) head.now.extent)) }
-    ensures longer { OnOk result (length characters.new ≡ head.now.written) }
-    ensures whole { IfOk result (λ d. IsKeptWhole d) }
-    ensures count { IfOk result (λ d. d.written ≡ head.now.written) }
+    ensures start { IfOk result (IsStart (D.honest disk.old)
+        (stored (now (D.trail disk.old)).reads (image_at slot) head.now.extent) head.now.written
+        (area_bytes (now (D.trail disk.old)).reads (full_sectors head.now.written)) characters.new) }
     ensures damaged { IsErrOf result ImageFault.Damaged → D.honest disk.old
-        → left_over head.now.written ≤ length (stored (now (D.trail disk.old)).reads (image_at slot) head.now.extent)
-        → (d : KeptDesktop) → Spells head.now.written (drop (left_over head.now.written)
-        (stored (now (D.trail disk.old)).reads (image_at slot) head.now.extent)) d → ⊥ }
+        → HasNoStart (stored (now (D.trail disk.old)).reads (image_at slot) head.now.extent) head.now.written }
 {
     load_area(disk, head.written / SECTOR_BYTES, characters)?;
-    read_through(alloc, disk, slot, head, characters)
+    let mut draining = Draining::new(image_at(slot), head.extent);
+    read_through(alloc, disk, &mut draining, head.written, characters)
 }
 
 /// Loads what a slot of this head starts from.

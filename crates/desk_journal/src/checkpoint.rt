@@ -5,18 +5,19 @@
 //! the journal. After a sync its gate is opened, and a sync follows. Nothing that the slot in use names is written, so
 //! at each moment the disk means the same desktop.
 ghost use Rattle.std.specs.Prelude.{◌≡◌, ◌+◌, ◌*◌, ◌/◌, ◌<◌, ◌≤◌, ◌++◌, true, false, ℕ, List, length, drop, OnOk, IfOk};
-ghost use Rattle.sector_disk.specs.Trail.{LeavesOnly, Only, CountsFault, now};
-ghost use Rattle.sector_disk.specs.Confined.{IsConfined};
 ghost use Rattle.sector_streams.specs.Stored.{stored};
 ghost use Rattle.sector_streams.specs.Filling.{first_sector, most_sectors, SectorsOf, InRange, HasTaken};
 ghost use Rattle.desk_image.specs.Image.{image_of, image_bytes, IsSpellable};
-ghost use Rattle.store_layout.specs.Layout.{is_open, slot_gate, image_at, area_at};
+ghost use Rattle.store_layout.specs.Layout.{slot_gate, image_at, area_at};
 ghost use Rattle.store_layout.specs.Meaning.{Means, full_sectors, left_over};
-ghost use Rattle.store_layout.specs.Kept.{OpenGate, InArea, InCheckpoint, IsNewSlot, IsKept, IsFront, HasFront};
+ghost use Rattle.store_layout.specs.Kept.{OpenGate, InArea, InCheckpoint, HasFront};
 ghost use Rattle.desk_journal.specs.Device.{IsSameDevice};
 ghost use Rattle.desk_journal.specs.Live.{shown, IsLive};
+ghost use Rattle.desk_journal.specs.Written.{HasGate, IsFilled, IsBeside, IsInPlace};
+ghost use Rattle.desk_journal.specs.Words.{LeavesOnly, Only, CountsFault, now, IsConfined};
 
 use crate::live::LiveDesktop;
+use crate::place::Place;
 use desk_image::{IMAGE_BYTES, SECTOR_BYTES, images_have_room};
 use sector_disk::{Disk, Fault};
 use sector_streams::{Filling, SectorSink};
@@ -32,11 +33,9 @@ pub fn close_slot<D: Disk>(disk: &mut D, slot: u32) -> Result<(), Fault>
     requires two { slot < SLOTS }
     ensures kept { IsConfined D.size D.honest D.trail (OpenGate (now (D.trail disk.old)).reads slot) disk.old disk.new }
     ensures cause { CountsFault result (D.failures disk.old) (D.failures disk.new) }
-    ensures closed { OnOk result (D.honest disk.old
-        → is_open ((now (D.trail disk.new)).reads (slot_gate slot)) ≡ false) }
-    ensures quiet { OnOk result (D.honest disk.old → (n : ℕ) → (now (D.trail disk.new)).pending n ≡ false) }
+    ensures closed { OnOk result (D.honest disk.old → HasGate (now (D.trail disk.new)) slot false) }
 {
-    let mut sector = [0; 1024];
+    let mut sector = [0; SECTOR_BYTES as usize];
     disk.read(slot_gate(slot), &mut sector)?;
     if is_open_gate(&sector) {
         disk.write(slot_gate(slot), &closed_gate())?;
@@ -56,9 +55,10 @@ fn write_full<D: Disk>(disk: &mut D, rest: &[u8], saved: u32, i: u32) -> Result<
         → HasFront (now (D.trail disk.old)).reads (saved + i) (front ++ rest.now)
         → HasFront (now (D.trail disk.new)).reads (saved + i + 1) (front ++ rest.now)) }
 {
-    let start = 1024 * i as usize;
-    let mut sector = [0; 1024];
-    sector.copy_from_slice(&rest[start..start + 1024]);
+    let width = SECTOR_BYTES as usize;
+    let start = width * i as usize;
+    let mut sector = [0; SECTOR_BYTES as usize];
+    sector.copy_from_slice(&rest[start..start + width]);
     disk.write(area_at(saved + i), &sector)
 }
 
@@ -79,10 +79,12 @@ fn fill_area<D: Disk>(disk: &mut D, rest: &[u8], saved: u32) -> Result<(), Fault
     Ok(())
 }
 
-/// Puts the image of the desktop after the bytes that were put already, and returns how many bytes it has.
+/// Puts these characters and then the image of the desktop after the bytes that were put already, and returns how many
+/// bytes the image has.
 fn put_through<D: Disk>(
     disk: &mut D,
     filling: &mut Filling,
+    tail: &[u8],
     desktop: &LiveDesktop,
 ) -> Result<u32, Fault>
     requires room { first_sector filling.old + most_sectors filling.old ≤ D.size disk.old }
@@ -95,10 +97,11 @@ fn put_through<D: Disk>(
         × (n ≡ length (image_bytes (image_of desktop.now.desktop)))) }
     ensures taken { OnOk result (D.honest disk.old → (before : List ℕ)
         → HasTaken (now (D.trail disk.old)).reads filling.old before
-        → HasTaken (now (D.trail disk.new)).reads filling.new (before ++ image_bytes (image_of desktop.now.desktop))) }
+        → HasTaken (now (D.trail disk.new)).reads filling.new
+        (before ++ (tail.now ++ image_bytes (image_of desktop.now.desktop)))) }
 {
     let mut sink = SectorSink::over(disk, filling);
-    desktop.put_image(&mut sink)
+    desktop.put_image(tail, &mut sink)
 }
 
 /// Puts the characters that are left over and the image of the desktop into the sectors of a slot, and returns how many
@@ -122,74 +125,59 @@ fn stream<D: Disk>(
 {
     images_have_room();
     let mut filling = Filling::new(image_at(slot), IMAGE_SECTORS);
-    filling.put_over(disk, tail)?;
-    let length = put_through(disk, &mut filling, desktop)?;
+    let length = put_through(disk, &mut filling, tail, desktop)?;
     filling.finish(disk)?;
     Ok(tail.len() as u32 + length)
 }
 
 /// Fills the area and the image of a slot, and returns how many bytes the image has with the characters before it.
-fn fill_slot<D: Disk>(
-    disk: &mut D,
-    desktop: &LiveDesktop,
-    saved: u32,
-    slot: u32,
-) -> Result<u32, Fault>
+fn fill_slot<D: Disk>(disk: &mut D, desktop: &LiveDesktop, place: Place) -> Result<u32, Fault>
     requires room { STORE_SECTORS ≤ D.size disk.old }
-    requires two { slot < SLOTS }
     requires over { IsLive desktop.now }
-    requires saved { SECTOR_BYTES * saved ≤ length desktop.now.characters }
-    ensures kept { IsConfined D.size D.honest D.trail (InCheckpoint slot saved) disk.old disk.new }
+    requires saved { SECTOR_BYTES * place.saved ≤ length desktop.now.characters }
+    ensures kept { IsConfined D.size D.honest D.trail (InCheckpoint place.slot place.saved) disk.old disk.new }
     ensures cause { CountsFault result (D.failures disk.old) (D.failures disk.new) }
     ensures fits { IfOk result (λ n. n ≤ IMAGE_BYTES) }
     ensures spelled { OnOk result (IsSpellable desktop.now.desktop) }
     ensures front { OnOk result (D.honest disk.old
-        → HasFront (now (D.trail disk.old)).reads saved desktop.now.characters
+        → HasFront (now (D.trail disk.old)).reads place.saved desktop.now.characters
         → HasFront (now (D.trail disk.new)).reads (full_sectors (length desktop.now.characters))
         desktop.now.characters) }
-    ensures stored { IfOk result (λ n. D.honest disk.old → stored (now (D.trail disk.new)).reads (image_at slot) n
+    ensures stored { IfOk result (λ n. D.honest disk.old → stored (now (D.trail disk.new)).reads (image_at place.slot) n
         ≡ drop (SECTOR_BYTES * full_sectors (length desktop.now.characters)) desktop.now.characters
         ++ image_bytes (image_of desktop.now.desktop)) }
 {
     let characters = desktop.characters();
-    let full = characters.len() / 1024 * 1024;
-    fill_area(disk, &characters[1024 * saved as usize..], saved)?;
-    stream(disk, &characters[full..], desktop, slot)
+    let width = SECTOR_BYTES as usize;
+    let full = characters.len() / width * width;
+    fill_area(
+        disk,
+        &characters[width * place.saved as usize..],
+        place.saved,
+    )?;
+    stream(disk, &characters[full..], desktop, place.slot)
 }
 
 /// Writes a whole slot behind its closed gate.
-fn write_slot<D: Disk>(
-    disk: &mut D,
-    desktop: &LiveDesktop,
-    saved: u32,
-    slot: u32,
-    epoch: u32,
-) -> Result<(), Fault>
+fn write_slot<D: Disk>(disk: &mut D, desktop: &LiveDesktop, place: Place) -> Result<(), Fault>
     requires room { STORE_SECTORS ≤ D.size disk.old }
-    requires two { slot < SLOTS }
-    requires epoch { 1 ≤ epoch }
     requires over { IsLive desktop.now }
-    requires saved { SECTOR_BYTES * saved ≤ length desktop.now.characters }
-    ensures kept { IsConfined D.size D.honest D.trail (InCheckpoint slot saved) disk.old disk.new }
+    requires saved { SECTOR_BYTES * place.saved ≤ length desktop.now.characters }
+    ensures kept { IsConfined D.size D.honest D.trail (InCheckpoint place.slot place.saved) disk.old disk.new }
     ensures cause { CountsFault result (D.failures disk.old) (D.failures disk.new) }
-    ensures new { OnOk result (D.honest disk.old
-        → HasFront (now (D.trail disk.old)).reads saved desktop.now.characters
-        → IsNewSlot (now (D.trail disk.new)).reads slot epoch (shown desktop.now)) }
-    ensures front { OnOk result (D.honest disk.old
-        → HasFront (now (D.trail disk.old)).reads saved desktop.now.characters
-        → IsFront (now (D.trail disk.new)).reads slot (full_sectors (length desktop.now.characters))
-        desktop.now.characters) }
-    ensures quiet { OnOk result (D.honest disk.old → (n : ℕ) → (now (D.trail disk.new)).pending n ≡ false) }
+    ensures filled { OnOk result (D.honest disk.old
+        → HasFront (now (D.trail disk.old)).reads place.saved desktop.now.characters
+        → IsFilled (now (D.trail disk.new)) place.slot place.epoch desktop.now.characters (shown desktop.now)) }
 {
-    let extent = fill_slot(disk, desktop, saved, slot)?;
+    let extent = fill_slot(disk, desktop, place)?;
     let head = Head {
         version: LAYOUT,
-        epoch,
+        epoch: place.epoch,
         written: desktop.written(),
         extent,
     };
-    disk.write(slot_head(slot), &head.sector())?;
-    disk.write(gate(slot, 0), &closed_gate())?;
+    disk.write(slot_head(place.slot), &head.sector())?;
+    disk.write(gate(place.slot, 0), &closed_gate())?;
     disk.sync()?; // the whole slot, before its gate opens
     Ok(())
 }
@@ -200,43 +188,28 @@ pub fn open_slot<D: Disk>(disk: &mut D, slot: u32) -> Result<(), Fault>
     requires two { slot < SLOTS }
     ensures kept { IsConfined D.size D.honest D.trail (Only (slot_gate slot)) disk.old disk.new }
     ensures cause { CountsFault result (D.failures disk.old) (D.failures disk.new) }
-    ensures opened { OnOk result (D.honest disk.old
-        → is_open ((now (D.trail disk.new)).reads (slot_gate slot)) ≡ true) }
-    ensures quiet { OnOk result (D.honest disk.old → (n : ℕ) → (now (D.trail disk.new)).pending n ≡ false) }
+    ensures opened { OnOk result (D.honest disk.old → HasGate (now (D.trail disk.new)) slot true) }
 {
     disk.write(slot_gate(slot), &open_gate())?;
     disk.sync()?;
     Ok(())
 }
 
-/// Puts the desktop into the other slot, `idle`, under this epoch, and makes that the slot in use. `saved` sectors of
-/// the area hold characters already. It takes no memory.
-pub fn renew<D: Disk>(
-    disk: &mut D,
-    desktop: &LiveDesktop,
-    saved: u32,
-    idle: u32,
-    epoch: u32,
-) -> Result<(), Fault>
+/// Puts the desktop into the other slot, and makes that the slot in use. It takes no memory.
+pub fn renew<D: Disk>(disk: &mut D, desktop: &LiveDesktop, place: Place) -> Result<(), Fault>
     requires room { STORE_SECTORS ≤ D.size disk.old }
-    requires two { idle < SLOTS }
-    requires epoch { 1 ≤ epoch }
     requires over { IsLive desktop.now }
-    requires saved { SECTOR_BYTES * saved ≤ length desktop.now.characters }
+    requires saved { SECTOR_BYTES * place.saved ≤ length desktop.now.characters }
     ensures device { IsSameDevice D.Disk disk.old disk.new }
     ensures cause { CountsFault result (D.failures disk.old) (D.failures disk.new) }
-    ensures any_moment { D.honest disk.old → (live number count : ℕ) → live + idle ≡ 1 → number + 1 ≡ epoch
-        → IsKept (D.size disk.old) (D.trail disk.old) live number count (shown desktop.now)
-        → IsFront (now (D.trail disk.old)).reads live saved desktop.now.characters
+    ensures any_moment { D.honest disk.old → (live number count : ℕ) → IsBeside place (D.size disk.old)
+        (D.trail disk.old) live number count desktop.now.characters (shown desktop.now)
         → LeavesOnly (D.trail disk.old) (D.trail disk.new) (Means (D.size disk.old) (shown desktop.now)) }
-    ensures renewed { OnOk result (D.honest disk.old → (live number count : ℕ) → live + idle ≡ 1 → number + 1 ≡ epoch
-        → IsKept (D.size disk.old) (D.trail disk.old) live number count (shown desktop.now)
-        → IsFront (now (D.trail disk.old)).reads live saved desktop.now.characters
-        → IsKept (D.size disk.old) (D.trail disk.new) idle epoch 0 (shown desktop.now)
-        × IsFront (now (D.trail disk.new)).reads idle (full_sectors (length desktop.now.characters))
-        desktop.now.characters) }
+    ensures renewed { OnOk result (D.honest disk.old → (live number count : ℕ) → IsBeside place (D.size disk.old)
+        (D.trail disk.old) live number count desktop.now.characters (shown desktop.now)
+        → IsInPlace place (D.size disk.old) (D.trail disk.new) desktop.now.characters (shown desktop.now)) }
 {
-    close_slot(disk, idle)?;
-    write_slot(disk, desktop, saved, idle, epoch)?;
-    open_slot(disk, idle)
+    close_slot(disk, place.slot)?;
+    write_slot(disk, desktop, place)?;
+    open_slot(disk, place.slot)
 }

@@ -1,14 +1,14 @@
 //! A new store.
-ghost use Rattle.std.specs.Prelude.{◌≡◌, ◌<◌, ◌≤◌, ℕ, List, [], take, true, false, OnOk};
-ghost use Rattle.sector_disk.specs.Trail.{CountsFault, now};
-ghost use Rattle.sector_disk.specs.Confined.{IsConfined};
+ghost use Rattle.std.specs.Prelude.{◌≡◌, ◌<◌, ◌≤◌, [], length, take, true, false, OnOk};
 ghost use Rattle.event_loop_laws.specs.Desktop.{empty_desktop};
 ghost use Rattle.store_layout.specs.Layout.{is_label, is_open, slot_gate};
 ghost use Rattle.desk_image.specs.Laws.{empty_bytes};
-ghost use Rattle.store_layout.specs.Kept.{IsNewSlot, IsKept, IsFront};
+ghost use Rattle.store_layout.specs.Kept.{IsKept};
+ghost use Rattle.desk_journal.specs.Written.{IsFilled};
+ghost use Rattle.desk_journal.specs.Words.{CountsFault, now, IsConfined};
 
 use crate::checkpoint::open_slot;
-use desk_image::{EMPTY_IMAGE, empty_image};
+use desk_image::{EMPTY_IMAGE, SECTOR_BYTES, empty_image};
 use sector_disk::{Disk, Fault, Sector};
 use store_layout::{
     Head, LABEL, LAYOUT, STORE_SECTORS, closed_gate, gate, image_at, label, slot_gate, slot_head,
@@ -30,10 +30,10 @@ fn close_slots<D: Disk>(disk: &mut D) -> Result<(), Fault>
 
 /// The image of the empty desktop, and then zeros.
 fn first_image() -> Sector
-    ensures { take 27 result ≡ empty_bytes }
+    ensures { take (length empty_bytes) result ≡ empty_bytes }
 {
-    let mut image = [0; 1024];
-    image[..27].copy_from_slice(&EMPTY_IMAGE);
+    let mut image = [0; SECTOR_BYTES as usize];
+    image[..EMPTY_IMAGE.len()].copy_from_slice(&EMPTY_IMAGE);
     image
 }
 
@@ -44,8 +44,7 @@ fn write_start<D: Disk>(disk: &mut D) -> Result<(), Fault>
         (λ n. (n < STORE_SECTORS) × ¬ (n ≡ slot_gate 1)) disk.old disk.new }
     ensures cause { CountsFault result (D.failures disk.old) (D.failures disk.new) }
     ensures label { OnOk result (D.honest disk.old → is_label ((now (D.trail disk.new)).reads LABEL) ≡ true) }
-    ensures start { OnOk result (D.honest disk.old → IsNewSlot (now (D.trail disk.new)).reads 0 1 empty_desktop) }
-    ensures front { OnOk result (D.honest disk.old → IsFront (now (D.trail disk.new)).reads 0 0 []) }
+    ensures start { OnOk result (D.honest disk.old → IsFilled (now (D.trail disk.new)) 0 1 [] empty_desktop) }
 {
     let head = Head {
         version: LAYOUT,

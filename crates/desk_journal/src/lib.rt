@@ -3,8 +3,8 @@
 //! What the sectors mean, `store_layout` says (in words: docs/STORE.md). Each event that is posted goes into the
 //! journal of the slot in use before it is acknowledged: first its body and a closed gate after it, then, after a sync,
 //! its gate is opened, and a sync follows. When the journal is full the desktop goes whole into the other slot
-//! (`checkpoint`). A crash leaves a gate closed or open and nothing in between, so what the disk means is at each moment
-//! the desktop before the event or the one after it.
+//! (`checkpoint`). A crash leaves a gate closed or open and nothing in between, so what the disk means is at each
+//! moment the desktop before the event or the one after it.
 #![tactic(auto)]
 
 mod call;
@@ -15,6 +15,7 @@ mod format;
 mod laws;
 mod live;
 mod load;
+mod place;
 mod reading;
 mod record;
 mod run;

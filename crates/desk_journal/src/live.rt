@@ -1,19 +1,12 @@
 //! The desktop that a store has in memory, with its characters.
-ghost use Rattle.std.specs.Prelude.{◌≡◌, ◌≤◌, ℕ, Ok, IfOk, OnOk, option_map, length};
-ghost use Rattle.sector_disk.specs.Trail.{Nowhere};
-ghost use Rattle.sector_disk.specs.Confined.{IsConfined};
-ghost use Rattle.sector_disk.specs.Faults.{FailsAs};
-ghost use Rattle.event_loop_laws.specs.declared.reply.Reply.TheVariants.{No};
+ghost use Rattle.std.specs.Prelude.{◌≡◌, ◌≤◌, ◌++◌, ℕ, Ok, IfOk, OnOk, option_map, length};
 ghost use Rattle.event_loop_laws.specs.Desktop.{file_of};
-ghost use Rattle.event_loop_laws.specs.Outcome.{IsReply};
-ghost use Rattle.event_loop_laws.specs.Listing.{entries_of};
-ghost use Rattle.event_loop_laws.specs.Shown.{shown_screen};
 ghost use Rattle.event_loop_laws.specs.Sound.{Grows, IsOver};
-ghost use Rattle.event_loop_laws.specs.Step.{step};
 ghost use Rattle.desk_image.specs.Image.{image_of, image_bytes, IsSpellable};
 ghost use Rattle.desk_image.specs.Streams.{Puts};
 ghost use Rattle.desk_journal.specs.Errors.{OfDesktop};
 ghost use Rattle.desk_journal.specs.Live.{shown, IsLive, StaysLive};
+ghost use Rattle.desk_journal.specs.Words.{Nowhere, IsConfined, FailsAs, No, IsReply, entries_of, shown_screen, step};
 
 use crate::Error;
 use crate::reading::read_all;
@@ -58,13 +51,14 @@ impl LiveDesktop {
         self.characters.bytes()
     }
 
-    /// Puts its image, and returns how many bytes that has. It takes no memory.
-    pub fn put_image<K: ByteSink>(&self, sink: &mut K) -> Result<u32, Fault>
+    /// Puts these characters and then its image, and returns how many bytes the image has. It takes no memory.
+    pub fn put_image<K: ByteSink>(&self, tail: &[u8], sink: &mut K) -> Result<u32, Fault>
         requires { IsLive self.now }
         ensures spelled { IfOk result (λ n. IsSpellable self.now.desktop
             × (n ≡ length (image_bytes (image_of self.now.desktop)))) }
-        ensures puts { Puts K.ByteSink result (image_bytes (image_of self.now.desktop)) sink.old sink.new }
+        ensures puts { Puts K.ByteSink result (tail.now ++ image_bytes (image_of self.now.desktop)) sink.old sink.new }
     {
+        sink.put(tail)?;
         self.desktop.put_image(sink)
     }
 

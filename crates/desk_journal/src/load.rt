@@ -1,9 +1,6 @@
 //! Opening a disk: the slot in use, the desktop that it starts from, and the events of its journal.
 ghost use Rattle.std.specs.Prelude.{◌≡◌, ◌*◌, ◌<◌, ◌≤◌, ◌∷◌, [], ℕ, true, false, OnOk, IfOk, IfSome, IfNone, IsErrOf};
 ghost use Rattle.std.specs.Prelude.{length};
-ghost use Rattle.sector_disk.specs.Trail.{Nowhere, now};
-ghost use Rattle.sector_disk.specs.Confined.{IsConfined};
-ghost use Rattle.sector_disk.specs.Faults.{FailsAs, OneOf};
 ghost use Rattle.event_bytes.specs.declared.event.Event.{Event};
 ghost use Rattle.event_bytes.specs.Spelling.{Begins};
 ghost use Rattle.event_loop_laws.specs.Sound.{Grows};
@@ -14,11 +11,12 @@ ghost use Rattle.store_layout.specs.Kept.{IsKept, IsFront};
 ghost use Rattle.desk_journal.specs.Errors.{OfOpen, OfReplay};
 ghost use Rattle.desk_journal.specs.Live.{shown, IsLive};
 ghost use Rattle.desk_journal.specs.Load.{IsReadWhole};
+ghost use Rattle.desk_journal.specs.Words.{Nowhere, now, IsConfined, FailsAs, OneOf};
 
 use crate::Error;
 use crate::characters::load_slot;
 use crate::live::LiveDesktop;
-use crate::slots::{check_label, find_slot};
+use crate::slots::locate;
 use desk_image::SECTOR_BYTES;
 use event_bytes::Event;
 use sector_disk::Disk;
@@ -57,7 +55,7 @@ fn read_event<D: Disk>(disk: &mut D, slot: u32, k: u32) -> Result<Option<Event>,
         × (is_open ((now (D.trail disk.old)).reads (gate slot k)) ≡ true)
         × ((event : Event) → Begins ((now (D.trail disk.old)).reads (body slot k)) event → ⊥) }
 {
-    let mut sector = [0; 1024];
+    let mut sector = [0; SECTOR_BYTES as usize];
     disk.read(gate(slot, k), &mut sector)?;
     if !is_open_gate(&sector) {
         return Ok(None);
@@ -121,12 +119,7 @@ pub fn load<D: Disk>(alloc: Global, disk: &mut D) -> Result<Loaded, Error>
     ensures damaged { (n : ℕ) → IsErrOf result (Error.Damaged n) → D.honest disk.old
         → IsDamagedAt (D.size disk.old) (now (D.trail disk.old)).reads n }
 {
-    disk.sync()?;
-    if disk.sectors() < STORE_SECTORS {
-        return Err(Error::NotAStore);
-    }
-    check_label(disk)?;
-    let (slot, head) = find_slot(disk)?;
+    let (slot, head) = locate(disk)?;
     let mut desktop = load_slot(alloc, disk, slot, &head)?;
     let events = replay(alloc, disk, slot, &mut desktop)?;
     Ok(Loaded {

@@ -1,19 +1,14 @@
 //! The two steps that put an event into the journal.
 ghost use Rattle.std.specs.Prelude.{◌≡◌, ◌+◌, ◌*◌, ◌<◌, ◌≤◌, true, false, ℕ, List, length, Ok, OnOk, IfOk, IsErrOf};
-ghost use Rattle.sector_disk.specs.Trail.{LeavesOnly, Only, CountsFault, now};
-ghost use Rattle.sector_disk.specs.Confined.{IsConfined};
-ghost use Rattle.sector_disk.specs.Faults.{FailsAs};
-ghost use Rattle.event_bytes.specs.Spelling.{Begins};
-ghost use Rattle.event_loop_laws.specs.declared.reply.Reply.TheVariants.{No};
 ghost use Rattle.event_loop_laws.specs.Desktop.{Desktop};
-ghost use Rattle.event_loop_laws.specs.Outcome.{IsReply};
-ghost use Rattle.event_loop_laws.specs.Step.{step};
-ghost use Rattle.desk_journal.specs.Device.{IsSameDevice};
-ghost use Rattle.desk_journal.specs.Errors.{OfDesktop};
 ghost use Rattle.store_layout.specs.Layout.{is_open, gate, body};
-ghost use Rattle.desk_journal.specs.Live.{shown, IsLive};
 ghost use Rattle.store_layout.specs.Meaning.{Means, MeansEither};
 ghost use Rattle.store_layout.specs.Kept.{NextRecord, IsKept, IsFront};
+ghost use Rattle.desk_journal.specs.Device.{IsSameDevice};
+ghost use Rattle.desk_journal.specs.Errors.{OfDesktop};
+ghost use Rattle.desk_journal.specs.Live.{shown, IsLive};
+ghost use Rattle.desk_journal.specs.Words.{LeavesOnly, Only, CountsFault, now, IsConfined, FailsAs, No, IsReply, step};
+ghost use Rattle.desk_journal.specs.Written.{HasRecord};
 
 use crate::Error;
 use crate::live::LiveDesktop;
@@ -50,10 +45,7 @@ fn stage<D: Disk>(disk: &mut D, slot: u32, k: u32, event: &Event) -> Result<(), 
     requires index { k < JOURNAL_EVENTS }
     ensures kept { IsConfined D.size D.honest D.trail (NextRecord slot k) disk.old disk.new }
     ensures cause { CountsFault result (D.failures disk.old) (D.failures disk.new) }
-    ensures begins { OnOk result (D.honest disk.old → Begins ((now (D.trail disk.new)).reads (body slot k)) event.now) }
-    ensures closed { OnOk result (k + 1 < JOURNAL_EVENTS → D.honest disk.old
-        → is_open ((now (D.trail disk.new)).reads (gate slot (k + 1))) ≡ false) }
-    ensures quiet { OnOk result (D.honest disk.old → (n : ℕ) → (now (D.trail disk.new)).pending n ≡ false) }
+    ensures staged { OnOk result (D.honest disk.old → HasRecord (now (D.trail disk.new)) slot k event.now) }
 {
     disk.write(body(slot, k), &body_of(event))?;
     close_next(disk, slot, k)?;

@@ -1,21 +1,20 @@
 //! Which slot of a disk is in use.
 ghost use Rattle.std.specs.Prelude.{◌≡◌, ◌⊎◌, ◌<◌, ◌≤◌, ◌∷◌, [], ℕ, true, false, OnOk, IfOk, IfSome, IfNone, IsErrOf};
-ghost use Rattle.sector_disk.specs.Trail.{Nowhere, now};
-ghost use Rattle.sector_disk.specs.Confined.{IsConfined};
-ghost use Rattle.sector_disk.specs.Faults.{FailsAs, OneOf};
 ghost use Rattle.store_layout.specs.Layout.{is_label, is_open, slot_gate, slot_head, head, IsGoodHead};
-ghost use Rattle.store_layout.specs.Finding.{AreHeadsGood, AreShut, HasBadHead};
+ghost use Rattle.store_layout.specs.Finding.{AreHeadsGood, AreShut, HasBadHead, IsForeign, IsDamagedAt};
 ghost use Rattle.store_layout.specs.Footprint.{IsInUse};
-ghost use Rattle.desk_journal.specs.Load.{IsChosen};
+ghost use Rattle.desk_journal.specs.Load.{IsChosen, IsLocated};
+ghost use Rattle.desk_journal.specs.Words.{Nowhere, now, IsConfined, FailsAs, OneOf};
 
 use crate::Error;
+use desk_image::SECTOR_BYTES;
 use sector_disk::Disk;
 use store_layout::{
     Head, LABEL, SLOTS, STORE_SECTORS, has_label, is_open_gate, slot_gate, slot_head,
 };
 
 /// Tests the label.
-pub fn check_label<D: Disk>(disk: &mut D) -> Result<(), Error>
+fn check_label<D: Disk>(disk: &mut D) -> Result<(), Error>
     requires { STORE_SECTORS ≤ D.size disk.old }
     ensures kept { IsConfined D.size D.honest D.trail Nowhere disk.old disk.new }
     ensures faults { FailsAs Error.Fault (OneOf (Error.Fault ∷ Error.NotAStore ∷ [])) result
@@ -24,7 +23,7 @@ pub fn check_label<D: Disk>(disk: &mut D) -> Result<(), Error>
     ensures foreign { IsErrOf result Error.NotAStore → D.honest disk.old
         → is_label ((now (D.trail disk.old)).reads LABEL) ≡ false }
 {
-    let mut sector = [0; 1024];
+    let mut sector = [0; SECTOR_BYTES as usize];
     disk.read(LABEL, &mut sector)?;
     if !has_label(&sector) {
         return Err(Error::NotAStore);
@@ -49,7 +48,7 @@ fn read_slot<D: Disk>(disk: &mut D, slot: u32) -> Result<Option<Head>, Error>
         × (is_open ((now (D.trail disk.old)).reads (slot_gate slot)) ≡ true)
         × (IsGoodHead (head (now (D.trail disk.old)).reads slot) → ⊥) }
 {
-    let mut sector = [0; 1024];
+    let mut sector = [0; SECTOR_BYTES as usize];
     disk.read(slot_gate(slot), &mut sector)?;
     if !is_open_gate(&sector) {
         return Ok(None);
@@ -82,7 +81,7 @@ fn choose(first: Option<Head>, second: Option<Head>) -> Option<(u32, Head)>
 }
 
 /// The slot in use, and its head.
-pub fn find_slot<D: Disk>(disk: &mut D) -> Result<(u32, Head), Error>
+fn find_slot<D: Disk>(disk: &mut D) -> Result<(u32, Head), Error>
     requires { STORE_SECTORS ≤ D.size disk.old }
     ensures kept { IsConfined D.size D.honest D.trail Nowhere disk.old disk.new }
     ensures faults { FailsAs Error.Fault (λ e. OneOf (Error.Fault ∷ []) e ⊎ ((n : ℕ) × (e ≡ Error.Damaged n))) result
@@ -101,4 +100,28 @@ pub fn find_slot<D: Disk>(disk: &mut D) -> Result<(u32, Head), Error>
         Some(chosen) => Ok(chosen),
         None => Err(Error::Damaged(slot_gate(0))),
     }
+}
+
+/// Finds the slot in use of a store, and its head. It begins with a sync.
+pub fn locate<D: Disk>(disk: &mut D) -> Result<(u32, Head), Error>
+    ensures kept { IsConfined D.size D.honest D.trail Nowhere disk.old disk.new }
+    ensures faults { FailsAs Error.Fault (λ e. OneOf (Error.Fault ∷ Error.NotAStore ∷ []) e ⊎ ((n : ℕ)
+        × (e ≡ Error.Damaged n))) result (D.failures disk.old) (D.failures disk.new) }
+    ensures large { OnOk result (STORE_SECTORS ≤ D.size disk.new) }
+    ensures two { IfOk result (λ x. x.0 < SLOTS) }
+    ensures good { IfOk result (λ x. IsGoodHead x.1) }
+    ensures quiet { OnOk result (D.honest disk.old → (n : ℕ) → (now (D.trail disk.new)).pending n ≡ false) }
+    ensures located { IfOk result (λ x. D.honest disk.old
+        → IsLocated (D.size disk.old) (now (D.trail disk.old)).reads x.0 x.1) }
+    ensures foreign { IsErrOf result Error.NotAStore → D.honest disk.old
+        → IsForeign (D.size disk.old) (now (D.trail disk.old)).reads }
+    ensures damaged { (n : ℕ) → IsErrOf result (Error.Damaged n) → D.honest disk.old
+        → IsDamagedAt (D.size disk.old) (now (D.trail disk.old)).reads n }
+{
+    disk.sync()?;
+    if disk.sectors() < STORE_SECTORS {
+        return Err(Error::NotAStore);
+    }
+    check_label(disk)?;
+    find_slot(disk)
 }

@@ -3,12 +3,7 @@
 //! A clause sees a store as a `StoreView`. What each call promises is said in words, one for an outcome, of
 //! `specs/Opening.antt`, `specs/Posting.antt`, `specs/Checkpointing.antt` and `specs/Looking.antt`.
 ghost use Rattle.std.specs.Prelude.{◌≡◌, ◌<◌, ◌≤◌, ◌↔◌, true, false, Ok, Err, IfOk, IfErr, OnOk, IsErrOf, option_map};
-ghost use Rattle.sector_disk.specs.Trail.{Leaves, now};
-ghost use Rattle.sector_disk.specs.Confined.{IsConfined};
-ghost use Rattle.sector_disk.specs.Faults.{FailsAs};
 ghost use Rattle.event_loop_laws.specs.Desktop.{empty_desktop, file_of};
-ghost use Rattle.event_loop_laws.specs.Listing.{entries_of};
-ghost use Rattle.event_loop_laws.specs.Shown.{shown_screen};
 ghost use Rattle.desk_journal.specs.Device.{IsOnlyRead, IsSameDevice, disk_after, outcome};
 ghost use Rattle.desk_journal.specs.Errors.{OfFormat, OfOpen, OfPost, OfLook, OfCheckpoint};
 ghost use Rattle.desk_journal.specs.Looking.{OnlyLooks};
@@ -18,12 +13,14 @@ ghost use Rattle.desk_journal.specs.Opening.{IsOpened, IsNoStore};
 ghost use Rattle.desk_journal.specs.Posting.{LeavesEither, IsAcknowledged, IsStarved, IsBroken, IsLast, IsWorn};
 ghost use Rattle.desk_journal.specs.Posting.{IsUnusable, TurnsAway};
 ghost use Rattle.desk_journal.specs.View.{IsDurable};
+ghost use Rattle.desk_journal.specs.Words.{Leaves, now, IsConfined, FailsAs, entries_of, shown_screen};
 
 use crate::Error;
 use crate::checkpoint::renew;
 use crate::format::lay_out;
 use crate::live::LiveDesktop;
 use crate::load::load;
+use crate::place::Place;
 use crate::record::record;
 use desk_image::SECTOR_BYTES;
 use event_bytes::{Event, Name};
@@ -215,13 +212,16 @@ impl<D: Disk> Store<D> {
         if self.epoch == LAST_EPOCH {
             return Err(Error::Worn);
         }
-        let idle = 1 - self.slot;
-        let epoch = self.epoch + 1;
+        let place = Place {
+            slot: 1 - self.slot,
+            epoch: self.epoch + 1,
+            saved: self.saved,
+        };
         self.must_reopen = true;
-        renew(&mut self.disk, &self.desktop, self.saved, idle, epoch)?;
+        renew(&mut self.disk, &self.desktop, place)?;
         self.saved = self.desktop.written() / SECTOR_BYTES;
-        self.slot = idle;
-        self.epoch = epoch;
+        self.slot = place.slot;
+        self.epoch = place.epoch;
         self.events = 0;
         self.must_reopen = false;
         Ok(())

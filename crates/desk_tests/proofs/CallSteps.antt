@@ -1,389 +1,277 @@
--- What commands do to a desktop: steps that call them, as another model works them out, proved by computing.
-use Rattle.std.specs.Prelude.{◌≡◌, ◌-◌, ℕ, pos, negsuc, List, [], ◌∷◌, ◌++◌, map, Some, None, codes, refl}
+-- What commands do to a desktop: tables of calls and of what another model works out that they do.
+use Rattle.std.specs.Prelude.{ℕ, ◌+◌, ◌-◌, pos, negsuc, List, [], ◌∷◌, ◌++◌, map, Some, None, codes}
 use Rattle.piece_ring.specs.declared.piece.Look.{Look}
+use Rattle.piece_ring.specs.Text.{Text}
 use Rattle.viewer_tracks.specs.declared.display.Track.TheVariants.{User}
-use Rattle.viewer_tracks.specs.Viewers.{viewer_at}
-use Rattle.viewer_tracks.specs.Edits.{opened, replaced, changed, closed}
-use Rattle.viewer_tracks.specs.Columns.{track_of, after_open, after_close, after_change as columns_changed}
+use Rattle.viewer_tracks.specs.Viewers.{Entry}
 use Rattle.event_bytes.specs.declared.event.Event.TheVariants.{Point}
 use Rattle.event_bytes.specs.declared.keys.Keys.TheVariants.{Middle}
+use Rattle.event_loop_laws.specs.declared.reply.Reply.{Reply}
+use Rattle.event_loop_laws.specs.declared.reply.Reply.TheVariants.{Done, No}
 use Rattle.event_loop_laws.specs.Limits.{no_caret, no_selection, no_command, no_file, full, most_written}
 use Rattle.event_loop_laws.specs.Limits.{wrong_symbol, no_viewer, bad_value, too_low}
-use Rattle.event_loop_laws.specs.Desktop.{Desktop, file_of, held}
-use Rattle.event_loop_laws.specs.Viewers.{opened_at}
-use Rattle.event_loop_laws.specs.Change.{in_look, plain, after_change, insertion, deletion, looks_set, showing}
-use Rattle.event_loop_laws.specs.Keys.{typed, escaped, pressed}
-use Rattle.event_loop_laws.specs.Opening.{menu_line, opening, opening_on, dropped}
-use Rattle.event_loop_laws.specs.Gesture.{area_at, resized, carried, text_position, scrolled_to_row}
-use Rattle.event_loop_laws.specs.Gesture.{scrolled_to_share, drawn_in, copied_to, looks_taken, taken_out}
-use Rattle.event_loop_laws.specs.Gesture.{sent_to_caret, tool_opened, menu_position, pointed}
-use Rattle.event_loop_laws.specs.Step.{filed, marked, settled, raw, step_in, step}
-use Rattle.event_loop_laws.specs.Log.{logged, all_logged}
-use Rattle.event_loop_laws.specs.Call.{value_of, name_of, names_of, number_of as number_called}
-use Rattle.event_loop_laws.specs.Commands.{file_opened, document_opened, log_opened, put_away, brought_back}
-use Rattle.event_loop_laws.specs.Commands.{viewer_copied, log_cleared, directory_logged, files_deleted, stored}
-use Rattle.event_loop_laws.specs.Commands.{look_set, selection_set, searched, commanded, called}
-use Rattle.command_table.specs.Call.{word_begin, called_at}
-use Rattle.command_table.specs.Commands.{commands, command_named}
-use Rattle.command_table.specs.Parameters.{names_on, value, names}
-use Rattle.readers_scanners.specs.Form.{form, symbol}
-use Rattle.readers_scanners.specs.Bytes.{is_blank, is_inside, number_of}
-use Rattle.event_bytes.specs.Bytes.{is_letter, is_digit, is_name_byte}
-use Rattle.std.specs.Fmt.{digits}
-use Rattle.viewer_tracks.specs.Room.{free_row}
-use Rattle.desk_tests.proofs.StepWords.{Case, done, refused, look, entry, viewer, caret, selection, kept, columns}
-use Rattle.desk_tests.proofs.StepWords.{texts_with, viewers_with, replied, wanted}
+use Rattle.event_loop_laws.specs.Desktop.{Desktop}
+use Rattle.event_loop_laws.specs.Change.{in_look, plain}
+use Rattle.event_loop_laws.specs.Opening.{menu_line}
+use Rattle.desk_tests.proofs.StepWords.{Case, done, refused, click, look, chars, entry, viewer, caret, selection, kept}
+use Rattle.desk_tests.proofs.StepWords.{columns, texts_with, edited, scrolled, with_viewer, with_document, without}
+use Prim.Native.String.{String}
 
--- looks
+-- ---- what a call does
+
+-- what is made of a desktop, and the reply
+abbrev pub Outcome : Type 0
+Outcome = Desktop → Desktop × Reply
+
+abbrev pub makes : (Desktop → Desktop) → Outcome
+makes change = λ d. (change d, Done)
+
+abbrev pub says : ℕ → Outcome
+says code = λ d. (d, No code)
+
+-- viewers of the user track; the tool text has the other one
+abbrev pub placed : List Entry → Desktop → Desktop
+placed user d = record d { columns = columns user (entry 0 32 ∷ []) }
+
+-- a document of number n opens in viewer v, or the log under a menu line of number n
+abbrev pub opens : ℕ → ℕ → List Entry → String → Text ℕ → Outcome
+opens n v user name text =
+    makes (λ d. record (placed user (with_document d v n (codes name) text)) { written = d.written + 53 })
+
+abbrev pub log_opens : ℕ → ℕ → (Desktop → Desktop) → Outcome
+log_opens n v place =
+    makes (λ d. record (place (with_viewer d v n (codes "System.Log") 0)) { written = d.written + 60 })
+
+-- the marked viewer is closed, and the one that was kept is gone
+abbrev pub closes : List Entry → ℕ → Outcome
+closes user top = makes (λ d. record (placed user (without d (6 ∷ []) (3 ∷ []))) {
+  caret = None;
+  selections = [];
+  kept = kept 1 User top;
+})
+
+-- these viewers, of which one was kept; a copy of the marked one, with a menu line of number n
+abbrev pub recalls : List Entry → Outcome
+recalls user = makes (λ d. record (placed user d) { kept = None })
+
+abbrev pub copies : ℕ → ℕ → List Entry → Outcome
+copies n v user = makes (λ d. placed user (with_viewer d v n (codes "A.T") 3))
+
+-- the log is empty; it has other characters, so many more than before, and is shown from a position on
+abbrev pub clears : Outcome
+clears = makes (λ d. record d { texts = texts_with d 0 [] })
+
+abbrev pub logged : String → ℕ → ℕ → Desktop → Desktop
+logged log more org d =
+    scrolled (record d { texts = texts_with d 0 (chars log); written = d.written + more }) 2 org
+
+-- the log has the list of two files; the document is stored, and the log says so
+abbrev pub lists : Outcome
+lists = makes (logged "log\rA.T 3\rB.T 7\r" 12 10)
+
 abbrev pub low : Look
 low = look 1 3 (negsuc 4)
 
-abbrev pub next_look : Look
-next_look = look 2 7 (pos 3)
+abbrev pub with_low : Text ℕ
+with_low = chars "text" ++ in_look low (codes "low")
 
--- a call a line
-abbrev pub tool_lines : List ℕ
-tool_lines =
-    codes "Edit.Open A.T\rEdit.Open new\rEdit.Open ^\r" ++
-    codes "Edit.Open *\rEdit.Open 7\rSystem.Open ^\r" ++
-    codes "System.Open \"A.T\"\rSystem.Open new\rSystem.OpenLog\r" ++
-    codes "System.Close\rSystem.Recall\rSystem.Copy\r" ++
-    codes "System.Clear\rSystem.Directory\rSystem.DeleteFiles B.T A.T\r" ++
-    codes "System.DeleteFiles A.T A.T"
+abbrev pub stores : Outcome
+stores = makes (λ d. record (logged "log\rEdit.Store A.T 14\r" 18 4 d) {
+  files = (codes "A.T", chars "A.T B.T \rA.T x") ∷ (codes "B.T", with_low) ∷ [];
+})
 
--- other calls
-abbrev pub more_lines : List ℕ
+-- the look of the next characters; that of the selected ones
+abbrev pub looks : Look → Outcome
+looks next = makes (λ d. record d { look = next })
+
+abbrev pub changes : Look → Outcome
+changes new = makes (λ d. record d {
+  texts = texts_with d 3 (chars "A.T " ++ in_look new (codes "B.T") ++ chars " \rA.T x");
+  caret = None;
+})
+
+-- ---- calls
+
+-- a line of the tool text, and what its call does to the first desktop and to the second
+abbrev pub Line : Type 0
+Line = String × Outcome × Outcome
+
+-- above the marked viewer, which keeps a row; with no marker at the top of the track
+abbrev pub opens_above : String → Text ℕ → Outcome
+opens_above = opens 7 4 (entry 2 3 ∷ entry 4 3 ∷ entry 1 1 ∷ [])
+
+abbrev pub opens_on_top : String → Text ℕ → Outcome
+opens_on_top = opens 6 3 (entry 2 3 ∷ entry 1 4 ∷ entry 3 25 ∷ [])
+
+abbrev pub lines : List Line
+lines =
+    ("Edit.Open A.T", opens_above "A.T" (chars "old"), opens_on_top "A.T" (chars "old")) ∷
+    ("Edit.Open new", opens_above "new" [], opens_on_top "new" []) ∷
+    ("Edit.Open ^", opens_above "B.T" with_low, says no_selection) ∷
+    ("Edit.Open *", opens_above "A.T" (chars "old"), says no_viewer) ∷
+    ("Edit.Open 7", says wrong_symbol, says wrong_symbol) ∷
+    ("System.Open ^", opens_above "B.T" with_low, says no_selection) ∷
+    ("System.Open \"A.T\"", says wrong_symbol, says wrong_symbol) ∷
+    ("System.Open new", says no_file, says no_file) ∷ (
+      "System.OpenLog",
+      log_opens 7 4 (placed (entry 2 3 ∷ entry 4 3 ∷ entry 1 1 ∷ [])),
+      log_opens 6 3 (λ d. record d {
+        columns = columns (entry 2 3 ∷ entry 1 4 ∷ []) (entry 3 16 ∷ entry 0 16 ∷ []);
+      }),
+    ) ∷
+    ("System.Close", closes (entry 2 3 ∷ []) 7, says no_viewer) ∷
+    ("System.Recall", recalls (entry 2 3 ∷ entry 3 3 ∷ entry 1 1 ∷ []), says no_viewer) ∷
+    ("System.Copy", copies 7 4 (entry 2 3 ∷ entry 4 2 ∷ entry 1 2 ∷ []), says no_viewer) ∷
+    ("System.Clear", clears, clears) ∷
+    ("System.Directory", lists, lists) ∷
+    ("System.DeleteFiles B.T A.T", says no_file, says no_file) ∷
+    ("System.DeleteFiles A.T A.T", says no_file, says no_file) ∷
+    []
+
+abbrev pub more_lines : List Line
 more_lines =
-    codes "System.DeleteFiles ^\rSystem.DeleteFiles 1\rSystem.SetFont Oberon8.Scn.Fnt\r" ++
-    codes "System.SetFont Oberon9\rSystem.SetColor 16\rSystem.SetColor 3\r" ++
-    codes "System.SetOffset -64\rEdit.ChangeColor 0\rEdit.ChangeFont *\r" ++
-    codes "Edit.ChangeOffset 64\rEdit.Store\rEdit.Search\r" ++
-    codes "Edit.Recall\rxSystem.Clear (System.Clear)\rEdit.ChangeOffset 5"
+    ("System.DeleteFiles ^", says no_file, says no_selection) ∷
+    ("System.DeleteFiles 1", says wrong_symbol, says wrong_symbol) ∷
+    ("System.SetFont Oberon8.Scn.Fnt", looks (look 3 7 (pos 3)), looks (look 3 7 (pos 3))) ∷
+    ("System.SetFont Oberon9", says bad_value, says bad_value) ∷
+    ("System.SetColor 16", says bad_value, says bad_value) ∷
+    ("System.SetColor 3", looks (look 2 3 (pos 3)), looks (look 2 3 (pos 3))) ∷
+    ("System.SetOffset -64", looks (look 2 7 (negsuc 63)), looks (look 2 7 (negsuc 63))) ∷
+    ("Edit.ChangeColor 0", changes (look 0 0 (pos 0)), says no_selection) ∷
+    ("Edit.ChangeFont *", says bad_value, says no_viewer) ∷
+    ("Edit.ChangeOffset 64", says bad_value, says bad_value) ∷
+    ("Edit.Store", stores, says no_viewer) ∷
+    ("Edit.Search", makes (λ d. record d { caret = caret 1 7; pattern = codes "B.T" }), says no_viewer) ∷ (
+      "Edit.Recall",
+      makes (λ d. scrolled (edited d 3 (chars "Ade\r.T B.T \rA.T x") (caret 1 4) []) 3 4),
+      says no_caret,
+    ) ∷
+    ("xSystem.Clear (System.Clear)", says no_command, says no_command) ∷
+    ("Edit.ChangeOffset 5", changes (look 0 15 (pos 5)), says no_selection) ∷
+    []
+
+-- ---- desktops
+
+-- the lines as a text
+abbrev pub joined : List Line → List ℕ
+joined [] = []
+joined (one ∷ []) = codes one.0
+joined (one ∷ next ∷ rest) = codes one.0 ++ codes "\r" ++ joined (next ∷ rest)
 
 -- A text of calls, a document in which stand caret, newest selection and marker, the log, and a viewer that is kept.
 abbrev pub with_all : Desktop
 with_all = record {
-  texts = (0, plain (codes "log\r")) ∷ (1, plain tool_lines) ∷ (2, plain (codes "Tool")) ∷
-      (3, plain (codes "A.T B.T \rA.T x")) ∷ (4, plain (menu_line (codes "A.T"))) ∷ (5, plain (codes "Log")) ∷
-      (6, plain (codes "Kept")) ∷ [];
+  texts = (0, chars "log\r") ∷ (1, plain (joined lines)) ∷ (2, chars "Tool") ∷ (3, chars "A.T B.T \rA.T x") ∷
+      (4, plain (menu_line (codes "A.T"))) ∷ (5, chars "Log") ∷ (6, chars "Kept") ∷ [];
   viewers = (0, viewer 2 1 0) ∷ (1, viewer 4 3 0) ∷ (2, viewer 5 0 0) ∷ (3, viewer 6 3 8) ∷ [];
   columns = columns (entry 2 3 ∷ entry 1 4 ∷ []) (entry 0 32 ∷ []);
   caret = caret 1 1;
   selections = selection 1 4 7 ∷ [];
   marker = Some (3, 5);
   kept = kept 3 User 6;
-  files = (codes "A.T", plain (codes "old")) ∷ (codes "B.T", plain (codes "text") ++ in_look low (codes "low")) ∷ [];
+  files = (codes "A.T", chars "old") ∷ (codes "B.T", with_low) ∷ [];
   copied = [];
-  deleted = plain (codes "de\r");
+  deleted = chars "de\r";
   pattern = codes "x";
-  look = next_look;
+  look = look 2 7 (pos 3);
   written = 200;
 }
 
 -- the same without caret, selection, marker, kept viewer, pattern and deleted characters
 abbrev pub bare : Desktop
-bare = record with_all {
-  texts = (0, plain (codes "log\r")) ∷ (1, plain tool_lines) ∷ (2, plain (codes "Tool")) ∷
-      (3, plain (codes "A.T B.T \rA.T x")) ∷ (4, plain (menu_line (codes "A.T"))) ∷ (5, plain (codes "Log")) ∷ [];
-  viewers = (0, viewer 2 1 0) ∷ (1, viewer 4 3 0) ∷ (2, viewer 5 0 0) ∷ [];
+bare = record (without with_all (6 ∷ []) (3 ∷ [])) {
   caret = None;
   selections = [];
-  marker =
-      None;
+  marker = None;
   kept = None;
   deleted = [];
   pattern = [];
 }
 
+-- with other calls
+abbrev pub calling : List ℕ → Desktop → Desktop
+calling tool d = record d { texts = texts_with d 1 (plain tool) }
+
 -- the document has one row, under the log
 abbrev pub one_row : Desktop
-one_row = record with_all { columns = columns (entry 1 1 ∷ entry 2 3 ∷ []) (entry 0 32 ∷ []); marker = Some (3, 0) }
-
--- with the other calls
-abbrev pub with_other : Desktop
-with_other = record with_all { texts = texts_with with_all 1 (plain more_lines) }
-
--- with the other calls
-abbrev pub bare_other : Desktop
-bare_other = record bare { texts = texts_with bare 1 (plain more_lines) }
-
--- each of the first lines is clicked
-abbrev pub calls : List Case
-calls =
-    done with_all (Point Middle 52 30 52 30) (record with_all {
-      texts = with_all.texts ++ (7, plain (codes "old")) ∷ (8, plain (menu_line (codes "A.T"))) ∷ [];
-      viewers = with_all.viewers ++ (4, viewer 8 7 0) ∷ [];
-      columns = columns (entry 2 3 ∷ entry 4 3 ∷ entry 1 1 ∷ []) (entry 0 32 ∷ []);
-      written = 253;
-    }) ∷
-    done with_all (Point Middle 52 29 52 29) (record with_all {
-      texts = with_all.texts ++ (7, []) ∷ (8, plain (menu_line (codes "new"))) ∷ [];
-      viewers = with_all.viewers ++ (4, viewer 8 7 0) ∷ [];
-      columns = columns (entry 2 3 ∷ entry 4 3 ∷ entry 1 1 ∷ []) (entry 0 32 ∷ []);
-      written = 253;
-    }) ∷
-    done with_all (Point Middle 52 28 52 28) (record with_all {
-      texts = with_all.texts ++ (7, plain (codes "text") ++ in_look low (codes "low")) ∷
-          (8, plain (menu_line (codes "B.T"))) ∷ [];
-      viewers = with_all.viewers ++ (4, viewer 8 7 0) ∷ [];
-      columns = columns (entry 2 3 ∷ entry 4 3 ∷ entry 1 1 ∷ []) (entry 0 32 ∷ []);
-      written = 253;
-    }) ∷
-    done with_all (Point Middle 52 27 52 27) (record with_all {
-      texts = with_all.texts ++ (7, plain (codes "old")) ∷ (8, plain (menu_line (codes "A.T"))) ∷ [];
-      viewers = with_all.viewers ++ (4, viewer 8 7 0) ∷ [];
-      columns = columns (entry 2 3 ∷ entry 4 3 ∷ entry 1 1 ∷ []) (entry 0 32 ∷ []);
-      written = 253;
-    }) ∷
-    refused with_all (Point Middle 52 26 52 26) wrong_symbol ∷
-    done with_all (Point Middle 52 25 52 25) (record with_all {
-      texts = with_all.texts ++ (7, plain (codes "text") ++ in_look low (codes "low")) ∷
-          (8, plain (menu_line (codes "B.T"))) ∷ [];
-      viewers = with_all.viewers ++ (4, viewer 8 7 0) ∷ [];
-      columns = columns (entry 2 3 ∷ entry 4 3 ∷ entry 1 1 ∷ []) (entry 0 32 ∷ []);
-      written = 253;
-    }) ∷
-    refused with_all (Point Middle 52 24 52 24) wrong_symbol ∷
-    refused with_all (Point Middle 52 23 52 23) no_file ∷
-    done with_all (Point Middle 52 22 52 22) (record with_all {
-      texts = with_all.texts ++ (7, plain (menu_line (codes "System.Log"))) ∷ [];
-      viewers = with_all.viewers ++ (4, viewer 7 0 0) ∷ [];
-      columns = columns (entry 2 3 ∷ entry 4 3 ∷ entry 1 1 ∷ []) (entry 0 32 ∷ []);
-      written = 260;
-    }) ∷
-    done with_all (Point Middle 52 21 52 21) (record with_all {
-      texts = (0, plain (codes "log\r")) ∷ (1, plain tool_lines) ∷ (2, plain (codes "Tool")) ∷
-          (3, plain (codes "A.T B.T \rA.T x")) ∷ (4, plain (menu_line (codes "A.T"))) ∷ (5, plain (codes "Log")) ∷ [];
-      viewers = (0, viewer 2 1 0) ∷ (1, viewer 4 3 0) ∷ (2, viewer 5 0 0) ∷ [];
-      columns = columns (entry 2 3 ∷ []) (entry 0 32 ∷ []);
-      caret = None;
-      selections = [];
-      kept = kept 1 User 7;
-    }) ∷
-    done with_all (Point Middle 52 20 52 20) (record with_all {
-      columns = columns (entry 2 3 ∷ entry 3 3 ∷ entry 1 1 ∷ []) (entry 0 32 ∷ []);
-      kept = None;
-    }) ∷
-    done with_all (Point Middle 52 19 52 19) (record with_all {
-      texts = with_all.texts ++ (7, plain (menu_line (codes "A.T"))) ∷ [];
-      viewers = with_all.viewers ++ (4, viewer 7 3 0) ∷ [];
-      columns = columns (entry 2 3 ∷ entry 4 2 ∷ entry 1 2 ∷ []) (entry 0 32 ∷ []);
-    }) ∷
-    done with_all (Point Middle 52 18 52 18) (record with_all { texts = texts_with with_all 0 [] }) ∷
-    done with_all (Point Middle 52 17 52 17) (record with_all {
-      texts = texts_with with_all 0 (plain (codes "log\rA.T 3\rB.T 7\r"));
-      viewers = viewers_with with_all 2 (viewer 5 0 10);
-      written = 212;
-    }) ∷
-    refused with_all (Point Middle 52 16 52 16) no_file ∷
-    refused with_all (Point Middle 52 15 52 15) no_file ∷
-    []
-
--- and each of the others
-abbrev pub more_calls : List Case
-more_calls =
-    refused with_other (Point Middle 52 30 52 30) no_file ∷
-    refused with_other (Point Middle 52 29 52 29) wrong_symbol ∷
-    done with_other (Point Middle 52 28 52 28) (record with_other { look = look 3 7 (pos 3) }) ∷
-    refused with_other (Point Middle 52 27 52 27) bad_value ∷
-    refused with_other (Point Middle 52 26 52 26) bad_value ∷
-    done with_other (Point Middle 52 25 52 25) (record with_other { look = look 2 3 (pos 3) }) ∷
-    done with_other (Point Middle 52 24 52 24) (record with_other { look = look 2 7 (negsuc 63) }) ∷
-    done with_other (Point Middle 52 23 52 23) (record with_other {
-      texts = texts_with with_other 3 (plain (codes "A.T ") ++ in_look (look 0 0 (pos 0)) (codes "B.T") ++
-          plain (codes " \rA.T x"));
-      caret = None;
-    }) ∷
-    refused with_other (Point Middle 52 22 52 22) bad_value ∷
-    refused with_other (Point Middle 52 21 52 21) bad_value ∷
-    done with_other (Point Middle 52 20 52 20) (record with_other {
-      texts = texts_with with_other 0 (plain (codes "log\rEdit.Store A.T 14\r"));
-      viewers = viewers_with with_other 2 (viewer 5 0 4);
-      files = (codes "A.T", plain (codes "A.T B.T \rA.T x")) ∷
-          (codes "B.T", plain (codes "text") ++ in_look low (codes "low")) ∷ [];
-      written = 218;
-    }) ∷
-    done with_other (Point Middle 52 19 52 19) (record with_other { caret = caret 1 7; pattern = codes "B.T" }) ∷
-    done with_other (Point Middle 52 18 52 18) (record with_other {
-      texts = texts_with with_other 3 (plain (codes "Ade\r.T B.T \rA.T x"));
-      viewers = viewers_with with_other 3 (viewer 6 3 4);
-      caret = caret 1 4;
-      selections = [];
-    }) ∷
-    refused with_other (Point Middle 52 17 52 17) no_command ∷
-    done with_other (Point Middle 52 16 52 16) (record with_other {
-      texts = texts_with with_other 3 (plain (codes "A.T ") ++ in_look (look 0 15 (pos 5)) (codes "B.T") ++
-          plain (codes " \rA.T x"));
-      caret = None;
-    }) ∷
-    done with_other (Point Middle 66 17 66 17) (record with_other { texts = texts_with with_other 0 [] }) ∷
-    refused with_other (Point Middle 79 17 79 17) no_command ∷
-    []
-
--- the same where all that is missing
-abbrev pub bare_calls : List Case
-bare_calls =
-    done bare (Point Middle 52 30 52 30) (record bare {
-      texts = bare.texts ++ (6, plain (codes "old")) ∷ (7, plain (menu_line (codes "A.T"))) ∷ [];
-      viewers = bare.viewers ++ (3, viewer 7 6 0) ∷ [];
-      columns = columns (entry 2 3 ∷ entry 1 4 ∷ entry 3 25 ∷ []) (entry 0 32 ∷ []);
-      written = 253;
-    }) ∷
-    done bare (Point Middle 52 29 52 29) (record bare {
-      texts = bare.texts ++ (6, []) ∷ (7, plain (menu_line (codes "new"))) ∷ [];
-      viewers = bare.viewers ++ (3, viewer 7 6 0) ∷ [];
-      columns = columns (entry 2 3 ∷ entry 1 4 ∷ entry 3 25 ∷ []) (entry 0 32 ∷ []);
-      written = 253;
-    }) ∷
-    refused bare (Point Middle 52 28 52 28) no_selection ∷
-    refused bare (Point Middle 52 27 52 27) no_viewer ∷
-    refused bare (Point Middle 52 26 52 26) wrong_symbol ∷
-    refused bare (Point Middle 52 25 52 25) no_selection ∷
-    refused bare (Point Middle 52 24 52 24) wrong_symbol ∷
-    refused bare (Point Middle 52 23 52 23) no_file ∷
-    done bare (Point Middle 52 22 52 22) (record bare {
-      texts = bare.texts ++ (6, plain (menu_line (codes "System.Log"))) ∷ [];
-      viewers = bare.viewers ++ (3, viewer 6 0 0) ∷ [];
-      columns = columns (entry 2 3 ∷ entry 1 4 ∷ []) (entry 3 16 ∷ entry 0 16 ∷ []);
-      written = 260;
-    }) ∷
-    refused bare (Point Middle 52 21 52 21) no_viewer ∷
-    refused bare (Point Middle 52 20 52 20) no_viewer ∷
-    refused bare (Point Middle 52 19 52 19) no_viewer ∷
-    done bare (Point Middle 52 18 52 18) (record bare { texts = texts_with bare 0 [] }) ∷
-    done bare (Point Middle 52 17 52 17) (record bare {
-      texts = texts_with bare 0 (plain (codes "log\rA.T 3\rB.T 7\r"));
-      viewers = viewers_with bare 2 (viewer 5 0 10);
-      written = 212;
-    }) ∷
-    refused bare (Point Middle 52 16 52 16) no_file ∷
-    refused bare (Point Middle 52 15 52 15) no_file ∷
-    []
-
--- and the others
-abbrev pub more_bare_calls : List Case
-more_bare_calls =
-    refused bare_other (Point Middle 52 30 52 30) no_selection ∷
-    refused bare_other (Point Middle 52 29 52 29) wrong_symbol ∷
-    done bare_other (Point Middle 52 28 52 28) (record bare_other { look = look 3 7 (pos 3) }) ∷
-    refused bare_other (Point Middle 52 27 52 27) bad_value ∷
-    refused bare_other (Point Middle 52 26 52 26) bad_value ∷
-    done bare_other (Point Middle 52 25 52 25) (record bare_other { look = look 2 3 (pos 3) }) ∷
-    done bare_other (Point Middle 52 24 52 24) (record bare_other { look = look 2 7 (negsuc 63) }) ∷
-    refused bare_other (Point Middle 52 23 52 23) no_selection ∷
-    refused bare_other (Point Middle 52 22 52 22) no_viewer ∷
-    refused bare_other (Point Middle 52 21 52 21) bad_value ∷
-    refused bare_other (Point Middle 52 20 52 20) no_viewer ∷
-    refused bare_other (Point Middle 52 19 52 19) no_viewer ∷
-    refused bare_other (Point Middle 52 18 52 18) no_caret ∷
-    refused bare_other (Point Middle 52 17 52 17) no_command ∷
-    refused bare_other (Point Middle 52 16 52 16) no_selection ∷
-    []
-
--- calls for a viewer of one row
-abbrev pub low_calls : List Case
-low_calls =
-    done one_row (Point Middle 52 21 52 21) (record one_row {
-      texts = (0, plain (codes "log\r")) ∷ (1, plain tool_lines) ∷ (2, plain (codes "Tool")) ∷
-          (3, plain (codes "A.T B.T \rA.T x")) ∷ (4, plain (menu_line (codes "A.T"))) ∷ (5, plain (codes "Log")) ∷ [];
-      viewers = (0, viewer 2 1 0) ∷ (1, viewer 4 3 0) ∷ (2, viewer 5 0 0) ∷ [];
-      columns = columns (entry 2 4 ∷ []) (entry 0 32 ∷ []);
-      caret = None;
-      selections = [];
-      kept = kept 1 User 1;
-    }) ∷
-    refused one_row (Point Middle 52 19 52 19) too_low ∷
-    []
-
--- a menu is clicked, whatever stands at the marker
-abbrev pub menu_calls : List Case
-menu_calls =
-    refused bare (Point Middle 3 6 1 6) no_command ∷
-    done bare (Point Middle 3 6 7 6) (record bare {
-      columns = columns (entry 2 3 ∷ []) (entry 0 32 ∷ []);
-      kept = kept 1 User 7;
-    }) ∷
-    done bare (Point Middle 3 6 20 6) (record bare {
-      texts = bare.texts ++ (6, plain (menu_line (codes "A.T"))) ∷ [];
-      viewers = bare.viewers ++ (3, viewer 6 3 0) ∷ [];
-      columns = columns (entry 2 3 ∷ entry 3 2 ∷ entry 1 2 ∷ []) (entry 0 32 ∷ []);
-    }) ∷
-    refused bare (Point Middle 3 6 33 6) no_selection ∷
-    done bare (Point Middle 3 6 45 6) (record bare {
-      texts = texts_with bare 0 (plain (codes "log\rEdit.Store A.T 14\r"));
-      viewers = viewers_with bare 2 (viewer 5 0 4);
-      files = (codes "A.T", plain (codes "A.T B.T \rA.T x")) ∷
-          (codes "B.T", plain (codes "text") ++ in_look low (codes "low")) ∷ [];
-      written = 218;
-    }) ∷
-    []
-
--- Lists of files. In the second one the log has four rows, and the third line is the first that doesn't fit.
-abbrev pub with_lists : Desktop
-with_lists = record with_all {
-  texts = texts_with with_all 1 (plain (codes "System.DeleteFiles B.T A.T ~\rSystem.Directory\rEdit.Store"));
-  marker = Some (3, 1);
-}
-
-abbrev pub with_four : Desktop
-with_four = record with_lists {
-  columns = columns (entry 2 5 ∷ entry 1 4 ∷ []) (entry 0 32 ∷ []);
-  files = with_all.files ++ (codes "C.T", []) ∷ (codes "D.T", plain (codes "d")) ∷ [];
-}
-
--- files go, are listed, and the log is stored as it was before the line that says so
-abbrev pub lists : List Case
-lists =
-    done with_lists (Point Middle 52 30 52 30) (record with_lists {
-      texts = texts_with with_lists 0 (plain (codes "log\rSystem.DeleteFiles B.T\rSystem.DeleteFiles A.T\r"));
-      viewers = viewers_with with_lists 2 (viewer 5 0 27);
-      files = [];
-      written = 246;
-    }) ∷
-    done with_four (Point Middle 52 29 52 29) (record with_four {
-      texts = texts_with with_four 0 (plain (codes "log\rA.T 3\rB.T 7\rC.T 0\rD.T 1\r"));
-      viewers = viewers_with with_four 2 (viewer 5 0 10);
-      written = 224;
-    }) ∷
-    done with_lists (Point Middle 52 28 52 28) (record with_lists {
-      texts = texts_with with_lists 0 (plain (codes "log\rEdit.Store Log 4\r"));
-      viewers = viewers_with with_lists 2 (viewer 5 0 4);
-      files = with_all.files ++ (codes "Log", plain (codes "log\r")) ∷ [];
-      written = 217;
-    }) ∷
-    []
+one_row = record (placed (entry 1 1 ∷ entry 2 3 ∷ []) with_all) { marker = Some (3, 0) }
 
 -- with twenty characters left to be written
 abbrev pub nearly_full : Desktop
 nearly_full = record with_all { written = most_written - 20 }
 
--- the limit on what was ever written comes last
-abbrev pub limits : List Case
-limits =
-    refused nearly_full (Point Middle 52 30 52 30) full ∷
-    refused nearly_full (Point Middle 52 23 52 23) no_file ∷
-    refused nearly_full (Point Middle 52 22 52 22) full ∷
-    done nearly_full (Point Middle 52 18 52 18) (record nearly_full { texts = texts_with nearly_full 0 [] }) ∷
-    done nearly_full (Point Middle 52 17 52 17) (record nearly_full {
-      texts = texts_with nearly_full 0 (plain (codes "log\rA.T 3\rB.T 7\r"));
-      viewers = viewers_with nearly_full 2 (viewer 5 0 10);
-      written = most_written - 8;
-    }) ∷
-    refused nearly_full (Point Middle 52 16 52 16) no_file ∷
-    refused nearly_full (Point Middle 52 15 52 15) no_file ∷
+-- Lists of files. In the second one the log has four rows, and the third line is the first that doesn't fit.
+abbrev pub with_lists : Desktop
+with_lists = record (calling (codes "System.DeleteFiles B.T A.T ~\rSystem.Directory\rEdit.Store") with_all) {
+  marker = Some (3, 1);
+}
+
+abbrev pub with_four : Desktop
+with_four = record (placed (entry 2 5 ∷ entry 1 4 ∷ []) with_lists) {
+  files = with_all.files ++ (codes "C.T", []) ∷ (codes "D.T", chars "d") ∷ [];
+}
+
+-- ---- steps
+
+-- a click of the middle key in column x of a row
+abbrev pub called_at : Desktop → ℕ → ℕ × Outcome → Case
+called_at d x row =
+    record { before = d; event = click Middle x row.0; after = (row.1 d).0; reply = (row.1 d).1 }
+
+-- clicks on the calls of these rows
+abbrev pub called : Desktop → List (ℕ × Outcome) → List Case
+called d rows = map (called_at d 52) rows
+
+-- each with its row, from this one down
+abbrev pub down : ℕ → List Outcome → List (ℕ × Outcome)
+down y [] = []
+down y (outcome ∷ rest) = (y, outcome) ∷ down (y - 1) rest
+
+-- each line is clicked, from row 30 down
+abbrev pub calls : List Case
+calls = called with_all (down 30 (map (λ l. l.1) lines)) ++
+    called (calling (joined more_lines) with_all) (down 30 (map (λ l. l.1) more_lines)) ++
+    map (λ (row : ℕ × Outcome). called_at (calling (joined more_lines) with_all) row.0 (17, row.1))
+    ((66, clears) ∷ (79, says no_command) ∷ []) ++
+    called bare (down 30 (map (λ l. l.2) lines)) ++
+    called (calling (joined more_lines) bare) (down 30 (map (λ l. l.2) more_lines))
+
+-- calls for a viewer of one row
+abbrev pub low_calls : List Case
+low_calls = called one_row ((21, closes (entry 2 4 ∷ []) 1) ∷ (19, says too_low) ∷ [])
+
+-- a menu is clicked, whatever stands at the marker: the column where the gesture ends
+abbrev pub menu_calls : List Case
+menu_calls =
+    refused bare (Point Middle 3 6 1 6) no_command ∷
+    done bare (Point Middle 3 6 7 6) (record (placed (entry 2 3 ∷ []) bare) { kept = kept 1 User 7 }) ∷
+    done bare (Point Middle 3 6 20 6) ((copies 6 3 (entry 2 3 ∷ entry 3 2 ∷ entry 1 2 ∷ []) bare).0) ∷
+    refused bare (Point Middle 3 6 33 6) no_selection ∷
+    done bare (Point Middle 3 6 45 6) ((stores bare).0) ∷
     []
 
--- all of them
-abbrev pub all_calls : List Case
-all_calls = calls ++ more_calls ++ bare_calls ++ more_bare_calls ++ low_calls ++ menu_calls ++ lists ++ limits
+-- files go, are listed, and the log is stored as it was before the line that says so
+abbrev pub list_calls : List Case
+list_calls =
+    called with_lists ((
+      30,
+      makes (λ d. record (logged "log\rSystem.DeleteFiles B.T\rSystem.DeleteFiles A.T\r" 46 27 d) {
+        files = [];
+      }),
+    ) ∷ []) ++
+    called with_four ((29, makes (logged "log\rA.T 3\rB.T 7\rC.T 0\rD.T 1\r" 24 10)) ∷ []) ++
+    called with_lists ((
+      28,
+      makes (λ d. record (logged "log\rEdit.Store Log 4\r" 17 4 d) {
+        files = d.files ++ (codes "Log", chars "log\r") ∷ [];
+      }),
+    ) ∷ [])
 
-pub calls_are_done : map replied all_calls ≡ map wanted all_calls
-unfolding area_at resized carried text_position scrolled_to_row scrolled_to_share drawn_in copied_to looks_taken
-    taken_out sent_to_caret tool_opened pointed opening opening_on dropped opened_at after_change insertion deletion
-    looks_set showing filed marked settled raw step_in step file_of held typed escaped pressed viewer_at opened
-    replaced changed closed track_of after_open after_close columns_changed called menu_position word_begin called_at
-    commands command_named is_name_byte is_letter is_digit logged all_logged value_of name_of number_called names_of
-    file_opened document_opened log_opened put_away brought_back viewer_copied log_cleared directory_logged
-    files_deleted stored look_set selection_set searched commanded names_on value names form symbol is_blank is_inside
-    number_of digits free_row
-calls_are_done = refl
+-- the limit on what was ever written comes last
+abbrev pub limits : List Case
+limits = called nearly_full
+    ((30, says full) ∷ (23, says no_file) ∷ (22, says full) ∷ (18, clears) ∷ (17, lists) ∷ (16, says no_file) ∷
+    (15, says no_file) ∷ [])
+
+abbrev pub call_steps : List Case
+call_steps = calls ++ low_calls ++ menu_calls ++ list_calls ++ limits

@@ -5,3 +5,4 @@ pub mod SharedSteps
 pub mod ScrolledSteps
 pub mod WideSteps
 pub mod CallSteps
+pub mod Steps

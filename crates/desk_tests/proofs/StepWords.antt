@@ -1,7 +1,8 @@
--- Words for steps that are worked out and proved by computing: short names for the parts of a desktop, and what a step
--- is compared with.
-use Rattle.std.specs.Prelude.{ℕ, ℤ, List, [], ◌∷◌, map, replicate, codes, Option, Some}
-use Rattle.std.specs.List.{slice_index_or}
+-- Words for steps that are worked out and proved by computing: short names for the parts of a desktop, desktops that
+-- differ from another one in a part, and what a step is compared with.
+use Rattle.std.specs.Prelude.{ℕ, suc, ℤ, ◌==◌, not, if◌then◌else◌, List, [], ◌∷◌, ◌++◌, map, filter, replicate, codes}
+use Rattle.std.specs.Prelude.{Option, Some}
+use Rattle.std.specs.List.{slice_index_or, list_any}
 use Rattle.std.specs.Map.{set_value}
 use Rattle.std.specs.Ordering.{nat_cmp}
 use Rattle.std.specs.BTreeMap.{is_at}
@@ -16,6 +17,9 @@ use Rattle.screen_cells.specs.declared.cell.Mark.{Mark}
 use Rattle.screen_cells.specs.declared.cell.Mark.TheVariants.{Marker, Caret as AtCaret, Selected, Menu, Bar}
 use Rattle.screen_cells.specs.declared.cell.Mark.TheVariants.{Text as InText, Filler}
 use Rattle.event_bytes.specs.declared.event.Event.{Event}
+use Rattle.event_bytes.specs.declared.event.Event.TheVariants.{Point}
+use Rattle.event_bytes.specs.declared.keys.Keys.{Keys}
+use Rattle.event_loop_laws.specs.declared.entry.Entry.{Entry as Listed}
 use Rattle.event_loop_laws.specs.declared.reply.Reply.{Reply}
 use Rattle.event_loop_laws.specs.declared.reply.Reply.TheVariants.{Done, No}
 use Rattle.event_loop_laws.specs.declared.viewer.Viewer.{Viewer}
@@ -23,14 +27,22 @@ use Rattle.event_loop_laws.specs.declared.viewer.Caret.{Caret}
 use Rattle.event_loop_laws.specs.declared.viewer.Selection.{Selection}
 use Rattle.event_loop_laws.specs.declared.viewer.Kept.{Kept}
 use Rattle.event_loop_laws.specs.Tables.{Texts}
-use Rattle.event_loop_laws.specs.Desktop.{Desktop}
+use Rattle.event_loop_laws.specs.Desktop.{Desktop, empty_desktop}
+use Rattle.event_loop_laws.specs.Change.{plain}
+use Rattle.event_loop_laws.specs.Opening.{menu_line}
+use Rattle.event_loop_laws.specs.Listing.{entries_of}
 use Rattle.event_loop_laws.specs.Step.{step}
 use Rattle.event_loop_laws.specs.Shown.{shown_screen}
+use Prim.Native.String.{String}
 
 -- ---- parts of a desktop
 
 abbrev pub look : ℕ → ℕ → ℤ → Look
 look font colour voff = record { font = font; colour = colour; voff = voff }
+
+-- characters in the default look
+abbrev pub chars : String → Text ℕ
+chars written = plain (codes written)
 
 abbrev pub entry : ℕ → ℕ → Entry
 entry viewer height = record { viewer = viewer; height = height }
@@ -50,12 +62,42 @@ selection viewer beg end = record { viewer = viewer; beg = beg; end = end }
 abbrev pub kept : ℕ → Track → ℕ → Option Kept
 kept viewer track top = Some (record { viewer = viewer; track = track; top = top })
 
--- the texts of a desktop with another one of a number, and its viewers with another one of an id
+-- ---- a desktop with something else in it
+
+abbrev pub empty : Desktop
+empty = empty_desktop
+
+-- the texts of a desktop with another one of a number
 abbrev pub texts_with : Desktop → ℕ → Text ℕ → Texts (Text ℕ)
 texts_with d n text = set_value (is_at (nat_cmp n)) d.texts text
 
-abbrev pub viewers_with : Desktop → ℕ → Viewer → List (ℕ × Viewer)
-viewers_with d v new = set_value (is_at (nat_cmp v)) d.viewers new
+-- another text of a number, the caret in it, and the selections that are left
+abbrev pub edited : Desktop → ℕ → Text ℕ → Option Caret → List Selection → Desktop
+edited d n text caret selections = record d { texts = texts_with d n text; caret = caret; selections = selections }
+
+-- a viewer shows its text from there on
+abbrev pub scrolled : Desktop → ℕ → ℕ → Desktop
+scrolled d v org = record d {
+  viewers = map (λ e. (e.0, record e.1 { org = if e.0 == v then org else e.1.org })) d.viewers;
+}
+
+-- a viewer more, on a text; the line of its menu has the number n
+abbrev pub with_viewer : Desktop → ℕ → ℕ → List ℕ → ℕ → Desktop
+with_viewer d v n name main = record d {
+  texts = d.texts ++ (n, plain (menu_line name)) ∷ [];
+  viewers = d.viewers ++ (v, viewer n main 0) ∷ [];
+}
+
+-- a document more, of the number n, and a viewer of it
+abbrev pub with_document : Desktop → ℕ → ℕ → List ℕ → Text ℕ → Desktop
+with_document d v n name text = with_viewer (record d { texts = d.texts ++ (n, text) ∷ [] }) v (suc n) name n
+
+-- the texts of these numbers and the viewers of these ids are gone
+abbrev pub without : Desktop → List ℕ → List ℕ → Desktop
+without d texts viewers = record d {
+  texts = filter (λ e. not (list_any (λ n. e.0 == n) texts)) d.texts;
+  viewers = filter (λ e. not (list_any (λ v. e.0 == v) viewers)) d.viewers;
+}
 
 -- ---- steps
 
@@ -76,12 +118,41 @@ refused d event code = record { before = d; event = event; after = d; reply = No
 abbrev pub unchanged : Desktop → Event → Case
 unchanged d event = done d event d
 
+-- a gesture at one cell
+abbrev pub click : Keys → ℕ → ℕ → Event
+click keys x y = Point keys x y x y
+
+-- a gesture with each of these keys changes nothing
+abbrev pub idle : Desktop → (Keys → Event) → List Keys → List Case
+idle d gesture many = map (λ keys. unchanged d (gesture keys)) many
+
+-- clicks in column x, where the bar of a viewer stands: the keys, the row, and from where on the viewer shows its text
+-- then
+abbrev pub clicks_in_bar : Desktop → ℕ → ℕ → List (Keys × ℕ × ℕ) → List Case
+clicks_in_bar d v x rows = map (λ r. done d (click r.0 x r.1) (scrolled d v r.2)) rows
+
+-- clicks that set the caret: the column, the row, the viewer, and the position
+abbrev pub clicks_for_caret : Desktop → Keys → List (ℕ × ℕ × ℕ × ℕ) → List Case
+clicks_for_caret d keys rows = map (λ r. done d (click keys r.0 r.1) (record d { caret = caret r.2 r.3 })) rows
+
 -- what the event does and what is wanted
 abbrev pub replied : Case → Desktop × Reply
 replied c = step c.before c.event
 
 abbrev pub wanted : Case → Desktop × Reply
 wanted c = (c.after, c.reply)
+
+-- ---- the list
+
+-- a desktop, and the list of it that is wanted
+abbrev pub Listing : Type 0
+Listing = Desktop × List Listed
+
+abbrev pub listed : Listing → List Listed
+listed l = entries_of l.0
+
+abbrev pub list_wanted : Listing → List Listed
+list_wanted l = l.1
 
 -- ---- the screen
 
@@ -95,30 +166,36 @@ filler n = cells default_look Filler (replicate n 32)
 abbrev pub bar : List Cell
 bar = cells default_look Bar (codes "|")
 
-abbrev pub menu : List ℕ → List Cell
-menu bytes = cells default_look Menu bytes
+abbrev pub menu : String → List Cell
+menu shown = cells default_look Menu (codes shown)
 
 abbrev pub hyphens : ℕ → List Cell
-hyphens n = menu (replicate n 45)
+hyphens n = cells default_look Menu (replicate n 45)
 
-abbrev pub body : List ℕ → List Cell
-body bytes = cells default_look InText bytes
+abbrev pub body : String → List Cell
+body shown = cells default_look InText (codes shown)
 
 abbrev pub blanks : ℕ → List Cell
-blanks n = body (replicate n 32)
+blanks n = cells default_look InText (replicate n 32)
 
-abbrev pub selected : List ℕ → List Cell
-selected bytes = cells default_look Selected bytes
+abbrev pub selected : String → List Cell
+selected shown = cells default_look Selected (codes shown)
 
-abbrev pub at_caret : List ℕ → List Cell
-at_caret bytes = cells default_look AtCaret bytes
+abbrev pub at_caret : String → List Cell
+at_caret shown = cells default_look AtCaret (codes shown)
 
-abbrev pub at_marker : List ℕ → List Cell
-at_marker bytes = cells default_look Marker bytes
+abbrev pub at_marker : String → List Cell
+at_marker shown = cells default_look Marker (codes shown)
 
--- the row of that number that a desktop shows, and what is wanted there
-abbrev pub row_of : Desktop → ℕ × List Cell → List Cell
-row_of d row = slice_index_or (shown_screen d) row.0 []
+-- a desktop, and what is wanted in the row of a number
+abbrev pub Row : Type 0
+Row = Desktop × ℕ × List Cell
 
-abbrev pub row_wanted : ℕ × List Cell → List Cell
-row_wanted row = row.1
+abbrev pub rows_of : Desktop → List (ℕ × List Cell) → List Row
+rows_of d rows = map (λ row. (d, row.0, row.1)) rows
+
+abbrev pub shown : Row → List Cell
+shown row = slice_index_or (shown_screen row.0) row.1 []
+
+abbrev pub row_wanted : Row → List Cell
+row_wanted row = row.2

@@ -26,64 +26,55 @@ fn frame_at(org: u32) -> Frame
     }
 }
 
-/// Where a frame begins after a position was shown.
-fn shown(
-    rt: &impl Abort,
-    alloc: Global,
-    bytes: &[u8],
-    org: u32,
-    h: u8,
-    p: u32,
-) -> Result<u32, Fail> {
-    let mut source = CharFile::new(alloc);
-    let text = text_of(rt, alloc, &mut source, bytes)?;
-    let mut frame = frame_at(0);
-    frame.scroll(org);
-    assert!(rt; h <= 31 && p <= text.len() && frame.org <= text.len());
-    frame.show(&text, h, p, &mut source)?;
-    assert!(rt; frame.caret == Some(0));
-    Ok(frame.org)
+/// What is asked of a frame over a text.
+#[derive(Clone, Copy)]
+enum Ask {
+    /// Where a frame of `h` rows from `org` on begins after `p` was shown: `(org, h, p)`.
+    Shown(u32, u8, u32),
+    /// Where a frame from `org` on begins after its text was changed at `p`: `(org, p, inserted, deleted)`.
+    Updated(u32, u32, u32, u32),
+    /// The position at a cell of a frame of 31 rows of 49 columns from `org` on: `(org, col, row)`.
+    Position(u32, u8, u8),
+    /// Where the line of a position starts.
+    Start(u32),
 }
 
-/// Where a frame begins after its text was changed into these bytes.
-fn updated(
-    rt: &impl Abort,
-    alloc: Global,
-    bytes: &[u8],
-    org: u32,
-    p: u32,
-    inserted: u32,
-    deleted: u32,
-) -> Result<u32, Fail> {
+/// What that is, over a text of these bytes.
+fn asked(rt: &impl Abort, alloc: Global, bytes: &[u8], ask: Ask) -> Result<u32, Fail> {
     let mut source = CharFile::new(alloc);
     let text = text_of(rt, alloc, &mut source, bytes)?;
-    let mut frame = frame_at(org);
-    assert!(rt; inserted == 0 || deleted == 0);
-    assert!(rt; p < 100 && org < 100);
-    assert!(rt; inserted < 100 && deleted < 100);
-    assert!(rt; text.len() < 100);
-    assert!(rt; p + inserted <= text.len());
-    assert!(rt; org + inserted <= text.len() + deleted);
-    frame.update(&text, p, inserted, deleted, &mut source)?;
-    let lost = frame.caret.is_none() && frame.selection.is_none();
-    assert!(rt; lost == (inserted + deleted > 0));
-    Ok(frame.org)
-}
-
-/// The position at a cell of a frame of 31 rows of 49 columns.
-fn position(
-    rt: &impl Abort,
-    alloc: Global,
-    bytes: &[u8],
-    org: u32,
-    col: u8,
-    row: u8,
-) -> Result<u32, Fail> {
-    let mut source = CharFile::new(alloc);
-    let text = text_of(rt, alloc, &mut source, bytes)?;
-    let frame = frame_at(org);
-    assert!(rt; row < 31 && frame.org <= text.len());
-    Ok(frame.pos_at(&text, 49, 31, col, row, &mut source)?)
+    match ask {
+        Ask::Shown(org, h, p) => {
+            let mut frame = frame_at(0);
+            frame.scroll(org);
+            assert!(rt; h <= 31 && p <= text.len() && frame.org <= text.len());
+            frame.show(&text, h, p, &mut source)?;
+            assert!(rt; frame.caret == Some(0));
+            Ok(frame.org)
+        }
+        Ask::Updated(org, p, inserted, deleted) => {
+            let mut frame = frame_at(org);
+            assert!(rt; inserted == 0 || deleted == 0);
+            assert!(rt; p < 100 && org < 100);
+            assert!(rt; inserted < 100 && deleted < 100);
+            assert!(rt; text.len() < 100);
+            assert!(rt; p + inserted <= text.len());
+            assert!(rt; org + inserted <= text.len() + deleted);
+            frame.update(&text, p, inserted, deleted, &mut source)?;
+            let lost = frame.caret.is_none() && frame.selection.is_none();
+            assert!(rt; lost == (inserted + deleted > 0));
+            Ok(frame.org)
+        }
+        Ask::Position(org, col, row) => {
+            let frame = frame_at(org);
+            assert!(rt; row < 31 && frame.org <= text.len());
+            Ok(frame.pos_at(&text, 49, 31, col, row, &mut source)?)
+        }
+        Ask::Start(p) => {
+            assert!(rt; p <= text.len());
+            Ok(line_start(&text, p, &mut source)?)
+        }
+    }
 }
 
 /// The cell of a position in a frame of `h` rows of 49 columns.
@@ -99,14 +90,6 @@ fn cell(
     let text = text_of(rt, alloc, &mut source, bytes)?;
     assert!(rt; h <= 31 && p <= text.len());
     Ok(frame_at(org).cell_of(&text, 49, h, p, &mut source)?)
-}
-
-/// Where the line of a position starts.
-fn start(rt: &impl Abort, alloc: Global, bytes: &[u8], p: u32) -> Result<u32, Fail> {
-    let mut source = CharFile::new(alloc);
-    let text = text_of(rt, alloc, &mut source, bytes)?;
-    assert!(rt; p <= text.len());
-    Ok(line_start(&text, p, &mut source)?)
 }
 
 const LINES: &[u8] = b"ab\rcd\ref\rgh";
@@ -137,9 +120,9 @@ fn row_shown(
 #[test]
 fn starts_of_lines(rt: HostRuntime) -> Result<(), Fail> {
     for (p, wanted) in [(0, 0), (2, 0), (3, 3), (11, 9)] {
-        assert_eq!(rt; start(&rt, rt.alloc(), LINES, p)?, wanted);
+        assert_eq!(rt; asked(&rt, rt.alloc(), LINES, Ask::Start(p))?, wanted);
     }
-    assert_eq!(rt; start(&rt, rt.alloc(), b"", 0)?, 0);
+    assert_eq!(rt; asked(&rt, rt.alloc(), b"", Ask::Start(0))?, 0);
     Ok(())
 }
 
@@ -157,7 +140,10 @@ fn rows_brought_into_sight(rt: HostRuntime) -> Result<(), Fail> {
         (0, 0, 10, 9),
         (0, 1, 3, 3),
     ] {
-        assert_eq!(rt; shown(&rt, rt.alloc(), LINES, org, h, p)?, wanted);
+        assert_eq!(rt;
+            asked(&rt, rt.alloc(), LINES, Ask::Shown(org, h, p))?,
+            wanted
+        );
     }
     Ok(())
 }
@@ -174,8 +160,8 @@ fn changes_followed(rt: HostRuntime) -> Result<(), Fail> {
         ("cd\ref", 6, 0, 0, 3, 3),
         ("", 6, 0, 0, 8, 0),
     ] {
-        let org = updated(&rt, rt.alloc(), bytes.as_bytes(), org, p, inserted, deleted)?;
-        assert_eq!(rt; org, wanted);
+        let ask = Ask::Updated(org, p, inserted, deleted);
+        assert_eq!(rt; asked(&rt, rt.alloc(), bytes.as_bytes(), ask)?, wanted);
     }
     Ok(())
 }
@@ -183,10 +169,16 @@ fn changes_followed(rt: HostRuntime) -> Result<(), Fail> {
 #[test]
 fn positions_at_cells(rt: HostRuntime) -> Result<(), Fail> {
     for (col, row, wanted) in [(3, 0, 1), (4, 0, 2), (5, 0, 3), (0, 1, 3)] {
-        assert_eq!(rt; position(&rt, rt.alloc(), b"a\tb", 0, col, row)?, wanted);
+        assert_eq!(rt;
+            asked(&rt, rt.alloc(), b"a\tb", Ask::Position(0, col, row))?,
+            wanted
+        );
     }
     for (org, col, row, wanted) in [(0, 9, 0, 2), (4, 0, 1, 6)] {
-        assert_eq!(rt; position(&rt, rt.alloc(), LINES, org, col, row)?, wanted);
+        assert_eq!(rt;
+            asked(&rt, rt.alloc(), LINES, Ask::Position(org, col, row))?,
+            wanted
+        );
     }
     Ok(())
 }

@@ -14,8 +14,6 @@ mod characters;
 #[cfg(test)]
 mod crashes;
 #[cfg(test)]
-mod desktops;
-#[cfg(test)]
 mod disks;
 #[cfg(test)]
 mod events;

@@ -1,7 +1,10 @@
 -- The parts of an event, and what follows for spellings.
-use Rattle.std.proofs.Common.{◌≡◌, ℕ, zero, suc, ◌+◌, ◌<◌, ◌≤◌, ◌^◌, Bool, true, false, nat_eq, List, ◌++◌, length}
-use Rattle.std.proofs.Common.{Option, Some, refl, sym, ap, subst, ◌∙◌, arith, length-append}
-use Rattle.std.specs.Prelude.{IsTrue, ◌&&◌}
+use Rattle.std.proofs.Common.{◌≡◌, ℕ, ◌+◌, ◌<◌, ◌≤◌, ◌^◌, Bool, true, false, nat_eq, List, ◌++◌, length}
+use Rattle.std.proofs.Common.{Some, refl, sym, ap, subst, ◌∙◌, arith, length-append}
+use Rattle.std.specs.Prelude.{IsTrue, ◌&&◌, map, slice_get, option_map}
+use Rattle.std.specs.List.{range_with_len}
+use Rattle.std.proofs.lemmas.List.FromFn.{get_or-range_with_len}
+use Rattle.std.proofs.lemmas.Option.{slice_get-map, slice_get_within, get_or_from_slice_get}
 use Rattle.std.proofs.lemmas.Bool.{eqb-true, leb-true, eq-eqb}
 use Rattle.event_bytes.specs.declared.keys.Key.{Key as KeyOf}
 use Rattle.event_bytes.specs.declared.keys.Key.TheVariants.{Back, Copy, Paste, Cut, Escape}
@@ -13,8 +16,8 @@ use Rattle.event_bytes.specs.declared.event.Drag.{Drag}
 use Rattle.event_bytes.specs.declared.event.Event.{Event}
 use Rattle.event_bytes.specs.declared.event.Event.TheVariants.{Typed, Key, Mark, Point, File}
 use Rattle.event_bytes.specs.Bytes.{is_name, is_file_bytes, is_typed_bytes}
-use Rattle.event_bytes.specs.Keys.{key_of, key_number, keys_of, keys_number}
-use Rattle.event_bytes.specs.Parts.{Reader, ◌>>=◌, byte, word, counted, IsPart}
+use Rattle.event_bytes.specs.Keys.{all_of_keyboard, all_of_mouse, key_of, key_number, keys_of, keys_number}
+use Rattle.event_bytes.specs.Parts.{Reader, ◌>>=◌, byte_at, byte, word, counted, IsPart}
 use Rattle.event_bytes.specs.Spelling.{IsByte, IsEvent, kind, body, spelling, Begins}
 use Rattle.event_bytes.specs.Reading.{name_at, file_bytes_at, typed_bytes_at, file_at, key_at, keys_at, cell_at}
 use Rattle.event_bytes.specs.Reading.{drag_at}
@@ -65,14 +68,24 @@ typed_part =
     recast (λ bytes fits. fits.1) (λ bytes valid. (omega (arith, short_typed bytes valid), valid))
     (only is_typed_bytes (counted_part word_part))
 
--- keys by their numbers
-numbered_key : (n : ℕ) (key : KeyOf) → key_of n ≡ Some key → n ≡ key_number key
-numbered_key zero key e = ap key_number (some_is Back key e)
-numbered_key (suc zero) key e = ap key_number (some_is Copy key e)
-numbered_key (suc (suc zero)) key e = ap key_number (some_is Paste key e)
-numbered_key (suc (suc (suc zero))) key e = ap key_number (some_is Cut key e)
-numbered_key (suc (suc (suc (suc zero)))) key e = ap key_number (some_is Escape key e)
-numbered_key (suc (suc (suc (suc (suc n))))) key e = absurd cc
+-- ---- keys by their numbers, which are their places in the list of all
+
+module _ {A : Type 0} (all : List A) (number : A → ℕ) (in_order : map number all ≡ range_with_len 0 (length all)) where
+  place_is_number : (n : ℕ) (a : A) → slice_get all n ≡ Some a → n ≡ number a
+  place_is_number n a there =
+      let low : n < length all = slice_get_within all n a there in
+      let here : slice_get (range_with_len 0 (length all)) n ≡ Some (number a) =
+      ap (λ l. slice_get l n) (sym in_order) ∙ slice_get-map number all n ∙ ap (option_map number) there in
+      let first = get_or-range_with_len 0 (length all) n 0 low in
+      let second = get_or_from_slice_get (range_with_len 0 (length all)) n (number a) 0 here in
+      omega (arith, first, second)
+
+  listed : length all ≤ 256 → ((a : A) → slice_get all (number a) ≡ Some a)
+      → IsPart (λ a. byte (number a)) (λ a. Unit {0})
+      (λ bytes. byte_at bytes >>= λ n. slice_get all n.0 >>= λ a. Some (a, n.1))
+  listed few again =
+      numbered number (slice_get all) (λ a. let low = slice_get_within all (number a) a (again a) in
+      omega (arith, few, low)) again place_is_number
 
 key_again : (key : KeyOf) → key_of (key_number key) ≡ Some key
 key_again Back = refl
@@ -80,25 +93,6 @@ key_again Copy = refl
 key_again Paste = refl
 key_again Cut = refl
 key_again Escape = refl
-
-key_small : (key : KeyOf) → key_number key < 2 ^ 8
-key_small Back = omega arith
-key_small Copy = omega arith
-key_small Paste = omega arith
-key_small Cut = omega arith
-key_small Escape = omega arith
-
-numbered_keys : (n : ℕ) (keys : Keys) → keys_of n ≡ Some keys → n ≡ keys_number keys
-numbered_keys zero keys e = ap keys_number (some_is Left keys e)
-numbered_keys (suc zero) keys e = ap keys_number (some_is LeftMiddle keys e)
-numbered_keys (suc (suc zero)) keys e = ap keys_number (some_is LeftRight keys e)
-numbered_keys (suc (suc (suc zero))) keys e = ap keys_number (some_is Middle keys e)
-numbered_keys (suc (suc (suc (suc zero)))) keys e = ap keys_number (some_is MiddleLeft keys e)
-numbered_keys (suc (suc (suc (suc (suc zero))))) keys e = ap keys_number (some_is MiddleRight keys e)
-numbered_keys (suc (suc (suc (suc (suc (suc zero)))))) keys e = ap keys_number (some_is Right keys e)
-numbered_keys (suc (suc (suc (suc (suc (suc (suc zero))))))) keys e = ap keys_number (some_is RightLeft keys e)
-numbered_keys (suc (suc (suc (suc (suc (suc (suc (suc zero)))))))) keys e = ap keys_number (some_is RightMiddle keys e)
-numbered_keys (suc (suc (suc (suc (suc (suc (suc (suc (suc n))))))))) keys e = absurd cc
 
 keys_again : (keys : Keys) → keys_of (keys_number keys) ≡ Some keys
 keys_again Left = refl
@@ -111,24 +105,13 @@ keys_again Right = refl
 keys_again RightLeft = refl
 keys_again RightMiddle = refl
 
-keys_small : (keys : Keys) → keys_number keys < 2 ^ 8
-keys_small Left = omega arith
-keys_small LeftMiddle = omega arith
-keys_small LeftRight = omega arith
-keys_small Middle = omega arith
-keys_small MiddleLeft = omega arith
-keys_small MiddleRight = omega arith
-keys_small Right = omega arith
-keys_small RightLeft = omega arith
-keys_small RightMiddle = omega arith
-
 key_part : IsPart (λ key. byte (key_number key)) (λ key. Unit {0}) key_at
 unfolding key_at
-key_part = numbered key_number key_of key_small key_again numbered_key
+key_part = listed all_of_keyboard key_number refl (omega arith) key_again
 
 keys_part : IsPart (λ keys. byte (keys_number keys)) (λ keys. Unit {0}) keys_at
 unfolding keys_at
-keys_part = numbered keys_number keys_of keys_small keys_again numbered_keys
+keys_part = listed all_of_mouse keys_number refl (omega arith) keys_again
 
 -- ---- cells
 

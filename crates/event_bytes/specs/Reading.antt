@@ -1,5 +1,5 @@
 -- Reading the event that bytes begin with.
-use Rattle.std.specs.Prelude.{ℕ, if◌then◌else◌, ◌==◌, List, Option, Some, None}
+use Rattle.std.specs.Prelude.{ℕ, if◌then◌else◌, ◌==◌, List, Some, None}
 use Rattle.event_bytes.specs.Bytes.{is_name, is_file_bytes, is_typed_bytes}
 use Rattle.event_bytes.specs.Keys.{key_of, keys_of}
 use Rattle.event_bytes.specs.Parts.{Reader, ◌>>=◌, when, byte_at, word_at, counted_at}

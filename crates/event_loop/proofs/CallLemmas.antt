@@ -1,7 +1,9 @@
 -- What commands do, by what they take.
-use Rattle.std.specs.Prelude.{◌≡◌, ◌⊎◌, ℕ, ℤ, Bool, List, Option, Some, None, Result, Ok, Err}
+use Rattle.std.specs.Prelude.{◌≡◌, ℕ, ℤ, Bool, List, Option, Some, None, Result, Ok, Err}
 use Rattle.std.specs.Option.{ok_or}
-use Rattle.std.proofs.Common.{refl, sym, ap, ◌∙◌, inl, inr}
+use Rattle.std.proofs.Common.{refl, sym, ap, ◌∙◌}
+use Rattle.sector_disk.specs.Faults.{OneOf}
+use Rattle.char_file.specs.declared.source.CharSource.{Ghosts}
 use Rattle.readers_scanners.specs.declared.symbol.Symbol.{Symbol}
 use Rattle.command_table.specs.Parameters.{name_in}
 use Rattle.command_table.specs.declared.command.Command.{Command}
@@ -10,53 +12,20 @@ use Rattle.command_table.specs.declared.command.Command.TheVariants.{SystemSetFo
 use Rattle.command_table.specs.declared.command.Command.TheVariants.{EditChangeFont, EditChangeColor}
 use Rattle.command_table.specs.declared.command.Command.TheVariants.{EditChangeOffset, EditStore, EditSearch}
 use Rattle.event_loop_laws.specs.declared.call.Call.{Call}
+use Rattle.event_loop_laws.specs.declared.reply.Reply.TheVariants.{No}
 use Rattle.event_loop_laws.specs.Limits.{first_version, no_command, wrong_symbol, no_viewer}
 use Rattle.event_loop_laws.specs.Needs.{needs, given}
 use Rattle.event_loop_laws.specs.Desktop.{Desktop, KeptDesktop}
 use Rattle.event_loop_laws.specs.Change.{bytes_of}
+use Rattle.event_loop_laws.specs.LookedLaws.{font_sets_look, colour_sets_look, offset_sets_look}
 use Rattle.event_loop_laws.specs.Seen.{seen}
+use Rattle.event_loop_laws.specs.Sound.{IsOver}
+use Rattle.event_loop_laws.specs.Outcome.{codes}
 use Rattle.event_loop_laws.specs.Call.{text_called, meant, number_in, value_of, name_of, number_of}
 use Rattle.event_loop_laws.specs.Commands.{command_at, commanded, called}
 use Rattle.event_loop.specs.Calls.{done_with_name, done_with_number, done_with_viewer}
-
--- ---- the rows, by what they take
-
-pub row_with_name : (d : Desktop) (command : Command) (call : Call)
-    → (command ≡ EditOpen) ⊎ ((command ≡ SystemOpen) ⊎ ((command ≡ SystemSetFont) ⊎ (command ≡ EditChangeFont)))
-    → given (name_of d call) (done_with_name d command) ≡ commanded d command call
-unfolding commanded done_with_name
-row_with_name d command call is = elim is [
-  | inl a ↦ rw a refl
-  | inr other ↦ elim other [
-    | inl b ↦ rw b refl
-    | inr more ↦ elim more [ inl e ↦ rw e refl | inr f ↦ rw f refl ]
-  ]
-]
-
-pub row_with_number : (d : Desktop) (command : Command) (call : Call)
-    → (command ≡ SystemSetColor) ⊎ ((command ≡ SystemSetOffset) ⊎ ((command ≡ EditChangeColor)
-    ⊎ (command ≡ EditChangeOffset)))
-    → given (number_of d call) (done_with_number d command) ≡ commanded d command call
-unfolding commanded done_with_number
-row_with_number d command call is = elim is [
-  | inl a ↦ rw a refl
-  | inr other ↦ elim other [
-    | inl b ↦ rw b refl
-    | inr more ↦ elim more [ inl e ↦ rw e refl | inr f ↦ rw f refl ]
-  ]
-]
-
-pub row_with_viewer : (d : Desktop) (command : Command) (call : Call)
-    → (command ≡ SystemClose) ⊎ ((command ≡ SystemCopy) ⊎ ((command ≡ EditStore) ⊎ (command ≡ EditSearch)))
-    → needs (meant d call) no_viewer (done_with_viewer d command) ≡ commanded d command call
-unfolding commanded done_with_viewer
-row_with_viewer d command call is = elim is [
-  | inl a ↦ rw a refl
-  | inr other ↦ elim other [
-    | inl b ↦ rw b refl
-    | inr more ↦ elim more [ inl e ↦ rw e refl | inr f ↦ rw f refl ]
-  ]
-]
+use Rattle.event_loop.specs.Row.{Settles}
+use Rattle.event_loop.proofs.ReadFirst.{Reads, refused_after}
 
 -- ---- what isn't among them
 
@@ -88,36 +57,54 @@ viewer_rest d EditStore v a b e f = absurd (e refl)
 viewer_rest d EditSearch v a b e f = absurd (f refl)
 viewer_rest d command v a b e f = refl
 
--- ---- the symbol after the word
+-- a look that is set by a name or a number
+pub ruleset looks_set = (font_sets_look, colour_sets_look, offset_sets_look)
+
+-- ---- what is read after the word
+
+-- no more is done where that is refused
+pub refused_given : {S A : Type 0} (s : Ghosts S) (read : Desktop → Result A ℕ)
+    (follow : Desktop → A → Result Desktop ℕ) (code : ℕ) (old mid : S) (d : KeptDesktop) {found : Result A ℕ}
+    → Reads s old mid → IsOver (s.characters old) d
+    → OneOf codes code → found ≡ Err code → (s.honest old → found ≡ read (seen (s.characters old) d))
+    → Settles s (λ x. given (read x) (follow x)) old mid d d (No code)
+refused_given {A = A} s read follow code old mid d reads over known is exact =
+    refused_after s (λ x. given (read x) (follow x)) code old mid d reads over known
+    (λ h. ap (λ (r : Result A ℕ). given r (follow (seen (s.characters old) d))) (sym (exact h) ∙ is))
 
 same_wanted : {A : Type 0} (o : Option A) → ok_or o wrong_symbol ≡ needs o wrong_symbol (λ a. Ok a)
 same_wanted None = refl
 same_wanted (Some a) = refl
 
+found_by : {A : Type 0} (f : Symbol → Option A) (d : Desktop) (call : Call) (symbol : Symbol)
+    → Ok symbol ≡ value_of d call
+    → ok_or (f symbol) wrong_symbol ≡ given (value_of d call) (λ s. needs (f s) wrong_symbol (λ a. Ok a))
+found_by f d call symbol is =
+    same_wanted (f symbol) ∙ ap (λ (r : Result Symbol ℕ). given r (λ s. needs (f s) wrong_symbol (λ a. Ok a))) is
+
+refused_by : {A : Type 0} (f : Symbol → Option A) (d : Desktop) (call : Call) (code : ℕ) → Err code ≡ value_of d call
+    → Err code ≡ given (value_of d call) (λ s. needs (f s) wrong_symbol (λ a. Ok a))
+refused_by f d call code is =
+    ap (λ (r : Result Symbol ℕ). given r (λ s. needs (f s) wrong_symbol (λ a. Ok a))) is
+
 pub name_found : (d : Desktop) (call : Call) (symbol : Symbol) → Ok symbol ≡ value_of d call
     → ok_or (name_in symbol) wrong_symbol ≡ name_of d call
 unfolding name_of
-name_found d call symbol is =
-    same_wanted (name_in symbol)
-    ∙ ap (λ (r : Result Symbol ℕ). given r (λ s. needs (name_in s) wrong_symbol (λ name. Ok name))) is
+name_found = found_by name_in
 
 pub name_refused : (d : Desktop) (call : Call) (code : ℕ) → Err code ≡ value_of d call → Err code ≡ name_of d call
 unfolding name_of
-name_refused d call code is =
-    ap (λ (r : Result Symbol ℕ). given r (λ s. needs (name_in s) wrong_symbol (λ name. Ok name))) is
+name_refused = refused_by name_in
 
 pub number_found : (d : Desktop) (call : Call) (symbol : Symbol) → Ok symbol ≡ value_of d call
     → ok_or (number_in symbol) wrong_symbol ≡ number_of d call
 unfolding number_of
-number_found d call symbol is =
-    same_wanted (number_in symbol)
-    ∙ ap (λ (r : Result Symbol ℕ). given r (λ s. needs (number_in s) wrong_symbol (λ z. Ok z))) is
+number_found = found_by number_in
 
 pub number_refused : (d : Desktop) (call : Call) (code : ℕ) → Err code ≡ value_of d call
     → Err code ≡ number_of d call
 unfolding number_of
-number_refused d call code is =
-    ap (λ (r : Result Symbol ℕ). given r (λ s. needs (number_in s) wrong_symbol (λ z. Ok z))) is
+number_refused = refused_by number_in
 
 -- ---- the viewer that is meant
 

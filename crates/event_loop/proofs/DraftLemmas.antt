@@ -6,7 +6,7 @@ use Rattle.std.proofs.Common.{Option, Some, None, add-one, min, max}
 use Rattle.std.specs.Prelude.{insert}
 use Rattle.std.specs.Option.{option_or, option_to_list}
 use Rattle.std.proofs.lemmas.List.Elements.{filter_map-append}
-use Rattle.std.specs.List.{cons_option, filter_map, range_with_len, position_or_len}
+use Rattle.std.specs.List.{cons_option, filter_map, range_with_len}
 use Rattle.std.proofs.Math.Seq.{drop-cons}
 use Rattle.std.proofs.lemmas.Bool.{le-ltb, lt-leb, eq-eqb}
 use Rattle.std.proofs.lemmas.List.{drop_all, take_more, take-map, map-append, length-map, get_or-map}

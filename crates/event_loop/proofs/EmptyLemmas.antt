@@ -37,7 +37,7 @@ module _ (texts : Texts (List Piece)) (viewers : List (ℕ × Viewer)) (columns 
     written = 0;
   }
 
-  pub empty_seen : (characters : List ℕ) → seen characters new_desktop ≡ empty_desktop
+  empty_seen : (characters : List ℕ) → seen characters new_desktop ≡ empty_desktop
   unfolding seen empty_desktop
   empty_seen characters = λ k. record (seen characters new_desktop) {
     texts = (ap (seen_table characters) texts_is ∙ ap (λ (t : Text ℕ). (0, contents characters t) ∷ []) is) k;
@@ -60,7 +60,7 @@ module _ (texts : Texts (List Piece)) (viewers : List (ℕ × Viewer)) (columns 
   no_files : AllWithin {K = List ℕ} 0 []
   no_files i d low = absurd (omega (arith, low))
 
-  pub empty_over : IsOver [] new_desktop
+  empty_over : IsOver [] new_desktop
   empty_over = record {
     counted = refl;
     whole = record {
@@ -73,3 +73,6 @@ module _ (texts : Texts (List Piece)) (viewers : List (ℕ × Viewer)) (columns 
       sound = λ characters. subst IsSound (sym (empty_seen characters)) empty_sound;
     };
   }
+
+  pub are_empty : ((characters : List ℕ) → seen characters new_desktop ≡ empty_desktop) × IsOver [] new_desktop
+  are_empty = (empty_seen, empty_over)

@@ -1,18 +1,23 @@
 -- The table of gestures, area by area.
-use Rattle.std.specs.Prelude.{◌≡◌, ◌⊎◌, ℕ, Bool, true, Ok}
-use Rattle.std.proofs.Common.{refl, sym, ap, ◌∙◌, inl, inr}
+use Rattle.std.specs.Prelude.{◌≡◌, ℕ, Bool, true, List, Result, Ok, IfOk}
+use Rattle.std.proofs.Common.{refl, sym, ap, subst, ◌∙◌}
 use Rattle.event_bytes.specs.declared.keys.Keys.{Keys}
 use Rattle.event_bytes.specs.declared.keys.Keys.TheVariants.{Left, LeftMiddle, LeftRight, Middle, Right, RightLeft}
 use Rattle.event_bytes.specs.declared.keys.Keys.TheVariants.{RightMiddle}
+use Rattle.event_loop_laws.specs.declared.reply.Reply.{Reply}
 use Rattle.event_loop_laws.specs.declared.area.Area.{Area}
 use Rattle.event_loop_laws.specs.declared.area.Area.TheVariants.{Filler, Menu, Bar, Body}
 use Rattle.event_loop_laws.specs.declared.viewer.Selection.{Selection}
 use Rattle.event_loop_laws.specs.Limits.{first_version, outside}
 use Rattle.event_loop_laws.specs.Needs.{unless}
-use Rattle.event_loop_laws.specs.Desktop.{Desktop}
+use Rattle.event_loop_laws.specs.Desktop.{Desktop, KeptDesktop}
+use Rattle.event_loop_laws.specs.Seen.{seen}
+use Rattle.event_loop_laws.specs.Step.{settled}
+use Rattle.event_loop_laws.specs.Outcome.{IsAnswered}
 use Rattle.event_loop_laws.specs.Gesture.{area_at, frame_row, pointed, scrolled_to_row, scrolled_to_share}
-use Rattle.event_loop_laws.specs.Gesture.{text_position, stretch_drawn}
 use Rattle.event_loop.specs.Mouse.{done_in_filler, done_in_menu, done_in_bar, done_at, done_with}
+use Rattle.event_loop.specs.declared.stop.Stop.{Stop}
+use Rattle.event_loop.proofs.PositionLemmas.{area_seen}
 
 -- ---- what isn't in the table
 
@@ -75,37 +80,21 @@ pointed_bar d Left v row x0 y0 x1 y1 is = ap (λ r. Ok (scrolled_to_row d v r)) 
 pointed_bar d Middle v row x0 y0 x1 y1 is = ap (λ r. Ok (scrolled_to_share d v r)) is
 pointed_bar d keys v row x0 y0 x1 y1 is = refl
 
--- both cells are on the display, and the first is in that area
-pub pointed_in : (x : Desktop) (area : Area) (inside : Bool) (keys : Keys) (x0 y0 x1 y1 : ℕ) → inside ≡ true
-    → area ≡ area_at x x0 y0
-    → pointed first_version x area keys x0 y0 x1 y1
-    ≡ unless inside outside (pointed first_version x (area_at x x0 y0) keys x0 y0 x1 y1)
-pointed_in x area inside keys x0 y0 x1 y1 is here =
-    ap (λ (a : Area). pointed first_version x a keys x0 y0 x1 y1) here
-    ∙ sym (ap (λ (b : Bool). unless b outside (pointed first_version x (area_at x x0 y0) keys x0 y0 x1 y1)) is)
+-- what is done where both cells are on the display, and the first is in that area
+pub pointed_there : (H : Type 0) (old new : List ℕ) (d after : KeptDesktop) (keys : Keys) (x0 y0 x1 y1 : ℕ)
+    (result : Result Reply Stop) {inside : Bool} {area : Area} {outcome : Result Desktop ℕ} → inside ≡ true
+    → area ≡ area_at d x0 y0 → outcome ≡ pointed first_version (seen old d) area keys x0 y0 x1 y1
+    → IfOk result (λ reply. IsAnswered H old new d after (settled (seen old d) outcome) reply)
+    → IfOk result (λ reply. IsAnswered H old new d after (settled (seen old d)
+    (unless inside outside (pointed first_version (seen old d) (area_at (seen old d) x0 y0) keys x0 y0 x1 y1))) reply)
+pointed_there H old new d after keys x0 y0 x1 y1 result inside here is answered =
+    let x = seen old d in
+    subst (λ (o : Result Desktop ℕ). IfOk result (λ reply. IsAnswered H old new d after (settled x o) reply))
+    (is ∙ ap (λ (a : Area). pointed first_version x a keys x0 y0 x1 y1) (here ∙ sym (area_seen old d x0 y0))
+    ∙ sym (ap (λ (b : Bool). unless b outside (pointed first_version x (area_at x x0 y0) keys x0 y0 x1 y1)) inside))
+    answered
 
 -- ---- a text
-
-pub pointed_at : (d : Desktop) (keys : Keys) (v x0 y0 x1 y1 : ℕ)
-    → (keys ≡ Left) ⊎ ((keys ≡ LeftMiddle) ⊎ ((keys ≡ LeftRight) ⊎ (keys ≡ Middle)))
-    → done_at d keys v (text_position d v x1 y1) ≡ pointed first_version d (Body v) keys x0 y0 x1 y1
-unfolding pointed done_at
-pointed_at d keys v x0 y0 x1 y1 is = elim is [
-  | inl left ↦ rw left refl
-  | inr other ↦ elim other [
-    | inl middle ↦ rw middle refl
-    | inr more ↦ elim more [ inl right ↦ rw right refl | inr alone ↦ rw alone refl ]
-  ]
-]
-
-pub pointed_with : (d : Desktop) (keys : Keys) (v x0 y0 x1 y1 : ℕ)
-    → (keys ≡ Right) ⊎ ((keys ≡ RightLeft) ⊎ (keys ≡ RightMiddle))
-    → done_with d keys (stretch_drawn d v x0 y0 x1 y1) ≡ pointed first_version d (Body v) keys x0 y0 x1 y1
-unfolding pointed done_with
-pointed_with d keys v x0 y0 x1 y1 is = elim is [
-  | inl right ↦ rw right refl
-  | inr other ↦ elim other [ inl left ↦ rw left refl | inr middle ↦ rw middle refl ]
-]
 
 pub pointed_rest : (d : Desktop) (keys : Keys) (v x0 y0 x1 y1 : ℕ) → ¬ (keys ≡ Left) → ¬ (keys ≡ LeftMiddle)
     → ¬ (keys ≡ LeftRight) → ¬ (keys ≡ Right) → ¬ (keys ≡ RightLeft) → ¬ (keys ≡ RightMiddle) → ¬ (keys ≡ Middle)

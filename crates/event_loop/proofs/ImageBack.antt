@@ -2,10 +2,10 @@
 use Rattle.std.proofs.Common.{◌≡◌, ℕ, suc, zero, ◌+◌, ◌<◌, ◌≤◌, ◌∙◌, ◌==◌, true, false, cond}
 use Rattle.std.proofs.Common.{length, List, [], ◌∷◌, map}
 use Rattle.std.proofs.Common.{refl, sym, ap, subst, arith, Option, Some, None}
-use Rattle.std.specs.Prelude.{All, IsSome, is_some, option_map, slice_get}
+use Rattle.std.specs.Prelude.{All, IsSome, option_map, slice_get}
 use Rattle.std.specs.Option.{option_or}
 use Rattle.std.specs.List.{AllByRecursion, IsDistinct, count_by, filter_map, cons_option, range_with_len}
-use Rattle.std.specs.Map.{lookup, keys_of}
+use Rattle.std.specs.Map.{keys_of}
 use Rattle.std.specs.Ordering.{nat_cmp}
 use Rattle.std.specs.BTreeMap.{is_at}
 use Rattle.std.proofs.lemmas.Bool.{eqb-true, eq-eqb, ne_eqb}

@@ -23,7 +23,6 @@ use Rattle.piece_ring.specs.Renaming.{renamed}
 use Rattle.piece_ring.specs.Text.{Text}
 use Rattle.viewer_tracks.specs.declared.display.TheConstants.{ROWS}
 use Rattle.viewer_tracks.specs.Viewers.{Entry, IsTrack}
-use Rattle.event_loop_laws.specs.declared.viewer.Viewer.{Viewer}
 use Rattle.event_loop_laws.specs.Looks.{IsLook, AreLooks}
 use Rattle.event_loop_laws.specs.Tables.{Texts, Files, name_cmp}
 use Rattle.event_loop_laws.specs.TableLaws.{kept_lengths}

@@ -21,6 +21,7 @@ use Rattle.desk_image.specs.Image.{look_bytes, cell_bytes, optional, listed, tex
 use Rattle.desk_image.specs.Image.{viewer_bytes, entry_bytes, kept_bytes, picture_of, image_of, image_bytes}
 use Rattle.desk_image.specs.Image.{IsSpellable}
 use Rattle.desk_image.specs.Laws.{RoomLaw}
+use Rattle.event_loop.specs.Images.{settings_long, tables_long, display_long}
 use Rattle.desk_image.proofs.Counting.{long_image}
 
 -- ---- one element after another
@@ -112,13 +113,8 @@ image_in_three d =
     (optional kept_bytes d.kept)
 
 -- how long it is, as its parts are counted
-pub image_long : (d : KeptDesktop) → length (image_bytes (image_of d)) ≡ (length (look_bytes d.look)
-    + (length (counted byte d.pattern) + length (optional cell_bytes d.marker)))
-    + ((length (listed word text_bytes d.texts) + (length (listed word file_bytes d.files)
-    + (length (pieces_bytes d.copied) + length (pieces_bytes d.deleted))))
-    + (length (listed byte viewer_bytes (map (picture_of d.caret d.selections) d.viewers))
-    + (length (listed byte entry_bytes (shown d.columns User))
-    + (length (listed byte entry_bytes (shown d.columns System)) + length (optional kept_bytes d.kept)))))
+pub image_long : (d : KeptDesktop)
+    → length (image_bytes (image_of d)) ≡ settings_long d + (tables_long d + display_long d)
 unfolding image_of
 image_long d = let long = long_image (image_of d) in omega (arith, long)
 

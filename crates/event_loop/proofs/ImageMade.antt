@@ -1,6 +1,6 @@
 -- The desktop that is drafted of parts that fit and make one holds together, and has these parts.
 use Rattle.std.proofs.Common.{◌≡◌, ℕ, ◌+◌, ◌-◌, ◌<◌, ◌≤◌, ◌^◌, ◌∙◌, ◌==◌, ◌||◌, not, Bool, true, false, cond, length}
-use Rattle.std.proofs.Common.{List, [], ◌∷◌, map, refl, sym, ap, subst, arith, Option, Some, None}
+use Rattle.std.proofs.Common.{List, [], ◌∷◌, refl, sym, ap, subst, arith, Option, Some, None}
 use Rattle.std.proofs.lemmas.List.Elements.{All-nil, All-cons, All-tail}
 use Rattle.std.specs.Prelude.{All, slice_index, IsTrue, is_some, IfSome, nat_le, nat_lt, option_map, if◌then◌else◌}
 use Rattle.std.specs.Option.{ForSome}
@@ -25,7 +25,7 @@ use Rattle.event_loop_laws.specs.declared.viewer.Selection.{Selection}
 use Rattle.event_loop_laws.specs.declared.viewer.Kept.{Kept}
 use Rattle.event_loop_laws.specs.Limits.{most_written, most_held}
 use Rattle.event_bytes.specs.Bytes.{is_name}
-use Rattle.event_loop_laws.specs.Tables.{Texts, Files, numbered, lengths, name_cmp}
+use Rattle.event_loop_laws.specs.Tables.{Texts, numbered, name_cmp}
 use Rattle.event_loop_laws.specs.Desktop.{held}
 use Rattle.event_loop_laws.specs.Viewers.{viewer_in, viewer_or_none, main_length}
 use Rattle.event_loop_laws.specs.Opening.{is_shown}

@@ -5,7 +5,6 @@ use Rattle.std.specs.Option.{option_or}
 use Rattle.std.specs.List.{list_all, count_by, filter_map, cons_option, range_with_len}
 use Rattle.std.proofs.lemmas.Bool.{and_parts, eqb-true, ne_eqb, cases_lt, cases_eq}
 use Rattle.std.proofs.lemmas.List.Sums.{sum_by-cons}
-use Rattle.event_loop_laws.specs.declared.viewer.Viewer.{Viewer}
 use Rattle.event_loop_laws.specs.declared.viewer.Caret.{Caret}
 use Rattle.event_loop_laws.specs.declared.viewer.Selection.{Selection}
 use Rattle.desk_image.specs.declared.picture.Ranked.{Ranked}

@@ -10,10 +10,13 @@ pub mod OpeningLemmas
 pub mod PositionLemmas
 pub mod ReadLemmas
 pub mod ReadFirst
+pub mod ArmLemmas
+pub mod StoredLemmas
 pub mod GestureLemmas
 pub mod CallLemmas
 pub mod BarLemmas
 pub mod MarkLemmas
+pub mod StretchLemmas
 pub mod Decimals
 pub mod LogLemmas
 pub mod ImageLemmas

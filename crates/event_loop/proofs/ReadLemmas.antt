@@ -1,5 +1,5 @@
 -- What a row owes that reads the source first, and what it leaves.
-use Rattle.std.proofs.Common.{◌≡◌, ◌≤◌, ℕ, List, length, refl, sym, ap, subst, ◌∙◌, arith}
+use Rattle.std.proofs.Common.{◌≡◌, ◌≤◌, ℕ, List, length, sym, ap, subst, ◌∙◌, arith}
 use Rattle.std.specs.Prelude.{Result, Ok, IfOk}
 use Rattle.std.proofs.lemmas.Result.{IfOk-weaker}
 use Rattle.piece_ring.specs.Flat.{flat}
@@ -26,13 +26,6 @@ pub unchanged_answered : (H : Type 0) (old new : List ℕ) (d : KeptDesktop) (ou
 unchanged_answered H old new d outcome over long same is =
     row_answered H old new d d outcome (over_read old new d long over)
     (λ h. ap (λ (l : List ℕ). seen l d) (same h) ∙ is h)
-
--- the same, whatever the name of the outcome
-pub rest_done : (H : Type 0) (old : List ℕ) (d : KeptDesktop) (outcome : Result Desktop ℕ) → IsOver old d
-    → outcome ≡ Ok (seen old d) → IsAnswered H old old d d (settled (seen old d) outcome) Done
-rest_done H old d outcome over is =
-    subst (λ (o : Result Desktop ℕ). IsAnswered H old old d d (settled (seen old d) o) Done) (sym is)
-    (unchanged_answered H old old d (seen old d) over refl (λ h. refl) (λ h. refl))
 
 -- a row after which a viewer begins elsewhere
 pub org_answered : (H : Type 0) (old new : List ℕ) (d after : KeptDesktop) (v org : ℕ) (outcome : Desktop)
@@ -72,15 +65,6 @@ read_first F a b H G old mid new d after result so long same is answered =
     (λ reply done. read_answered H G old mid new d after (settled (seen old d) (F (seen old d) b))
     (settled (seen mid d) (F (seen mid d) a)) reply so long
     (λ h. λ k. settled (seen (same h k) d) (F (seen (same h k) d) (is h k))) done) answered
-
--- an outcome by another name
-pub outcome_as : (H : Type 0) (old new : List ℕ) (d after : KeptDesktop) (result : Result Reply Stop) (x : Desktop)
-    (a b : Result Desktop ℕ) → a ≡ b
-    → IfOk result (λ reply. IsAnswered H old new d after (settled x a) reply)
-    → IfOk result (λ reply. IsAnswered H old new d after (settled x b) reply)
-outcome_as H old new d after result x a b same answered =
-    subst (λ (o : Result Desktop ℕ). IfOk result (λ reply. IsAnswered H old new d after (settled x o) reply)) same
-    answered
 
 module _ {S : Type 0} (characters : S → List ℕ) (failures : S → ℕ) (honest : S → Type 0)
     (same_ground : S → S → Type 0) where

@@ -34,6 +34,7 @@ use Rattle.event_loop_laws.specs.TableLaws.{lookup_seen, is_some_map, length_see
 use Rattle.event_loop_laws.specs.ChangeLaws.{is_there}
 use Rattle.text_frames.specs.Rules.{shown_org}
 use Rattle.event_loop_laws.specs.Looks.{IsLook, AreLooks}
+use Rattle.event_loop.specs.Views.{IsMovable}
 use Rattle.event_loop_laws.specs.LookedLaws.{inserted_looks, deleted_looks, looks_changed_looks, kept_text_looks}
 
 -- the desktop with other texts, whose frames lost caret and selection, and other viewers
@@ -193,7 +194,7 @@ module _ (characters : List ℕ) (d : KeptDesktop) (v : ℕ) (built : IsBuilt (l
       (once_there (is_some (viewer_in d.viewers v)) (times_placed v d.columns)
       (times_meant v (option_map (λ k. k.viewer) d.kept)) placed ((built.shaped characters).places.once v))
 
-  pub main_there : IsSome (numbered d.texts (viewer_or_none d.viewers v).main)
+  main_there : IsSome (numbered d.texts (viewer_or_none d.viewers v).main)
   unfolding seen
   main_there =
       let n : ℕ = (viewer_or_none d.viewers v).main in
@@ -201,16 +202,19 @@ module _ (characters : List ℕ) (d : KeptDesktop) (v : ℕ) (built : IsBuilt (l
       ∙ sym (ap (λ (o : Option (Text ℕ)). is_some o) (lookup_seen (seen_text characters) (is_at (nat_cmp n)) d.texts))
       ∙ ((built.shaped characters).viewers.each v (viewer_or_none d.viewers v) viewer_there).main
 
-  pub org_there : (viewer_or_none d.viewers v).org ≤ length (flat (text_in d.texts (viewer_or_none d.viewers v).main))
+  org_there : (viewer_or_none d.viewers v).org ≤ length (flat (text_in d.texts (viewer_or_none d.viewers v).main))
   unfolding seen
   org_there =
       let low = ((built.shaped characters).viewers.each v (viewer_or_none d.viewers v) viewer_there).org in
       subst (λ (m : ℕ). (viewer_or_none d.viewers v).org ≤ m)
       (long_seen characters d.texts (viewer_or_none d.viewers v).main) low
 
-  pub characters_there : AreWithin (length characters) (flat (text_in d.texts (viewer_or_none d.viewers v).main))
+  characters_there : AreWithin (length characters) (flat (text_in d.texts (viewer_or_none d.viewers v).main))
   characters_there =
       text_within (length characters) d.texts (viewer_or_none d.viewers v).main built.within.texts
+
+  pub movable : IsMovable (length characters) d.texts (viewer_or_none d.viewers v)
+  movable = record { there = main_there; org = org_there; offsets = characters_there }
 
   pub caret_put : (H : Type 0) (p org rows : ℕ) (viewers : List (ℕ × Viewer))
       → p ≤ length (flat (text_in d.texts (viewer_or_none d.viewers v).main))

@@ -6,8 +6,10 @@ use Rattle.std.specs.List.{list_all, list_any, filter_map, range_with_len}
 use Rattle.std.specs.Map.{keys_of}
 use Rattle.piece_ring.specs.declared.piece.Piece.{Piece}
 use Rattle.piece_ring.specs.Flat.{flat}
+use Rattle.event_bytes.specs.Parts.{byte, word, counted}
 use Rattle.viewer_tracks.specs.Viewers.{Entry, times_in}
-use Rattle.viewer_tracks.specs.Columns.{times_meant}
+use Rattle.viewer_tracks.specs.declared.display.Track.TheVariants.{User, System}
+use Rattle.viewer_tracks.specs.Columns.{times_meant, shown}
 use Rattle.event_loop_laws.specs.declared.viewer.Viewer.{Viewer}
 use Rattle.event_loop_laws.specs.declared.viewer.Caret.{Caret}
 use Rattle.event_loop_laws.specs.declared.viewer.Selection.{Selection}
@@ -19,7 +21,23 @@ use Rattle.event_loop_laws.specs.Viewers.{text_in, viewer_or_none}
 use Rattle.event_loop_laws.specs.Sound.{IsKeptWhole}
 use Rattle.desk_image.specs.declared.picture.Ranked.{Ranked}
 use Rattle.desk_image.specs.declared.picture.ViewerPicture.{ViewerPicture}
-use Rattle.desk_image.specs.Image.{Image, caret_in, ranked_in, image_of}
+use Rattle.desk_image.specs.Image.{Image, caret_in, ranked_in, image_of, picture_of, listed, optional}
+use Rattle.desk_image.specs.Image.{look_bytes, cell_bytes, kept_bytes, text_bytes, file_bytes, pieces_bytes}
+use Rattle.desk_image.specs.Image.{viewer_bytes, entry_bytes}
+
+-- ---- how many bytes an image has, in three groups of its parts
+
+abbrev pub settings_long : KeptDesktop → ℕ
+settings_long d = length (look_bytes d.look) + (length (counted byte d.pattern) + length (optional cell_bytes d.marker))
+
+abbrev pub tables_long : KeptDesktop → ℕ
+tables_long d = length (listed word text_bytes d.texts) + (length (listed word file_bytes d.files)
+    + (length (pieces_bytes d.copied) + length (pieces_bytes d.deleted)))
+
+abbrev pub display_long : KeptDesktop → ℕ
+display_long d = length (listed byte viewer_bytes (map (picture_of d.caret d.selections) d.viewers))
+    + (length (listed byte entry_bytes (shown d.columns User))
+    + (length (listed byte entry_bytes (shown d.columns System)) + length (optional kept_bytes d.kept)))
 
 -- ---- the desktop that has the parts of an image
 

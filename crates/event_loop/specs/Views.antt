@@ -1,6 +1,8 @@
 -- Viewers on their way to the screen.
-use Rattle.std.specs.Prelude.{ℕ, List, Option, IsSome}
+use Rattle.std.specs.Prelude.{◌≤◌, ℕ, List, length, Option, IsSome}
 use Rattle.piece_ring.specs.declared.piece.Piece.{Piece}
+use Rattle.piece_ring.specs.Flat.{flat}
+use Rattle.piece_ring.specs.Offsets.{AreWithin}
 use Rattle.text_frames.specs.declared.frame.Frame.{Frame}
 use Rattle.screen_cells.specs.declared.shown.Shown.{Shown}
 use Rattle.event_loop_laws.specs.declared.viewer.Viewer.{Viewer}
@@ -43,6 +45,12 @@ kept_view texts v = record {
 -- as it is handed to the screen
 abbrev pub shown_view : Shown → KeptView
 shown_view s = record { id = s.id.0; menu = s.menu.now; main = s.main.now; frame = s.frame.now }
+
+-- the frame of a viewer's main text can be moved where there are n characters
+pub record IsMovable (n : ℕ) (texts : Texts (List Piece)) (viewer : Viewer) : Type 0 where
+  pub there : IsSome (numbered texts viewer.main)
+  pub org : viewer.org ≤ length (flat (text_in texts viewer.main))
+  pub offsets : AreWithin n (flat (text_in texts viewer.main))
 
 -- both texts of a view are there
 abbrev pub AreThere : Texts (List Piece) → View → Type 0

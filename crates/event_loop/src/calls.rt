@@ -74,6 +74,7 @@ impl Desk {
     }
 
     /// Does what a command does.
+    #[tactic(auto, unfolding(event_loop_laws::specs::Commands::commanded))]
     fn command<S: CharSource>(
         &mut self,
         alloc: Global,
@@ -128,6 +129,7 @@ impl Desk {
     }
 
     /// What a command does with a name.
+    #[tactic(auto, unfolding(crate::specs::Calls::done_with_name), using(crate::proofs::CallLemmas::looks_set))]
     fn do_with_name<S: CharSource>(
         &mut self,
         alloc: Global,
@@ -171,6 +173,7 @@ impl Desk {
     }
 
     /// What a command does with a number.
+    #[tactic(auto, unfolding(crate::specs::Calls::done_with_number), using(crate::proofs::CallLemmas::looks_set))]
     fn do_with_number<S: CharSource>(
         &mut self,
         alloc: Global,
@@ -210,6 +213,24 @@ impl Desk {
         let Some(id) = self.meant(call) else {
             return Ok(Reply::No(codes::NO_VIEWER));
         };
+        self.do_with_viewer(alloc, command, id, source)
+    }
+
+    /// What a command does with a viewer.
+    #[tactic(auto, unfolding(crate::specs::Calls::done_with_viewer))]
+    fn do_with_viewer<S: CharSource>(
+        &mut self,
+        alloc: Global,
+        command: Command,
+        id: u8,
+        source: &mut S,
+    ) -> Result<Reply, Stop>
+        requires placed { IsPlaced id (kept self.old).columns }
+        requires over { IsOver (S.characters source.old) (kept self.old) }
+        ensures answered { IfOk result (Settles S.CharSource (λ d. done_with_viewer d command id)
+            source.old source.new (kept self.old) (kept self.new)) }
+        ensures uses { Uses S.CharSource result source.old source.new }
+    {
         match command {
             Command::SystemClose => self.close_viewer(id, source),
             Command::SystemCopy => self.copy_viewer(alloc, id, source),

@@ -5,7 +5,7 @@ ghost use Rattle.piece_ring.specs.Flat.{flat};
 ghost use Rattle.piece_ring.specs.Offsets.{AreWithin};
 ghost use Rattle.piece_ring.specs.Text.{Text as AText};
 ghost use Rattle.viewer_tracks.specs.declared.display.TheConstants.{ROWS, COLUMNS};
-ghost use Rattle.viewer_tracks.specs.Columns.{IsPlaced};
+ghost use Rattle.viewer_tracks.specs.Columns.{IsPlaced, allocated};
 ghost use Rattle.event_loop_laws.specs.Limits.{most_written};
 ghost use Rattle.event_loop_laws.specs.Looks.{AreLooks};
 ghost use Rattle.event_loop_laws.specs.Tables.{named};
@@ -17,7 +17,8 @@ ghost use Rattle.event_loop_laws.specs.Commands.{viewer_copied};
 ghost use Rattle.event_loop_laws.specs.Gesture.{tool_opened};
 ghost use Rattle.event_loop_laws.specs.Seen.{seen, seen_text};
 ghost use Rattle.event_loop_laws.specs.Step.{fits};
-ghost use Rattle.event_loop_laws.specs.Sound.{IsOver};
+ghost use Rattle.event_loop_laws.specs.Sound.{IsKeptWhole, IsOver};
+ghost use Rattle.event_loop_laws.specs.OpeningOnLaws.{IsPlaceOf};
 ghost use Rattle.event_loop.specs.Kept.{kept};
 ghost use Rattle.event_loop.specs.Row.{Settles, Uses};
 
@@ -34,7 +35,7 @@ use event_loop_laws::{Reply, codes};
 use piece_ring::DEFAULT_LOOK;
 use std::alloc::Global;
 use text_core::Text;
-use viewer_tracks::{Track, ViewerId, edits_keep_columns, edits_place_viewers};
+use viewer_tracks::{Place, Track, ViewerId, edits_keep_columns, edits_place_viewers};
 
 /// The menu of a viewer of that name.
 fn menu_line(name: &[u8]) -> ArrayVec<u8, 100>
@@ -69,6 +70,24 @@ fn copy_of_file(alloc: Global, files: &Files, name: &Name) -> Result<Text, NoMem
 }
 
 impl Desk {
+    /// The cell, as column and row, at which a viewer opens: above the marker, or else in that track.
+    fn free_cell(&self, track: Track) -> (u8, u8)
+        requires { IsKeptWhole (kept self.now) }
+        ensures cell { result ≡ allocated (kept self.now).columns track (kept self.now).marker }
+        ensures column { result.0 < COLUMNS }
+        ensures row { result.1 ≤ ROWS }
+    {
+        self.tracks.allocate(track, self.marker)
+    }
+
+    /// Where a viewer stands.
+    fn place_of(&self, id: u8) -> Place
+        requires { IsPlaced id (kept self.now).columns }
+        ensures { IsPlaceOf (kept self.now).columns id result.x result.bottom result.top }
+    {
+        self.tracks.place_of(ViewerId(id))
+    }
+
     /// A copy of a file, or an empty text where there is none of that name, opens in the user track.
     pub fn open_document<S: CharSource>(
         &mut self,
@@ -81,7 +100,7 @@ impl Desk {
             source.old source.new (kept self.old) (kept self.new)) }
         ensures uses { Uses S.CharSource result source.old source.new }
     {
-        let (x, y) = self.tracks.allocate(Track::User, self.marker);
+        let (x, y) = self.free_cell(Track::User);
         self.open_named(alloc, name, x, y, source)
     }
 
@@ -100,7 +119,7 @@ impl Desk {
         if !self.files.contains_key(name) {
             return Ok(Reply::No(codes::NO_FILE));
         }
-        let (x, y) = self.tracks.allocate(Track::System, self.marker);
+        let (x, y) = self.free_cell(Track::System);
         self.open_named(alloc, name, x, y, source)
     }
 
@@ -199,7 +218,7 @@ impl Desk {
     {
         edits_keep_columns();
         edits_place_viewers();
-        let (x, y) = self.tracks.allocate(Track::System, self.marker);
+        let (x, y) = self.free_cell(Track::System);
         let menu = menu_line(b"System.Log");
         let len = menu.len();
         if !self.opening_on_fits(len, len, x, y) {
@@ -228,7 +247,7 @@ impl Desk {
     {
         edits_keep_columns();
         edits_place_viewers();
-        let place = self.tracks.place_of(ViewerId(id));
+        let place = self.place_of(id);
         let rows = place.top - place.bottom;
         if rows == 1 {
             return Ok(Reply::No(codes::TOO_LOW));

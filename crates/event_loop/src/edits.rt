@@ -1,21 +1,20 @@
 //! Edits that several rows have: what is put in or taken out, with the caret where it was, and copies of stretches.
-ghost use Rattle.std.specs.Prelude.{◌≡◌, ◌+◌, ◌-◌, ◌<◌, ◌≤◌, ◌^◌, ◌&&◌, ℕ, List, length, nat_le, IfOk, OnOk};
+ghost use Rattle.std.specs.Prelude.{◌≡◌, ◌+◌, ◌-◌, ◌<◌, ◌≤◌, ◌^◌, ◌&&◌, ℕ, List, length, nat_le};
+ghost use Rattle.std.specs.Prelude.{IfOk, IfSome, IsSome, OnOk};
 ghost use Rattle.sector_disk.specs.Faults.{FailsAs};
-ghost use Rattle.char_file.specs.Source.{OnlyReads};
-ghost use Rattle.piece_ring.specs.Flat.{flat};
-ghost use Rattle.piece_ring.specs.Offsets.{AreWithin};
+ghost use Rattle.readers_scanners.specs.Words.{OnlyReads, flat};
 ghost use Rattle.piece_ring.specs.Text.{stretch};
-ghost use Rattle.viewer_tracks.specs.Columns.{IsPlaced};
 ghost use Rattle.event_loop_laws.specs.Limits.{most_written, most_held};
-ghost use Rattle.event_loop_laws.specs.Looks.{AreLooks};
+ghost use Rattle.event_loop_laws.specs.Tables.{numbered};
 ghost use Rattle.event_loop_laws.specs.Viewers.{viewer_or_none, newest};
 ghost use Rattle.event_loop_laws.specs.Change.{put_in, put_at_caret, cut_out};
 ghost use Rattle.event_loop_laws.specs.Seen.{seen, seen_text};
-ghost use Rattle.event_loop_laws.specs.Sound.{IsKeptWhole, IsBuilt};
+ghost use Rattle.event_loop_laws.specs.Sound.{IsKeptWhole, IsBuilt, IsOver};
 ghost use Rattle.event_loop_laws.specs.Changed.{IsChanged};
 ghost use Rattle.event_loop_laws.specs.RowLaws.{has_space};
 ghost use Rattle.event_loop_laws.specs.RowPartLaws.{kept_main};
 ghost use Rattle.event_loop.specs.Kept.{kept};
+ghost use Rattle.event_loop.specs.Positions.{IsPosition, CanGo};
 ghost use Rattle.event_loop.specs.Stops.{IsStop};
 
 use crate::desk::Desk;
@@ -46,6 +45,27 @@ impl Desk {
         self.selections.last().copied()
     }
 
+    /// The selection that was made last, if there is one: a stretch that stands there.
+    pub fn selection(&self) -> Option<Selection>
+        requires { IsKeptWhole (kept self.now) }
+        ensures is { result ≡ newest (kept self.now) }
+        ensures some { IfSome result (λ s. s.beg < s.end) }
+        ensures stands { IfSome result (λ s. IsPosition (kept self.now) s.viewer s.end) }
+        ensures there { IfSome result (λ s. IsSome (numbered (kept self.now).texts
+            (viewer_or_none (kept self.now).viewers s.viewer).main)) }
+    {
+        self.newest()
+    }
+
+    /// Where the caret stands, if there is one.
+    pub fn caret_place(&self) -> Option<Caret>
+        requires { IsKeptWhole (kept self.now) }
+        ensures is { result ≡ (kept self.now).caret }
+        ensures stands { IfSome result (λ c. IsPosition (kept self.now) c.viewer c.position) }
+    {
+        self.caret
+    }
+
     /// The number of a viewer's main text.
     pub fn main_of(&self, id: u8) -> u16
         ensures { result ≡ (viewer_or_none (kept self.now).viewers id).main }
@@ -56,8 +76,8 @@ impl Desk {
         }
     }
 
-    /// A copy of a stretch of a viewer's main text.
-    pub fn copy_of(&self, alloc: Global, selection: Selection) -> Result<Buffer, NoMemory>
+    /// The characters of a stretch of a viewer's main text.
+    fn characters_of(&self, alloc: Global, selection: Selection) -> Result<Buffer, NoMemory>
         requires order { selection.beg ≤ selection.end }
         requires within { selection.end ≤ length (flat (kept_main (kept self.now) selection.viewer)) }
         ensures { IfOk result (λ copy. flat copy
@@ -71,6 +91,19 @@ impl Desk {
         Ok(copy)
     }
 
+    /// A copy of a stretch of a viewer's main text, which can go into any viewer's.
+    pub fn copy_of(&self, alloc: Global, selection: Selection) -> Result<Buffer, NoMemory>
+        requires order { selection.beg ≤ selection.end }
+        requires within { selection.end ≤ length (flat (kept_main (kept self.now) selection.viewer)) }
+        ensures is { IfOk result (λ copy. flat copy
+            ≡ stretch selection.beg selection.end (flat (kept_main (kept self.now) selection.viewer))) }
+        ensures goes { IfOk result (λ copy. (characters : List ℕ) (v : ℕ) → IsOver characters (kept self.now)
+            → CanGo (length characters) (kept self.now) v copy) }
+    {
+        let copy = self.characters_of(alloc, selection)?;
+        Ok(copy)
+    }
+
     /// Puts the buffer's characters into a viewer's main text at `pos`, and the caret after them, where it is shown.
     pub fn put_in<S: CharSource>(
         &mut self,
@@ -81,11 +114,8 @@ impl Desk {
         source: &mut S,
     ) -> Result<(), Stop>
         requires built { IsBuilt (length (S.characters source.old)) (kept self.old) }
-        requires placed { IsPlaced id (kept self.old).columns }
-        requires place { pos ≤ length (flat (kept_main (kept self.old) id)) }
-        requires short { length (flat (kept_main (kept self.old) id)) + length (flat buffer.old) < 2 ^ 32 }
-        requires within { AreWithin (length (S.characters source.old)) (flat buffer.old) }
-        requires looks { AreLooks (flat buffer.old) }
+        requires at { IsPosition (kept self.old) id pos }
+        requires goes { CanGo (length (S.characters source.old)) (kept self.old) id buffer.old }
         ensures changed { OnOk result (IsChanged (S.honest source.old) (S.characters source.old) (kept self.old)
             (kept self.new) (put_in (seen (S.characters source.old) (kept self.old)) id pos
             (seen_text (S.characters source.old) buffer.old)) (length (flat buffer.old)) 0) }
@@ -109,11 +139,8 @@ impl Desk {
         source: &mut S,
     ) -> Result<(), Stop>
         requires built { IsBuilt (length (S.characters source.old)) (kept self.old) }
-        requires placed { IsPlaced caret.viewer (kept self.old).columns }
-        requires place { caret.position ≤ length (flat (kept_main (kept self.old) caret.viewer)) }
-        requires short { length (flat (kept_main (kept self.old) caret.viewer)) + length (flat buffer.old) < 2 ^ 32 }
-        requires within { AreWithin (length (S.characters source.old)) (flat buffer.old) }
-        requires looks { AreLooks (flat buffer.old) }
+        requires at { IsPosition (kept self.old) caret.viewer caret.position }
+        requires goes { CanGo (length (S.characters source.old)) (kept self.old) caret.viewer buffer.old }
         ensures changed { OnOk result (IsChanged (S.honest source.old) (S.characters source.old) (kept self.old)
             (kept self.new) (put_at_caret (seen (S.characters source.old) (kept self.old))
             (seen_text (S.characters source.old) buffer.old) caret) (length (flat buffer.old)) 0) }
@@ -137,9 +164,8 @@ impl Desk {
         source: &mut S,
     ) -> Result<(), Stop>
         requires built { IsBuilt (length (S.characters source.old)) (kept self.old) }
-        requires placed { IsPlaced selection.viewer (kept self.old).columns }
         requires some { selection.beg < selection.end }
-        requires place { selection.end ≤ length (flat (kept_main (kept self.old) selection.viewer)) }
+        requires at { IsPosition (kept self.old) selection.viewer selection.end }
         ensures changed { OnOk result (IsChanged (S.honest source.old) (S.characters source.old) (kept self.old)
             (kept self.new) (cut_out (seen (S.characters source.old) (kept self.old)) selection)
             0 (selection.end - selection.beg)) }

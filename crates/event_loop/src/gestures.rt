@@ -57,6 +57,7 @@ impl Desk {
     }
 
     /// In a filler, at a cell.
+    #[tactic(auto, unfolding(crate::specs::Mouse::done_in_filler))]
     fn point_filler<S: CharSource>(
         &mut self,
         alloc: Global,
@@ -78,6 +79,7 @@ impl Desk {
     }
 
     /// In the menu of a viewer; the keys went up at a cell.
+    #[tactic(auto, unfolding(crate::specs::Mouse::done_in_menu))]
     fn point_menu<S: CharSource>(
         &mut self,
         alloc: Global,
@@ -122,6 +124,7 @@ impl Desk {
     }
 
     /// In the scroll bar of a viewer, at a row of its main frame.
+    #[tactic(auto, unfolding(crate::specs::Mouse::done_in_bar))]
     fn point_bar<S: CharSource>(
         &mut self,
         keys: Keys,
@@ -194,6 +197,7 @@ impl Desk {
     }
 
     /// At a position of a viewer's main text.
+    #[tactic(auto, unfolding(crate::specs::Mouse::done_at))]
     fn point_position<S: CharSource>(
         &mut self,
         alloc: Global,
@@ -242,6 +246,7 @@ impl Desk {
     }
 
     /// With a stretch of a viewer's main text.
+    #[tactic(auto, unfolding(crate::specs::Mouse::done_with))]
     fn point_stretch<S: CharSource>(
         &mut self,
         alloc: Global,

@@ -7,6 +7,8 @@ ghost use Rattle.event_loop_laws.specs.Sound.{IsKeptWhole};
 ghost use Rattle.desk_image.specs.Image.{picture_of, image_of, listed, text_bytes, file_bytes, viewer_bytes};
 ghost use Rattle.desk_image.specs.Image.{look_bytes, cell_bytes, kept_bytes, optional, pieces_bytes, entry_bytes};
 ghost use Rattle.desk_image.specs.Image.{image_bytes, IsSpellable};
+ghost use Rattle.desk_image.specs.declared.limits.TheConstants.{IMAGE_BYTES};
+ghost use Rattle.event_loop.specs.Images.{settings_long, tables_long, display_long};
 ghost use Rattle.event_loop.specs.Kept.{kept};
 
 use crate::desk::Desk;
@@ -94,20 +96,15 @@ impl Desk {
     /// How many bytes the look in which characters are typed, the pattern and the marker have.
     fn settings_len(&self) -> usize
         requires { length (kept self.now).pattern < 2 ^ 8 }
-        ensures { result ≡ length (look_bytes (kept self.now).look)
-            + (length (counted byte (kept self.now).pattern) + length (optional cell_bytes (kept self.now).marker)) }
+        ensures { result ≡ settings_long (kept self.now) }
     {
         LOOK_BYTES + (1 + self.pattern.len() + cell_len(self.marker))
     }
 
     /// How many bytes the texts, files and buffers have.
     fn tables_len(&self) -> usize
-        requires { length (listed word text_bytes (kept self.now).texts)
-            + (length (listed word file_bytes (kept self.now).files)
-            + (length (pieces_bytes (kept self.now).copied) + length (pieces_bytes (kept self.now).deleted))) < 2 ^ 32 }
-        ensures { result ≡ length (listed word text_bytes (kept self.now).texts)
-            + (length (listed word file_bytes (kept self.now).files)
-            + (length (pieces_bytes (kept self.now).copied) + length (pieces_bytes (kept self.now).deleted))) }
+        requires { tables_long (kept self.now) < 2 ^ 32 }
+        ensures { result ≡ tables_long (kept self.now) }
     {
         let buffers = buffer_len(&self.copied) + buffer_len(&self.deleted);
         texts_len(&self.texts) + (files_len(&self.files) + buffers)
@@ -137,14 +134,21 @@ impl Desk {
         requires marks { length (kept self.now).selections ≤ 255 }
         requires few { length (listed byte viewer_bytes
             (map (picture_of (kept self.now).caret (kept self.now).selections) (kept self.now).viewers)) < 2 ^ 32 }
-        ensures { result ≡ length (listed byte viewer_bytes
-            (map (picture_of (kept self.now).caret (kept self.now).selections) (kept self.now).viewers))
-            + (length (listed byte entry_bytes (shown (kept self.now).columns User))
-            + (length (listed byte entry_bytes (shown (kept self.now).columns System))
-            + length (optional kept_bytes (kept self.now).kept))) }
+        ensures { result ≡ display_long (kept self.now) }
     {
         let system = self.track_len(Track::System) + kept_len(self.kept);
         self.pictures_len() + (self.track_len(Track::User) + system)
+    }
+
+    /// The image of the desktop has room, and has as many bytes as its parts.
+    fn image_has_room(&self)
+        requires whole { IsKeptWhole (kept self.now) }
+        requires spellable { IsSpellable (kept self.now) }
+        ensures room { length (image_bytes (image_of (kept self.now))) ≤ IMAGE_BYTES }
+        ensures parts { length (image_bytes (image_of (kept self.now)))
+            ≡ settings_long (kept self.now) + (tables_long (kept self.now) + display_long (kept self.now)) }
+    {
+        images_have_room();
     }
 
     /// How many bytes the image of the desktop has.
@@ -153,7 +157,7 @@ impl Desk {
         requires spellable { IsSpellable (kept self.now) }
         ensures { result ≡ length (image_bytes (image_of (kept self.now))) }
     {
-        images_have_room();
+        self.image_has_room();
         (self.settings_len() + (self.tables_len() + self.display_len())) as u32
     }
 }

@@ -25,8 +25,33 @@ use desk_image::{
 };
 use event_bytes::Name;
 use event_loop_laws::{Caret, Selection, Viewer};
+use piece_ring::Cursor;
 use text_core::{Buffer, Text};
 use viewer_tracks::{Track, Tracks};
+
+/// All pieces of a text.
+fn all_of(text: &Text) -> Cursor<'_>
+    ensures { result.left ≡ text.now }
+{
+    text.cursor(0)
+}
+
+/// All pieces of a buffer.
+fn all_in(buffer: &Buffer) -> Cursor<'_>
+    ensures { result.left ≡ buffer.now }
+{
+    buffer.cursor(0)
+}
+
+/// Puts pieces that are left, after how many there are. Once they were put none was empty.
+fn put_left<K: ByteSink>(sink: &mut K, count: u32, left: Cursor<'_>) -> Result<(), Fault>
+    requires count { length left.left ≡ count }
+    requires looks { AreLooks (seen_text [] left.left) }
+    ensures puts { Puts K.ByteSink result (pieces_bytes left.entry.left) sink.old sink.new }
+    ensures some { OnOk result (AreSome left.entry.left) }
+{
+    put_pieces(sink, count, left)
+}
 
 /// Puts the pieces of a text, after how many there are. Once they were put none was empty.
 fn put_pieces_of<K: ByteSink>(sink: &mut K, text: &Text) -> Result<(), Fault>
@@ -34,7 +59,7 @@ fn put_pieces_of<K: ByteSink>(sink: &mut K, text: &Text) -> Result<(), Fault>
     ensures puts { Puts K.ByteSink result (pieces_bytes text.now) sink.old sink.new }
     ensures some { OnOk result (AreSome text.now) }
 {
-    put_pieces(sink, text.pieces(), text.cursor(0))
+    put_left(sink, text.pieces(), all_of(text))
 }
 
 /// Puts a text after its number.
@@ -93,11 +118,11 @@ fn put_buffer<K: ByteSink>(sink: &mut K, buffer: &Buffer) -> Result<(), Fault>
     ensures puts { Puts K.ByteSink result (pieces_bytes buffer.now) sink.old sink.new }
     ensures some { OnOk result (AreSome buffer.now) }
 {
-    put_pieces(sink, buffer.pieces(), buffer.cursor(0))
+    put_left(sink, buffer.pieces(), all_in(buffer))
 }
 
 /// What is selected in the viewer of that id, and its rank.
-fn ranked_in(selections: &[Selection], id: u8) -> Option<Ranked>
+pub fn ranked_in(selections: &[Selection], id: u8) -> Option<Ranked>
     requires { length selections.now ≤ 255 }
     ensures { result ≡ ranked_in 1 selections.now id }
 {

@@ -30,7 +30,7 @@ impl Desk {
             source.old source.new (kept self.old) (kept self.new)) }
         ensures uses { Uses S.CharSource result source.old source.new }
     {
-        let Some(caret) = self.caret else {
+        let Some(caret) = self.caret_place() else {
             return Ok(Reply::No(codes::NO_CARET));
         };
         let bytes = bytes.as_bytes();
@@ -72,7 +72,7 @@ impl Desk {
             source.old source.new (kept self.old) (kept self.new)) }
         ensures uses { Uses S.CharSource result source.old source.new }
     {
-        let Some(caret) = self.caret else {
+        let Some(caret) = self.caret_place() else {
             return Ok(Reply::No(codes::NO_CARET));
         };
         if caret.position > 0 {
@@ -94,7 +94,7 @@ impl Desk {
             source.old source.new (kept self.old) (kept self.new)) }
         ensures uses { Uses S.CharSource result source.old source.new }
     {
-        let Some(selection) = self.newest() else {
+        let Some(selection) = self.selection() else {
             return Ok(Reply::No(codes::NO_SELECTION));
         };
         let len = (selection.end - selection.beg) as usize;
@@ -123,7 +123,7 @@ impl Desk {
             source.old source.new (kept self.old) (kept self.new)) }
         ensures uses { Uses S.CharSource result source.old source.new }
     {
-        let Some(selection) = self.newest() else {
+        let Some(selection) = self.selection() else {
             return Ok(Reply::No(codes::NO_SELECTION));
         };
         let mut taken = Buffer::new(alloc)?;

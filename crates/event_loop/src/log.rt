@@ -145,12 +145,13 @@ impl Desk {
             source.old source.new (kept self.old) (kept self.new)) }
         ensures uses { Uses S.CharSource result source.old source.new }
     {
-        let lines = directory_lines(alloc, &self.files)?;
-        let count = total(lines.as_slice());
+        let made = directory_lines(alloc, &self.files)?;
+        let lines = made.as_slice();
+        let count = total(lines);
         if !self.fits_more(count, count, 0) {
             return Ok(Reply::No(codes::FULL));
         }
-        self.log_lines(alloc, lines.as_slice(), source)?;
+        self.log_lines(alloc, lines, source)?;
         Ok(Reply::Done)
     }
 

@@ -110,7 +110,7 @@ impl Desk {
         let Some((selector, look)) = new else {
             return Ok(Reply::No(codes::BAD_VALUE));
         };
-        let Some(selection) = self.newest() else {
+        let Some(selection) = self.selection() else {
             return Ok(Reply::No(codes::NO_SELECTION));
         };
         self.set_looks(alloc, selection, selector, look)?;

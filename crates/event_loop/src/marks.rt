@@ -1,10 +1,8 @@
 //! What is marked: the marker, the caret, selections.
 ghost use Rattle.std.specs.Prelude.{◌≡◌, ◌&&◌, ◌≤◌, length, IfOk, Ok};
-ghost use Rattle.piece_ring.specs.Flat.{flat};
-ghost use Rattle.viewer_tracks.specs.Columns.{IsPlaced};
-ghost use Rattle.event_loop_laws.specs.Viewers.{text_in, viewer_or_none};
 ghost use Rattle.event_loop_laws.specs.Sound.{IsOver};
 ghost use Rattle.event_loop.specs.Kept.{kept};
+ghost use Rattle.event_loop.specs.Positions.{IsPosition};
 ghost use Rattle.event_loop.specs.Row.{Settles, Uses};
 ghost use Rattle.event_loop_laws.specs.Step.{marked};
 ghost use Rattle.event_loop_laws.specs.Needs.{unless};
@@ -64,9 +62,7 @@ impl Desk {
         pos: u32,
         source: &mut S,
     ) -> Result<Reply, Stop>
-        requires placed { IsPlaced id (kept self.old).columns }
-        requires place { pos ≤ length (flat (text_in (kept self.old).texts
-            (viewer_or_none (kept self.old).viewers id).main)) }
+        requires at { IsPosition (kept self.old) id pos }
         requires over { IsOver (S.characters source.old) (kept self.old) }
         ensures answered { IfOk result (Settles S.CharSource (λ d. Ok (with_caret d id pos))
             source.old source.new (kept self.old) (kept self.new)) }
@@ -81,9 +77,7 @@ impl Desk {
 
     /// A stretch is selected; where it is empty, nothing of its viewer is.
     pub fn select<S: CharSource>(&mut self, drawn: Selection, source: &mut S) -> Result<Reply, Stop>
-        requires placed { IsPlaced drawn.viewer (kept self.old).columns }
-        requires place { drawn.end ≤ length (flat (text_in (kept self.old).texts
-            (viewer_or_none (kept self.old).viewers drawn.viewer).main)) }
+        requires at { IsPosition (kept self.old) drawn.viewer drawn.end }
         requires over { IsOver (S.characters source.old) (kept self.old) }
         ensures answered { IfOk result (Settles S.CharSource (λ d. Ok (drawn_in d drawn))
             source.old source.new (kept self.old) (kept self.new)) }

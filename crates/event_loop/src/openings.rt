@@ -9,7 +9,7 @@ ghost use Rattle.piece_ring.specs.Flat.{flat};
 ghost use Rattle.piece_ring.specs.Text.{Text as AText};
 ghost use Rattle.viewer_tracks.specs.declared.display.TheConstants.{COLUMNS};
 ghost use Rattle.viewer_tracks.specs.Viewers.{number_of};
-ghost use Rattle.viewer_tracks.specs.Columns.{replaced_at};
+ghost use Rattle.viewer_tracks.specs.Columns.{replaced_at, times_meant};
 ghost use Rattle.event_loop_laws.specs.Limits.{most_written, most_held};
 ghost use Rattle.event_loop_laws.specs.Tables.{lengths};
 ghost use Rattle.event_loop_laws.specs.Desktop.{held};
@@ -19,6 +19,7 @@ ghost use Rattle.event_loop_laws.specs.Opening.{least_unused, with_new, opening,
 ghost use Rattle.event_loop_laws.specs.Seen.{seen, seen_table};
 ghost use Rattle.event_loop_laws.specs.Step.{fits};
 ghost use Rattle.event_loop_laws.specs.Sound.{IsKeptWhole};
+ghost use Rattle.event_loop_laws.specs.OpenedLaws.{new_id};
 ghost use Rattle.event_loop_laws.specs.OpeningDone.{CanOpen};
 ghost use Rattle.event_loop_laws.specs.LeftLaws.{is_taken, still_shown, kept_left};
 ghost use Rattle.event_loop.specs.Kept.{kept};
@@ -131,6 +132,20 @@ impl Desk {
         texts + lengths(&self.files) + self.copied.len() as usize + self.deleted.len() as usize
     }
 
+    /// How many characters the desktop holds without the viewer that one replaces which opens at a cell. That isn't the
+    /// new one.
+    fn held_before(&self, x: u8, y: u8) -> usize
+        requires whole { IsKeptWhole (kept self.now) }
+        requires column { x < COLUMNS }
+        ensures held { (characters : List ℕ) → result ≡ held (dropped
+            (without_viewer (seen characters (kept self.now)) (replaced_at (kept self.now).columns x y))) }
+        ensures few { result ≤ most_held }
+        ensures apart { times_meant (new_id (kept self.now)) (replaced_at (kept self.now).columns x y) ≡ 0 }
+    {
+        edits_place_viewers();
+        self.held_without(self.tracks.replaced(x, y))
+    }
+
     /// Whether the limits on characters hold once a viewer opens at a cell, with a menu that is written anew and a main
     /// text of so many characters.
     pub fn opening_fits(&self, menu: usize, main: u32, x: u8, y: u8) -> bool
@@ -143,11 +158,9 @@ impl Desk {
             → result ≡ fits (dropped (more_written
             (opening (seen characters (kept self.now)) menu_text main_text (x, y)) menu)) }
     {
-        edits_place_viewers();
-        let gone = self.tracks.replaced(x, y);
         within_limits(
             self.written as usize + menu,
-            self.held_without(gone) + main as usize + menu,
+            self.held_before(x, y) + main as usize + menu,
         )
     }
 
@@ -164,9 +177,7 @@ impl Desk {
             → result ≡ fits (dropped (more_written
             (opening_on (seen characters (kept self.now)) menu_text main org (x, y)) made)) }
     {
-        edits_place_viewers();
-        let gone = self.tracks.replaced(x, y);
-        within_limits(self.written as usize + made, self.held_without(gone) + menu)
+        within_limits(self.written as usize + made, self.held_before(x, y) + menu)
     }
 
     /// A viewer of a new menu and of the text of a number opens in the track of column `x`, up to row `y`. One whose

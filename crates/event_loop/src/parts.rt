@@ -4,14 +4,15 @@ ghost use Rattle.std.specs.List.{list_all};
 ghost use Rattle.std.specs.Map.{keys_of};
 ghost use Rattle.viewer_tracks.specs.Viewers.{times_in};
 ghost use Rattle.viewer_tracks.specs.Columns.{times_meant};
-ghost use Rattle.desk_image.specs.Image.{caret_in, ranked_in};
 ghost use Rattle.desk_image.specs.Pictures.{entry_of};
 ghost use Rattle.event_loop.specs.Images.{size_of, leaves_menu, is_framed, is_in_use, are_texts, has_id, is_kept_known};
 ghost use Rattle.event_loop.specs.Images.{stands_once, are_placed, is_tracked, main_size, is_caret, is_selection};
 ghost use Rattle.event_loop.specs.Images.{same_position, same_ranked, is_pictured};
 
+use crate::imaging::ranked_in;
 use crate::tables::{has_id, is_in_sight};
 use crate::viewers::{Texts, Viewers, viewer_or_none};
+use crate::views::position_in;
 use desk_image::{Ranked, Stretch, ViewerPicture};
 use event_loop_laws::{Caret, Kept, Selection, Viewer};
 
@@ -238,40 +239,6 @@ pub fn are_selections(
 
 // ---- a viewer's caret and selection are those that the desktop has there
 
-/// Where the caret stands in a viewer.
-fn caret_in(caret: Option<Caret>, id: u8) -> Option<u32>
-    ensures { result ≡ caret_in caret id }
-{
-    match caret {
-        None => None,
-        Some(caret) => {
-            if caret.viewer == id {
-                Some(caret.position)
-            } else {
-                None
-            }
-        }
-    }
-}
-
-/// The selection in a viewer, with its rank.
-fn ranked_in(selections: &[Selection], id: u8) -> Option<Ranked>
-    requires { length selections.now < 2 ^ 8 }
-    ensures { result ≡ ranked_in 1 selections.now id }
-{
-    for at in 0..selections.len() {
-        let selection = selections[at];
-        if selection.viewer == id {
-            return Some(Ranked {
-                rank: at as u8 + 1,
-                beg: selection.beg,
-                end: selection.end,
-            });
-        }
-    }
-    None
-}
-
 /// Whether two positions are the same, or both are missing.
 fn same_position(a: Option<u32>, b: Option<u32>) -> bool
     ensures { result ≡ same_position a b }
@@ -304,7 +271,7 @@ fn is_pictured(caret: Option<Caret>, selections: &[Selection], picture: &ViewerP
     requires { length selections.now < 2 ^ 8 }
     ensures { result ≡ is_pictured caret selections.now picture.now }
 {
-    same_position(caret_in(caret, picture.id), picture.caret)
+    same_position(position_in(picture.id, caret), picture.caret)
         && same_ranked(ranked_in(selections, picture.id), picture.selection)
 }
 

@@ -180,7 +180,7 @@ impl Desk {
             source.old source.new (kept self.old) (kept self.new)) }
         ensures uses { Uses S.CharSource result source.old source.new }
     {
-        let Some(caret) = self.caret else {
+        let Some(caret) = self.caret_place() else {
             return Ok(Reply::No(codes::NO_CARET));
         };
         let buffer = self.buffer(deleted);

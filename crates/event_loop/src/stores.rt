@@ -110,13 +110,14 @@ impl Desk {
         if !can_be_deleted(&self.files, names) {
             return Ok(Reply::No(codes::NO_FILE));
         }
-        let lines = deleting_lines(alloc, names)?;
-        let count = total(lines.as_slice());
+        let made = deleting_lines(alloc, names)?;
+        let lines = made.as_slice();
+        let count = total(lines);
         if !self.fits_more(count, count, lengths_of(&self.files, names)) {
             return Ok(Reply::No(codes::FULL));
         }
         remove(&mut self.files, names);
-        self.log_lines(alloc, lines.as_slice(), source)?;
+        self.log_lines(alloc, lines, source)?;
         Ok(Reply::Done)
     }
 

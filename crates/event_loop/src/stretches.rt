@@ -2,12 +2,11 @@
 ghost use Rattle.std.specs.Prelude.{◌≡◌, ◌≤◌, length, IfOk};
 ghost use Rattle.piece_ring.specs.Flat.{flat};
 ghost use Rattle.text_core.specs.Attributes.{look_at};
-ghost use Rattle.viewer_tracks.specs.Columns.{IsPlaced};
-ghost use Rattle.event_loop_laws.specs.Viewers.{text_in, viewer_or_none};
 ghost use Rattle.event_loop_laws.specs.Gesture.{copied_to, looks_taken, taken_out, sent_to_caret};
 ghost use Rattle.event_loop_laws.specs.Sound.{IsOver};
 ghost use Rattle.event_loop_laws.specs.RowPartLaws.{kept_main};
 ghost use Rattle.event_loop.specs.Kept.{kept};
+ghost use Rattle.event_loop.specs.Positions.{IsPosition};
 ghost use Rattle.event_loop.specs.Row.{Settles, Uses};
 
 use crate::desk::Desk;
@@ -29,15 +28,13 @@ impl Desk {
         pos: u32,
         source: &mut S,
     ) -> Result<Reply, Stop>
-        requires placed { IsPlaced id (kept self.old).columns }
-        requires place { pos ≤ length (flat (text_in (kept self.old).texts
-            (viewer_or_none (kept self.old).viewers id).main)) }
+        requires at { IsPosition (kept self.old) id pos }
         requires over { IsOver (S.characters source.old) (kept self.old) }
         ensures answered { IfOk result (Settles S.CharSource (λ d. copied_to d id pos)
             source.old source.new (kept self.old) (kept self.new)) }
         ensures uses { Uses S.CharSource result source.old source.new }
     {
-        let Some(selection) = self.newest() else {
+        let Some(selection) = self.selection() else {
             return Ok(Reply::No(codes::NO_SELECTION));
         };
         let len = (selection.end - selection.beg) as usize;
@@ -58,15 +55,13 @@ impl Desk {
         pos: u32,
         source: &mut S,
     ) -> Result<Reply, Stop>
-        requires placed { IsPlaced id (kept self.old).columns }
-        requires place { pos ≤ length (flat (text_in (kept self.old).texts
-            (viewer_or_none (kept self.old).viewers id).main)) }
+        requires at { IsPosition (kept self.old) id pos }
         requires over { IsOver (S.characters source.old) (kept self.old) }
         ensures answered { IfOk result (Settles S.CharSource (λ d. looks_taken d id pos)
             source.old source.new (kept self.old) (kept self.new)) }
         ensures uses { Uses S.CharSource result source.old source.new }
     {
-        let Some(selection) = self.newest() else {
+        let Some(selection) = self.selection() else {
             return Ok(Reply::No(codes::NO_SELECTION));
         };
         let look = self.look_at(id, pos);
@@ -86,9 +81,7 @@ impl Desk {
         drawn: Selection,
         source: &mut S,
     ) -> Result<Reply, Stop>
-        requires placed { IsPlaced drawn.viewer (kept self.old).columns }
-        requires place { drawn.end ≤ length (flat (text_in (kept self.old).texts
-            (viewer_or_none (kept self.old).viewers drawn.viewer).main)) }
+        requires at { IsPosition (kept self.old) drawn.viewer drawn.end }
         requires over { IsOver (S.characters source.old) (kept self.old) }
         ensures answered { IfOk result (Settles S.CharSource (λ d. taken_out d drawn)
             source.old source.new (kept self.old) (kept self.new)) }
@@ -110,9 +103,7 @@ impl Desk {
         drawn: Selection,
         source: &mut S,
     ) -> Result<Reply, Stop>
-        requires placed { IsPlaced drawn.viewer (kept self.old).columns }
-        requires place { drawn.end ≤ length (flat (text_in (kept self.old).texts
-            (viewer_or_none (kept self.old).viewers drawn.viewer).main)) }
+        requires at { IsPosition (kept self.old) drawn.viewer drawn.end }
         requires over { IsOver (S.characters source.old) (kept self.old) }
         ensures answered { IfOk result (Settles S.CharSource (λ d. sent_to_caret d drawn)
             source.old source.new (kept self.old) (kept self.new)) }
@@ -121,7 +112,7 @@ impl Desk {
         if drawn.beg >= drawn.end {
             return Ok(Reply::No(codes::NO_SELECTION));
         }
-        let Some(caret) = self.caret else {
+        let Some(caret) = self.caret_place() else {
             return Ok(Reply::No(codes::NO_CARET));
         };
         let len = (drawn.end - drawn.beg) as usize;

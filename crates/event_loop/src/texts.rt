@@ -5,13 +5,9 @@
 ghost use Rattle.std.specs.Prelude.{◌≡◌, ◌+◌, ◌-◌, ◌<◌, ◌≤◌, ◌^◌, ◌⊎◌, ℕ, List, length, All};
 ghost use Rattle.std.specs.Prelude.{IsSome, OnOk, ⊤};
 ghost use Rattle.sector_disk.specs.Faults.{FailsAs};
-ghost use Rattle.char_file.specs.Source.{OnlyReads};
-ghost use Rattle.piece_ring.specs.Flat.{flat};
-ghost use Rattle.piece_ring.specs.Offsets.{AreWithin};
 ghost use Rattle.piece_ring.specs.Text.{stretch, inserted, deleted, looks_changed};
 ghost use Rattle.viewer_tracks.specs.Columns.{IsPlaced};
-ghost use Rattle.sector_disk.specs.Trail.{CountsFault};
-ghost use Rattle.readers_scanners.specs.Reading.{bytes};
+ghost use Rattle.readers_scanners.specs.Words.{CountsFault, OnlyReads, flat, AreWithin, bytes};
 ghost use Rattle.event_loop_laws.specs.Tables.{numbered, with_values};
 ghost use Rattle.event_loop_laws.specs.Looks.{IsLook, AreLooks};
 ghost use Rattle.event_loop_laws.specs.Viewers.{text_in, viewer_or_none, unmarked, shows, rows_of};

@@ -14,6 +14,7 @@ ghost use Rattle.event_loop_laws.specs.Tables.{numbered, with_values};
 ghost use Rattle.event_loop_laws.specs.Viewers.{viewer_in, viewer_or_none, text_in, caret_outside, selections_outside};
 ghost use Rattle.event_loop_laws.specs.Change.{followed};
 ghost use Rattle.event_loop_laws.specs.ShapeLaws.{IsMoved, AreMoved, CanFollow};
+ghost use Rattle.event_loop.specs.Views.{IsMovable};
 
 use crate::stop::NoMemory;
 use char_file::{CharSource, Fault};
@@ -270,13 +271,10 @@ pub fn org_in<S: CharSource>(
     pos: u32,
     source: &mut S,
 ) -> Result<u32, Fault>
-    requires there { IsSome (numbered texts.now.entries (viewer_or_none viewers.now.items id).main) }
+    requires movable { IsMovable (length (S.characters source.old)) texts.now.entries
+        (viewer_or_none viewers.now.items id) }
     requires rows { rows ≤ 31 }
     requires place { pos ≤ length (flat (text_in texts.now.entries (viewer_or_none viewers.now.items id).main)) }
-    requires org { (viewer_or_none viewers.now.items id).org
-        ≤ length (flat (text_in texts.now.entries (viewer_or_none viewers.now.items id).main)) }
-    requires offsets { AreWithin (length (S.characters source.old))
-        (flat (text_in texts.now.entries (viewer_or_none viewers.now.items id).main)) }
     ensures exact { IfOk result (λ new. S.honest source.old → new ≡ shown_org (bytes (S.characters source.old)
         (flat (text_in texts.now.entries (viewer_or_none viewers.now.items id).main)))
         rows pos (viewer_or_none viewers.now.items id).org) }

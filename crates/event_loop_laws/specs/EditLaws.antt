@@ -44,7 +44,7 @@ use Rattle.event_loop_laws.specs.ShapeLaws.{places_stay, main_stays, marks_stay,
 use Rattle.event_loop_laws.specs.ChangeLaws.{held_edited, org_shown}
 use Rattle.event_loop_laws.specs.TextLaws.{text_in_seen, long_seen, there_seen}
 use Rattle.event_loop_laws.specs.Looks.{AreLooks}
-use Rattle.event_loop_laws.specs.LookedLaws.{seen_looks, looks_stay, edited_looks}
+use Rattle.event_loop_laws.specs.LookedLaws.{seen_looks, looks_stay, edited_looks, within_stays}
 
 -- The text of that number became this one, and no other changed.
 pub record IsSet (old new : Texts (List Piece)) (n : ℕ) (text : Text ℕ) : Type 0 where
@@ -252,7 +252,8 @@ with_selection_shaped d s shaped is =
 module _ (characters : List ℕ) (d : KeptDesktop) (n : ℕ) (pieces : List Piece) (viewers : List (ℕ × Viewer))
     (more fewer : ℕ) (built : IsBuilt (length characters) d) (there : IsSome (numbered d.texts n))
     (moved : AreMoved n (length (flat pieces)) d.viewers viewers) (within : AreWithin (length characters) (flat pieces))
-    (looks : AreLooks (flat pieces)) (long : length (flat pieces) + fewer ≡ length (flat (text_in d.texts n)) + more) where
+    (looks : AreLooks (flat pieces))
+    (long : length (flat pieces) + fewer ≡ length (flat (text_in d.texts n)) + more) where
   moved_as : (all : List ℕ) → AreMoved n (length (seen_text all pieces)) d.viewers viewers
   moved_as all = subst (λ size. AreMoved n size d.viewers viewers) (sym (length_seen_text all pieces)) moved
 
@@ -469,12 +470,7 @@ module _ (characters : List ℕ) (d : KeptDesktop) (s : Selection) (pieces : Lis
   looks_built : IsBuilt (length characters) (with_selection with_looks s)
   unfolding seen
   looks_built = record {
-    within = record {
-      texts = looked.built.within.texts;
-      files = looked.built.within.files;
-      copied = looked.built.within.copied;
-      deleted = looked.built.within.deleted;
-    };
+    within = within_stays looked.built.within refl;
     shaped = λ all. with_selection_shaped (seen all with_looks) s (looked.built.shaped all) (selected_there all);
   }
 
@@ -506,12 +502,7 @@ module _ (H : Type 0) (characters : List ℕ) (d : KeptDesktop) (v p org : ℕ) 
   shown_built : IsBuilt (length characters) caret_there
   unfolding seen
   shown_built = record {
-    within = record {
-      texts = built.within.texts;
-      files = built.within.files;
-      copied = built.within.copied;
-      deleted = built.within.deleted;
-    };
+    within = within_stays built.within refl;
     shaped = λ all.
         let size = long_seen all d.texts (viewer_or_none d.viewers v).main in
         with_org_shaped (with_caret (seen all d) v p)

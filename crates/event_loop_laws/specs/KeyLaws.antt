@@ -164,19 +164,21 @@ main_small old d v over =
     let all = (over.whole.sound []).held_within in
     omega (arith, one, all)
 
+-- what is held is no more than a desktop may hold
+held_small : (old : List ℕ) (d : KeptDesktop) (buffer : List Piece) → IsOver old d
+    → length (seen_text [] buffer) ≤ held (seen [] d) → length (flat buffer) ≤ most_held
+held_small old d buffer over part =
+    let all = (over.whole.sound []).held_within in
+    let long = length_seen_text [] buffer in
+    omega (arith, all, long, part)
+
 pub copied_small : (old : List ℕ) (d : KeptDesktop) → IsOver old d → length (flat d.copied) ≤ most_held
 unfolding seen held
-copied_small old d over =
-    let all = (over.whole.sound []).held_within in
-    let long = length_seen_text [] d.copied in
-    omega (arith, all, long)
+copied_small old d over = held_small old d d.copied over (omega arith)
 
 pub deleted_small : (old : List ℕ) (d : KeptDesktop) → IsOver old d → length (flat d.deleted) ≤ most_held
 unfolding seen held
-deleted_small old d over =
-    let all = (over.whole.sound []).held_within in
-    let long = length_seen_text [] d.deleted in
-    omega (arith, all, long)
+deleted_small old d over = held_small old d d.deleted over (omega arith)
 
 -- after characters were put in the caret has room after them
 pub room_after : (a b : KeptDesktop) (v p n len size : ℕ) → n ≡ (viewer_or_none a.viewers v).main → len ≡ size

@@ -45,7 +45,7 @@ use Rattle.event_loop_laws.specs.RowLaws.{changed_further}
 use Rattle.event_loop_laws.specs.RowPartLaws.{kept_text_seen}
 use Rattle.event_loop_laws.specs.MarkLaws.{with_org_changed}
 use Rattle.event_loop_laws.specs.TextLaws.{text_in_seen}
-use Rattle.event_loop_laws.specs.LookedLaws.{written_shaped}
+use Rattle.event_loop_laws.specs.LookedLaws.{written_shaped, within_stays}
 
 -- A part of an event that writes, as the definitions have it: the same viewers show the same texts, so many characters
 -- are made, and so many more and so many fewer are held.
@@ -382,12 +382,7 @@ module _ {H G : Type 0} (old line now new : List ℕ) (before after : KeptDeskto
     stands = record {
       counted = all_long;
       built = record {
-        within = record {
-          texts = within.texts;
-          files = within.files;
-          copied = within.copied;
-          deleted = within.deleted;
-        };
+        within = within_stays within refl;
         shaped = λ all. written_shaped (after.written + length line) (changed.built.shaped all);
       };
     };

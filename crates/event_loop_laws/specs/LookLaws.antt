@@ -24,7 +24,7 @@ use Rattle.event_loop_laws.specs.RowPartLaws.{less_answered}
 use Rattle.event_loop_laws.specs.KeyLaws.{refusal_answered, row_as}
 use Rattle.event_loop_laws.specs.RowLaws.{known_bad_value}
 use Rattle.event_loop_laws.specs.Looks.{IsLook, SetsLook}
-use Rattle.event_loop_laws.specs.LookedLaws.{relooked_is_look, typed_looks, shape_stays, kept_look}
+use Rattle.event_loop_laws.specs.LookedLaws.{relooked_is_look, typed_looks, shape_stays, kept_look, within_stays}
 
 -- ---- what is typed
 
@@ -47,12 +47,7 @@ unfolding seen
 typed_over old d look is over = record {
   counted = over.counted;
   whole = record {
-    within = record {
-      texts = over.whole.within.texts;
-      files = over.whole.within.files;
-      copied = over.whole.within.copied;
-      deleted = over.whole.within.deleted;
-    };
+    within = within_stays over.whole.within refl;
     sound = λ all. typed_sound (seen all d) look is (over.whole.sound all);
   };
 }

@@ -1,5 +1,5 @@
 -- Laws of looks: whatever is done to texts whose characters have looks that there are, they have such looks after it.
-use Rattle.std.specs.Prelude.{◌≡◌, ℕ, zero, suc, ◌+◌, ◌<◌, ◌≤◌, ◌&&◌, nat_le, nat_lt, ℤ, pos, negsuc, int_le}
+use Rattle.std.specs.Prelude.{◌≡◌, ℕ, zero, suc, ◌<◌, ◌≤◌, ◌&&◌, nat_le, nat_lt, ℤ, pos, negsuc, int_le}
 use Rattle.std.specs.Prelude.{Bool, true, false, cond, if◌then◌else◌, IsTrue, All, List, [], ◌∷◌, ◌++◌, length}
 use Rattle.std.specs.Prelude.{take, drop, filter, slice_get, slice_index, Option, Some, None, IfSome, option_map}
 use Rattle.std.specs.Option.{ForSome, unwrap_or}
@@ -18,6 +18,7 @@ use Rattle.piece_ring.specs.declared.piece.Look.{Look}
 use Rattle.piece_ring.specs.declared.piece.Piece.{Piece}
 use Rattle.piece_ring.specs.Look.{default_look, has_bit, relooked}
 use Rattle.piece_ring.specs.Flat.{flat, run}
+use Rattle.piece_ring.specs.Offsets.{AreWithin}
 use Rattle.piece_ring.specs.Text.{Text, stretch, inserted, deleted, all_relooked, looks_changed}
 use Rattle.readers_scanners.specs.Reading.{contents}
 use Rattle.text_core.specs.Attributes.{look_at, look_of}
@@ -32,7 +33,8 @@ use Rattle.event_loop_laws.specs.Viewers.{text_in, main_length}
 use Rattle.event_loop_laws.specs.Change.{edited}
 use Rattle.event_loop_laws.specs.Opening.{least_unused, with_new, is_shown, dropped}
 use Rattle.event_loop_laws.specs.Seen.{seen, seen_text, seen_table}
-use Rattle.event_loop_laws.specs.Sound.{AreViewers, ArePlaces, AreMarks, AreFiles, HasLooks, IsShaped, IsBuilt}
+use Rattle.event_loop_laws.specs.Sound.{AreViewers, ArePlaces, AreMarks, AreFiles, HasLooks, IsShaped, AllWithin}
+use Rattle.event_loop_laws.specs.Sound.{IsWithin, IsBuilt}
 
 -- ---- one look
 
@@ -351,6 +353,20 @@ shape_stays shaped same few looks = record {
   pattern = few;
   looks = looks;
 }
+
+-- all whose characters are a source's
+abbrev spelled : KeptDesktop → Texts (List Piece) × Files (List Piece) × List Piece × List Piece
+spelled d = (d.texts, d.files, d.copied, d.deleted)
+
+abbrev AllSpelled : ℕ → Texts (List Piece) × Files (List Piece) × List Piece × List Piece → Type 0
+AllSpelled n all =
+    AllWithin n all.0 × AllWithin n all.1 × AreWithin n (flat all.2) × AreWithin n (flat all.3)
+
+pub within_stays : {n : ℕ} {d e : KeptDesktop} → IsWithin n d → spelled d ≡ spelled e → IsWithin n e
+within_stays {n} {d} {e} within same =
+    let all : AllSpelled n (spelled e) =
+    subst (AllSpelled n) same (within.texts, within.files, within.copied, within.deleted) in
+    record { texts = all.0; files = all.1; copied = all.2; deleted = all.3 }
 
 -- another number of characters was written
 pub written_shaped : {d : Desktop} (n : ℕ) → IsShaped d → IsShaped (record d { written = n })

@@ -30,7 +30,7 @@ use Rattle.event_loop_laws.specs.Step.{marked}
 use Rattle.event_loop_laws.specs.Sound.{IsViewer, IsCaret, IsSelection, AreMarks, IsShaped, IsBuilt}
 use Rattle.event_loop_laws.specs.Changed.{texts_shown, IsChanged}
 use Rattle.event_loop_laws.specs.TextLaws.{long_seen}
-use Rattle.event_loop_laws.specs.LookedLaws.{looks_stay}
+use Rattle.event_loop_laws.specs.LookedLaws.{looks_stay, within_stays}
 
 -- ---- one selection in each viewer
 
@@ -111,12 +111,7 @@ module _ (n : ℕ) (d : KeptDesktop) (built : IsBuilt n d) (caret : Option Caret
     pub marks_built : IsBuilt n remarked
     unfolding seen
     marks_built = record {
-      within = record {
-        texts = built.within.texts;
-        files = built.within.files;
-        copied = built.within.copied;
-        deleted = built.within.deleted;
-      };
+      within = within_stays built.within refl;
       shaped = λ characters. let before = built.shaped characters in record {
         viewers = before.viewers;
         places = before.places;
@@ -403,12 +398,7 @@ module _ (H : Type 0) (characters : List ℕ) (d : KeptDesktop) (built : IsBuilt
   with_org_changed = record {
     exact = λ h. refl;
     built = record {
-      within = record {
-        texts = built.within.texts;
-        files = built.within.files;
-        copied = built.within.copied;
-        deleted = built.within.deleted;
-      };
+      within = within_stays built.within refl;
       shaped = λ all. orgs_shaped (seen all d) (built.shaped all) (moved_in d.viewers v org) (org_in v org)
           (keys-set_value (is_at (nat_cmp v)) d.viewers (moved_to org (viewer_or_none d.viewers v)))
           (found_moved d.viewers v org) (org_within all);

@@ -39,7 +39,7 @@ use Rattle.event_loop_laws.specs.OpenLaws.{unused_none}
 use Rattle.event_loop_laws.specs.OpenedLaws.{new_number, new_id, text_more, one_more, opening_on_is, opening_is}
 use Rattle.event_loop_laws.specs.OpenedLaws.{CanShow, opening_anew, seen_opening_on, opening_seen, text_built, new_kept}
 use Rattle.event_loop_laws.specs.Looks.{AreLooks}
-use Rattle.event_loop_laws.specs.LookedLaws.{default_is_look, run_looks, seen_looks, written_shaped}
+use Rattle.event_loop_laws.specs.LookedLaws.{default_is_look, run_looks, seen_looks, written_shaped, within_stays}
 
 -- ---- how many there are
 
@@ -248,12 +248,7 @@ module _ (H : Type 0) (old bytes new : List ℕ) (d : KeptDesktop) (menu : List 
   over_after = record {
     counted = ap length on.grown ∙ length-append old bytes ∙ ap (λ (w : ℕ). w + n) on.counted;
     whole = record {
-      within = record {
-        texts = on_within.texts;
-        files = on_within.files;
-        copied = on_within.copied;
-        deleted = on_within.deleted;
-      };
+      within = within_stays on_within refl;
       sound = λ characters. subst IsSound (sym (seen_after characters)) (sound_now characters);
     };
   }

@@ -36,7 +36,7 @@ use Rattle.event_loop_laws.specs.Sound.{AreViewers, ArePlaces, IsSound, IsWithin
 use Rattle.event_loop_laws.specs.Changed.{texts_shown, IsChanged, Counts}
 use Rattle.event_loop_laws.specs.Outcome.{codes, IsAnswered}
 use Rattle.event_loop_laws.specs.OutcomeLaws.{refused, acted, within_longer}
-use Rattle.event_loop_laws.specs.LookedLaws.{written_shaped}
+use Rattle.event_loop_laws.specs.LookedLaws.{written_shaped, within_stays}
 
 -- Whether the limits on characters hold once so many are made, and so many more and so many fewer are held.
 unfoldable pub has_space : Desktop → ℕ → ℕ → ℕ → Bool
@@ -221,12 +221,7 @@ module _ {H : Type 0} (old now new : List ℕ) (before after : KeptDesktop) (out
   changed_over = record {
     counted = counted;
     whole = record {
-      within = record {
-        texts = within.texts;
-        files = within.files;
-        copied = within.copied;
-        deleted = within.deleted;
-      };
+      within = within_stays within refl;
       sound = λ all. record {
         shaped = written_shaped (after.written + made) (changed.built.shaped all);
         shown = shown_seen all;

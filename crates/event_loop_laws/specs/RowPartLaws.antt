@@ -35,6 +35,7 @@ use Rattle.event_loop_laws.specs.Outcome.{IsAnswered}
 use Rattle.event_loop_laws.specs.RowLaws.{has_space, changed_as, changed_further, counts_then, rest_answered}
 use Rattle.event_loop_laws.specs.Looks.{AreLooks}
 use Rattle.event_loop_laws.specs.LookedLaws.{seen_looks, stretch_looks, kept_text_looks}
+use Rattle.event_loop_laws.specs.LookedLaws.{kept_copied_looks, kept_deleted_looks}
 use Rattle.event_loop_laws.specs.LookedLaws.{copied_looks, taken_looks, shape_stays}
 
 -- the pieces of a viewer's main text
@@ -129,54 +130,56 @@ kept_newest n d s built is =
 
 -- ---- both buffers
 
+module _ {H : Type 0} (characters : List ℕ) (d : KeptDesktop) (built : IsBuilt (length characters) d) where
+  -- something else was copied and deleted last
+  buffers_changed : (copied deleted : List Piece) (copied_text deleted_text : Text ℕ) (more fewer : ℕ)
+      → AreWithin (length characters) (flat copied) → AreWithin (length characters) (flat deleted)
+      → AreLooks (flat copied) → AreLooks (flat deleted)
+      → (H → seen_text characters copied ≡ copied_text) → (H → seen_text characters deleted ≡ deleted_text)
+      → length (flat copied) + length (flat deleted) + fewer ≡ length (flat d.copied) + length (flat d.deleted) + more
+      → IsChanged H characters d (record d { copied = copied; deleted = deleted })
+      (record (seen characters d) { copied = copied_text; deleted = deleted_text }) more fewer
+  unfolding seen held
+  buffers_changed copied deleted copied_text deleted_text more fewer c_in d_in c_looks d_looks c_is d_is sum = record {
+    exact = λ h k. record (seen characters d) { copied = c_is h k; deleted = d_is h k };
+    built = record {
+      within = record { texts = built.within.texts; files = built.within.files; copied = c_in; deleted = d_in };
+      shaped = λ all.
+          let shaped = built.shaped all in
+          let has = copied_looks (seen all d) shaped.looks (seen_text all copied) (seen_looks all copied c_looks) in
+          shape_stays shaped refl shaped.pattern
+          (taken_looks (record (seen all d) { copied = seen_text all copied }) has (seen_text all deleted)
+          (seen_looks all deleted d_looks));
+    };
+    counted = λ all.
+        let copied_long = length_seen_text all copied in
+        let deleted_long = length_seen_text all deleted in
+        let copied_before = length_seen_text all d.copied in
+        let deleted_before = length_seen_text all d.deleted in
+        omega (arith, copied_long, deleted_long, copied_before, deleted_before, sum);
+    rest = record { numbers = refl; viewers = refl; written = refl };
+  }
+
 module _ {H : Type 0} (characters : List ℕ) (d : KeptDesktop) (buffer : List Piece) (text : Text ℕ)
     (built : IsBuilt (length characters) d) (within : AreWithin (length characters) (flat buffer))
     (looks : AreLooks (flat buffer)) (is : H → seen_text characters buffer ≡ text) where
   -- something else was copied last
   pub copied_changed : IsChanged H characters d (record d { copied = buffer })
       (record (seen characters d) { copied = text }) (length (flat buffer)) (length (flat d.copied))
-  unfolding seen held
-  copied_changed = record {
-    exact = λ h k. record (seen characters d) { copied = is h k };
-    built = record {
-      within = record {
-        texts = built.within.texts;
-        files = built.within.files;
-        copied = within;
-        deleted = built.within.deleted;
-      };
-      shaped = λ all. shape_stays (built.shaped all) refl (built.shaped all).pattern
-          (copied_looks (seen all d) (built.shaped all).looks (seen_text all buffer) (seen_looks all buffer looks));
-    };
-    counted = λ all.
-        let new = length_seen_text all buffer in
-        let old = length_seen_text all d.copied in
-        omega (arith, new, old);
-    rest = record { numbers = refl; viewers = refl; written = refl };
-  }
+  unfolding seen
+  copied_changed =
+      buffers_changed characters d built buffer d.deleted text (seen_text characters d.deleted)
+      (length (flat buffer)) (length (flat d.copied)) within built.within.deleted looks
+      (kept_deleted_looks (length characters) d built) is (λ h. refl) (omega arith)
 
   -- something else was deleted last
   pub deleted_changed : IsChanged H characters d (record d { deleted = buffer })
       (record (seen characters d) { deleted = text }) (length (flat buffer)) (length (flat d.deleted))
-  unfolding seen held
-  deleted_changed = record {
-    exact = λ h k. record (seen characters d) { deleted = is h k };
-    built = record {
-      within = record {
-        texts = built.within.texts;
-        files = built.within.files;
-        copied = built.within.copied;
-        deleted = within;
-      };
-      shaped = λ all. shape_stays (built.shaped all) refl (built.shaped all).pattern
-          (taken_looks (seen all d) (built.shaped all).looks (seen_text all buffer) (seen_looks all buffer looks));
-    };
-    counted = λ all.
-        let new = length_seen_text all buffer in
-        let old = length_seen_text all d.deleted in
-        omega (arith, new, old);
-    rest = record { numbers = refl; viewers = refl; written = refl };
-  }
+  unfolding seen
+  deleted_changed =
+      buffers_changed characters d built d.copied buffer (seen_text characters d.copied) text
+      (length (flat buffer)) (length (flat d.deleted)) built.within.copied within
+      (kept_copied_looks (length characters) d built) looks (λ h. refl) is (omega arith)
 
 pub copied_counts : (d : Desktop) (text : Text ℕ)
     → Counts d (record d { copied = text }) (length text) (length d.copied)

@@ -39,6 +39,7 @@ use Rattle.event_loop_laws.specs.RowLaws.{unchanged, changed_as, changed_further
 use Rattle.event_loop_laws.specs.RowPartLaws.{kept_main, kept_main_seen, kept_caret, put_at_caret_counts}
 use Rattle.event_loop_laws.specs.KeyLaws.{row_as, main_there_seen, copied_small, deleted_small}
 use Rattle.event_loop_laws.specs.LookedLaws.{looks_stay, shape_stays, kept_copied_looks, kept_deleted_looks}
+use Rattle.event_loop_laws.specs.LookedLaws.{within_stays}
 use Rattle.event_loop_laws.specs.Looks.{AreLooks}
 
 -- ---- bytes that were read from a place on
@@ -227,12 +228,7 @@ unfolding seen held
 pattern_changed H characters d pattern built few = record {
   exact = λ h. refl;
   built = record {
-    within = record {
-      texts = built.within.texts;
-      files = built.within.files;
-      copied = built.within.copied;
-      deleted = built.within.deleted;
-    };
+    within = within_stays built.within refl;
     shaped = λ all. shape_stays (built.shaped all) refl few (looks_stay (built.shaped all).looks refl);
   };
   counted = λ all. omega arith;

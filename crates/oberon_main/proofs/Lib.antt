@@ -9,4 +9,5 @@ pub mod Played
 pub mod Sessions
 pub mod Splitting
 pub mod Stretches
+pub mod Surviving
 pub mod Taking

@@ -53,7 +53,7 @@ pub lines_then : (lines : List (List ℕ)) (rest : List ℕ) → lines_at_end li
 lines_then lines [] = sym (append-nil lines)
 lines_then lines (b ∷ bs) = refl
 
-last_line : (rest : List ℕ) → rest ≢ [] → lines_at_end [] rest ≡ rest ∷ []
+pub last_line : (rest : List ℕ) → rest ≢ [] → lines_at_end [] rest ≡ rest ∷ []
 last_line [] there = absurd (there refl)
 last_line (b ∷ bs) there = refl
 
@@ -91,9 +91,9 @@ all_read script (Some left) read came end = came ∙ ap (λ l. read ++ l) end �
 
 -- ---- the loop
 
--- The lines that came so far were answered; what stands in no line yet is pending.
-pub record HasPlayed (Honest : Type 0) (before now : Session) (left left' held held' : Option (List ℕ)) (most : ℕ)
-    (unplayed : Unplayed) : Type 0 where
+-- The lines that came so far were answered, and more is known of them; what stands in no line yet is pending.
+pub record HasPlayed (Honest : Type 0) (Known : List (List ℕ) → Type 0) (before now : Session)
+    (left left' held held' : Option (List ℕ)) (most : ℕ) (unplayed : Unplayed) : Type 0 where
   pub lines : List (List ℕ)
   pub read : List ℕ
   pub came : Consumes left left' read
@@ -102,11 +102,13 @@ pub record HasPlayed (Honest : Type 0) (before now : Session) (left left' held h
   pub parts : read ≡ flat_map ended lines ++ unplayed.pending
   pub written : Honest → Appends held held' (out before lines)
   pub session : Honest → now ≡ after_all before lines
+  pub known : Known lines
 
-pub played_none : (Honest : Type 0) (s : Session) (left held : Option (List ℕ)) (most : ℕ) (u : Unplayed)
-    → u.pending ≡ [] → u.reads ≡ most
-    → HasPlayed Honest s s left left held held most u
-played_none Honest s left held most u none reads = record {
+pub played_none : (Honest : Type 0) {Known : List (List ℕ) → Type 0} (s : Session) (left held : Option (List ℕ))
+    (most : ℕ) (u : Unplayed)
+    → u.pending ≡ [] → u.reads ≡ most → Known []
+    → HasPlayed Honest Known s s left left held held most u
+played_none Honest s left held most u none reads known = record {
   lines = [];
   read = [];
   came = Consumes-nil left;
@@ -115,6 +117,7 @@ played_none Honest s left held most u none reads = record {
   parts = sym none;
   written = λ _. Appends-nil held;
   session = λ _. refl;
+  known = known;
 }
 
 -- what came with one line more
@@ -132,12 +135,14 @@ few_both : (read read' all old new most : ℕ) → all ≡ read + read' → read
     → all + new ≤ most
 few_both read read' all old new most is before now = omega (arith, is, before, now)
 
-pub played_more : (Honest : Type 0) (before now now' : Session) (left left' left'' held held' held'' : Option
-    (List ℕ)) (most : ℕ) (old new : Unplayed) (line : Line)
-    → HasPlayed Honest before now left left' held held' most old → TakesLine old new left' left'' line
+pub played_more : (Honest : Type 0) {Known Next : List (List ℕ) → Type 0} (before now now' : Session)
+    (left left' left'' held held' held'' : Option (List ℕ)) (most : ℕ) (old new : Unplayed) (line : Line)
+    → (so_far : HasPlayed Honest Known before now left left' held held' most old)
+    → (taken : TakesLine old new left' left'' line)
     → (Honest → (bytes : List ℕ) → Holds line bytes → IsAnswered (request_of bytes) now now' held' held'')
-    → HasPlayed Honest before now' left left'' held held'' most new
-played_more Honest before now now' left left' left'' held held' held'' most old new line so_far taken answered =
+    → Next (so_far.lines ++ taken.line ∷ [])
+    → HasPlayed Honest Next before now' left left'' held held'' most new
+played_more Honest before now now' left left' left'' held held' held'' most old new line so_far taken answered next =
     record {
       lines = so_far.lines ++ taken.line ∷ [];
       read = so_far.read ++ taken.read;
@@ -160,35 +165,37 @@ played_more Honest before now now' left left' left'' held held' held'' most old 
           let one : IsAnswered (request_of taken.line) now now' held' held'' = answered honest taken.line taken.holds in
           one.session ∙ ap (λ (s : Session). after s (request_of taken.line)) (so_far.session honest)
           ∙ sym (after_both before so_far.lines (taken.line ∷ []));
+      known = next;
     }
 
 -- ---- in how many pieces the script came
 
-pub pieces_with_line : (Honest : Type 0) (before now : Session) (left left' left'' held held' : Option (List ℕ))
-    (most : ℕ) (old new : Unplayed) (line : Line)
-    → HasPlayed Honest before now left left' held held' most old → TakesLine old new left' left'' line
-    → ComesInPieces most left left''
-pieces_with_line Honest before now left left' left'' held held' most old new line so_far taken = record {
-  read = so_far.read ++ taken.read;
-  came = Consumes-trans left left' left'' so_far.read taken.read so_far.came taken.came;
-  few = at_most (length so_far.read) (length taken.read) _ (most_bytes old.reads) (most_bytes new.reads)
-      (most_bytes most) (length-append so_far.read taken.read) so_far.few taken.few;
+pieces_with : {Honest : Type 0} {Known : List (List ℕ) → Type 0} {before now : Session}
+    {left left' held held' : Option (List ℕ)} {most : ℕ} {old : Unplayed} (new : Unplayed) (left'' : Option (List ℕ))
+    (read : List ℕ) → HasPlayed Honest Known before now left left' held held' most old → Consumes left' left'' read
+    → length read + most_bytes new.reads ≤ most_bytes old.reads → ComesInPieces most left left''
+pieces_with {left = left} {left' = left'} {most = most} {old = old} new left'' read so_far came few = record {
+  read = so_far.read ++ read;
+  came = Consumes-trans left left' left'' so_far.read read so_far.came came;
+  few = at_most (length so_far.read) (length read) _ (most_bytes old.reads) (most_bytes new.reads)
+      (most_bytes most) (length-append so_far.read read) so_far.few few;
 } where
   at_most : (read read' all old new most : ℕ) → all ≡ read + read' → read + old ≤ most → read' + new ≤ old → all ≤ most
   at_most read read' all old new most is before now = omega (arith, is, before, now)
 
-pub pieces_with_rest : (Honest : Type 0) (before now : Session) (left left' left'' held held' : Option (List ℕ))
-    (most : ℕ) (old new : Unplayed) (line : Line)
-    → HasPlayed Honest before now left left' held held' most old → TakesRest old new left' left'' line
+pub pieces_with_line : (Honest : Type 0) {Known : List (List ℕ) → Type 0} (before now : Session)
+    (left left' left'' held held' : Option (List ℕ)) (most : ℕ) (old new : Unplayed) (line : Line)
+    → HasPlayed Honest Known before now left left' held held' most old → TakesLine old new left' left'' line
     → ComesInPieces most left left''
-pieces_with_rest Honest before now left left' left'' held held' most old new line so_far taken = record {
-  read = so_far.read ++ taken.read;
-  came = Consumes-trans left left' left'' so_far.read taken.read so_far.came taken.came;
-  few = at_most (length so_far.read) (length taken.read) _ (most_bytes old.reads) (most_bytes new.reads)
-      (most_bytes most) (length-append so_far.read taken.read) so_far.few taken.few;
-} where
-  at_most : (read read' all old new most : ℕ) → all ≡ read + read' → read + old ≤ most → read' + new ≤ old → all ≤ most
-  at_most read read' all old new most is before now = omega (arith, is, before, now)
+pieces_with_line Honest before now left left' left'' held held' most old new line so_far taken =
+    pieces_with new left'' taken.read so_far taken.came taken.few
+
+pub pieces_with_rest : (Honest : Type 0) {Known : List (List ℕ) → Type 0} (before now : Session)
+    (left left' left'' held held' : Option (List ℕ)) (most : ℕ) (old new : Unplayed) (line : Line)
+    → HasPlayed Honest Known before now left left' held held' most old → TakesRest old new left' left'' line
+    → ComesInPieces most left left''
+pieces_with_rest Honest before now left left' left'' held held' most old new line so_far taken =
+    pieces_with new left'' taken.read so_far taken.came taken.few
 
 -- ---- how failures are counted
 
@@ -316,9 +323,20 @@ line_ends Output script left before now now' failed failed' held held' held'' li
     why =
     halted_in script left before now failed failed' held held' held'' lines line begins written session counts why
 
-pub stopped_in_line : (Honest : Type 0) (end : PlayEnd) (before now now' : Session) (failed failed' : ℕ)
+pub begins_with_line : {Honest : Type 0} {Known : List (List ℕ) → Type 0} {before now : Session}
+    {left' left'' held held' : Option (List ℕ)} {most : ℕ} {old new : Unplayed} {line : Line} (script : List ℕ)
+    → (so_far : HasPlayed Honest Known before now (Some script) left' held held' most old)
+    → (taken : TakesLine old new left' left'' line) → BeginsWith script (so_far.lines ++ taken.line ∷ [])
+begins_with_line {left' = left'} {left'' = left''} {old = old} {new = new} script so_far taken =
+    begins_read script left'' (so_far.read ++ taken.read) new.pending (so_far.lines ++ taken.line ∷ [])
+    (Consumes-trans (Some script) left' left'' so_far.read taken.read so_far.came taken.came)
+    (all_both so_far.lines (taken.line ∷ []) so_far.each (taken.plain, tt))
+    (parts_more so_far.read taken.read old.pending new.pending taken.line so_far.lines so_far.parts taken.parts)
+
+pub stopped_in_line : (Honest : Type 0) {Known : List (List ℕ) → Type 0} (end : PlayEnd)
+    (before now now' : Session) (failed failed' : ℕ)
     (left left' left'' held held' held'' : Option (List ℕ)) (most : ℕ) (old new : Unplayed) (line : Line)
-    → HasPlayed Honest before now left left' held held' most old → TakesLine old new left' left'' line
+    → HasPlayed Honest Known before now left left' held held' most old → TakesLine old new left' left'' line
     → CountsEnd end failed failed'
     → (Honest → (bytes : List ℕ) → Holds line bytes → LineEndsAs end (request_of bytes) now held' held'')
     → Honest → IfSome left (λ script. EndsAs end [] script left'' before now' failed failed' held held'')
@@ -327,10 +345,7 @@ stopped_in_line Honest end before now now' failed failed' None left' left'' held
 stopped_in_line Honest end before now now' failed failed'
     (Some script) left' left'' held held' held'' most old new line so_far taken counts why honest =
     line_ends end script left'' before now now' failed failed' held held' held'' so_far.lines taken.line
-    (begins_read script left'' (so_far.read ++ taken.read) new.pending (so_far.lines ++ taken.line ∷ [])
-    (Consumes-trans (Some script) left' left'' so_far.read taken.read so_far.came taken.came)
-    (all_both so_far.lines (taken.line ∷ []) so_far.each (taken.plain, tt))
-    (parts_more so_far.read taken.read old.pending new.pending taken.line so_far.lines so_far.parts taken.parts))
+    (begins_with_line script so_far taken)
     (so_far.written honest) (so_far.session honest) counts (why honest taken.line taken.holds)
 
 -- ---- the end of the script
@@ -390,9 +405,22 @@ split_rest : (read read' pending rest : List ℕ) (lines : List (List ℕ)) → 
 split_rest read read' pending rest lines before now = ap (λ l. l ++ read') before
     ∙ append_assoc (flat_map ended lines) pending read' ∙ ap (λ l. flat_map ended lines ++ l) now
 
-pub ended_with_rest : (Honest : Type 0) (end : PlayEnd) (before now now' : Session) (failed failed' : ℕ)
+pub split_with_rest : {Honest : Type 0} {Known : List (List ℕ) → Type 0} {before now : Session}
+    {left' left'' held held' : Option (List ℕ)} {most : ℕ} {old new : Unplayed} {line : Line} (script : List ℕ)
+    → (so_far : HasPlayed Honest Known before now (Some script) left' held held' most old)
+    → (taken : TakesRest old new left' left'' line) → IsAtEnd left'' → IsSplit script so_far.lines taken.rest
+split_with_rest {left' = left'} {left'' = left''} {old = old} script so_far taken at_end = record {
+  whole = all_read script left'' (so_far.read ++ taken.read)
+      (Consumes-trans (Some script) left' left'' so_far.read taken.read so_far.came taken.came) at_end
+      ∙ split_rest so_far.read taken.read old.pending taken.rest so_far.lines so_far.parts taken.parts;
+  each = so_far.each;
+  last = taken.plain;
+}
+
+pub ended_with_rest : (Honest : Type 0) {Known : List (List ℕ) → Type 0} (end : PlayEnd)
+    (before now now' : Session) (failed failed' : ℕ)
     (left left' left'' held held' held'' : Option (List ℕ)) (most : ℕ) (old new : Unplayed) (line : Line)
-    → HasPlayed Honest before now left left' held held' most old → TakesRest old new left' left'' line
+    → HasPlayed Honest Known before now left left' held held' most old → TakesRest old new left' left'' line
     → IsAtEnd left'' → CountsEnd end failed failed'
     → (Honest → (rest : List ℕ) → Holds line rest → RestEndsAs end rest now now' held' held'')
     → Honest → IfSome left (λ script. EndsAs end [] script left'' before now' failed failed' held held'')
@@ -401,18 +429,21 @@ ended_with_rest Honest end before now now' failed failed' None left' left'' held
 ended_with_rest Honest end before now now' failed failed'
     (Some script) left' left'' held held' held'' most old new line so_far taken at_end counts last honest =
     rest_ends end script left'' before now now' failed failed' held held' held'' so_far.lines taken.rest
-    (record {
-      whole = all_read script left'' (so_far.read ++ taken.read)
-          (Consumes-trans (Some script) left' left'' so_far.read taken.read so_far.came taken.came) at_end
-          ∙ split_rest so_far.read taken.read old.pending taken.rest so_far.lines so_far.parts taken.parts;
-      each = so_far.each;
-      last = taken.plain;
-    })
+    (split_with_rest script so_far taken at_end)
     (so_far.written honest) (so_far.session honest) counts (last honest taken.rest taken.holds)
 
-pub cut_off : (Honest : Type 0) (before now : Session) (failed failed' : ℕ) (left left' left'' held held' : Option
-    (List ℕ)) (most : ℕ) (old new : Unplayed) (line : Line)
-    → HasPlayed Honest before now left left' held held' most old → TakesRest old new left' left'' line
+pub begins_before_rest : {Honest : Type 0} {Known : List (List ℕ) → Type 0} {before now : Session}
+    {left' left'' held held' : Option (List ℕ)} {most : ℕ} {old new : Unplayed} {line : Line} (script : List ℕ)
+    → (so_far : HasPlayed Honest Known before now (Some script) left' held held' most old)
+    → TakesRest old new left' left'' line → BeginsWith script so_far.lines
+begins_before_rest {left' = left'} {left'' = left''} {old = old} script so_far taken =
+    begins_read script left'' (so_far.read ++ taken.read) taken.rest so_far.lines
+    (Consumes-trans (Some script) left' left'' so_far.read taken.read so_far.came taken.came) so_far.each
+    (split_rest so_far.read taken.read old.pending taken.rest so_far.lines so_far.parts taken.parts)
+
+pub cut_off : (Honest : Type 0) {Known : List (List ℕ) → Type 0} (before now : Session) (failed failed' : ℕ)
+    (left left' left'' held held' : Option (List ℕ)) (most : ℕ) (old new : Unplayed) (line : Line)
+    → HasPlayed Honest Known before now left left' held held' most old → TakesRest old new left' left'' line
     → Honest → IfSome left (λ script. EndsAs Input [] script left'' before now failed failed' held held')
 cut_off Honest before now failed failed' None left' left'' held held' most old new line so_far taken honest = tt
 cut_off Honest before now failed failed' (Some script) left' left'' held held' most old new line so_far taken honest =

@@ -21,10 +21,13 @@ is_it_worn : (s : Session) → s.epoch ≡ LAST_EPOCH → JOURNAL_EVENTS ≤ s.e
 is_it_worn s last full = and_from (is_full s) (is_last s) (le-leb JOURNAL_EVENTS s.events full)
     (eq-eqb s.epoch LAST_EPOCH last)
 
-not_worn : (s : Session) → ((s.epoch ≡ LAST_EPOCH) × (JOURNAL_EVENTS ≤ s.events) → ⊥) → is_worn s ≡ false
-not_worn s none = false_from_ne_true (is_worn s) (λ worn.
+pub worn_parts : (s : Session) → is_worn s ≡ true → (s.epoch ≡ LAST_EPOCH) × (JOURNAL_EVENTS ≤ s.events)
+worn_parts s worn =
     let both = and_parts (is_full s) (is_last s) worn in
-    none (eqb-true s.epoch LAST_EPOCH both.1, leb-true JOURNAL_EVENTS s.events both.0))
+    (eqb-true s.epoch LAST_EPOCH both.1, leb-true JOURNAL_EVENTS s.events both.0)
+
+not_worn : (s : Session) → ((s.epoch ≡ LAST_EPOCH) × (JOURNAL_EVENTS ≤ s.events) → ⊥) → is_worn s ≡ false
+not_worn s none = false_from_ne_true (is_worn s) (λ worn. none (worn_parts s worn))
 
 pub worn_answer : (s : Session) (event : Event) → s.epoch ≡ LAST_EPOCH → JOURNAL_EVENTS ≤ s.events
     → answer s (Post event) ≡ worn_line

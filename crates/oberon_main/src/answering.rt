@@ -1,11 +1,13 @@
 //! The answer to a request, worked out over a store.
 ghost use Rattle.std.specs.Prelude.{◌≡◌, ◌≢◌, false, IsOk, IfOk, IfErr};
 ghost use Rattle.sector_disk.specs.Faults.{FailsAs};
+ghost use Rattle.desk_journal.specs.Device.{IsOnlyRead};
 ghost use Rattle.oberon_main.specs.declared.request.Request.TheVariants.{Post, Checkpoint, Show};
 ghost use Rattle.oberon_main.specs.declared.request.Request.TheVariants.{Listing, Display, Malformed};
 ghost use Rattle.oberon_main.specs.declared.playing.PlayEnd.TheVariants as ends;
 ghost use Rattle.oberon_main.specs.Session.{worn_line};
 ghost use Rattle.oberon_main.specs.Worked.{bytes_of, end_of, IsWorkEnd, IsWorkedOut};
+ghost use Rattle.oberon_main.specs.Surviving.{Withstands};
 
 use crate::answer::{
     ShortLine, list_bytes, refusal_bytes, reply_bytes, screen_bytes, short_line, text_bytes,
@@ -47,6 +49,7 @@ pub fn work_out<D: Disk>(
     requires { store.old.must_reopen ≡ false }
     ensures worked_out { IsWorkedOut D.Disk request.now result store.old store.new }
     ensures faults { FailsAs ends.Fault IsWorkEnd result (D.failures store.old.disk) (D.failures store.new.disk) }
+    ensures crash { Withstands D.Disk request.now store.old store.new }
     ensures malformed { request.now ≡ Malformed → IsOk result }
 {
     match request {
@@ -64,6 +67,7 @@ fn post<D: Disk>(alloc: Global, event: &Event, store: &mut Store<D>) -> Result<A
     requires { store.old.must_reopen ≡ false }
     ensures worked_out { IsWorkedOut D.Disk (Post event.now) result store.old store.new }
     ensures faults { FailsAs ends.Fault IsWorkEnd result (D.failures store.old.disk) (D.failures store.new.disk) }
+    ensures crash { Withstands D.Disk (Post event.now) store.old store.new }
 {
     match store.post(alloc, event) {
         Ok(reply) => Ok(Answer::Short(reply_bytes(reply))),
@@ -76,6 +80,7 @@ fn checkpoint<D: Disk>(store: &mut Store<D>) -> Result<Answer, PlayEnd>
     requires { store.old.must_reopen ≡ false }
     ensures worked_out { IsWorkedOut D.Disk Checkpoint result store.old store.new }
     ensures faults { FailsAs ends.Fault IsWorkEnd result (D.failures store.old.disk) (D.failures store.new.disk) }
+    ensures crash { Withstands D.Disk Checkpoint store.old store.new }
 {
     match store.checkpoint() {
         Ok(()) => Ok(Answer::Short(short_line(b"ok"))),
@@ -100,6 +105,7 @@ fn show<D: Disk>(alloc: Global, name: &Name, store: &mut Store<D>) -> Result<Ans
     requires { store.old.must_reopen ≡ false }
     ensures worked_out { IsWorkedOut D.Disk (Show name.now) result store.old store.new }
     ensures faults { FailsAs ends.Fault IsWorkEnd result (D.failures store.old.disk) (D.failures store.new.disk) }
+    ensures only_read { IsOnlyRead D.Disk store.old.disk store.new.disk }
 {
     match store.file(alloc, name)? {
         None => Ok(Answer::Short(refusal_bytes(NO_SUCH_FILE))),
@@ -113,6 +119,7 @@ fn list<D: Disk>(alloc: Global, store: &mut Store<D>) -> Result<Answer, PlayEnd>
     requires { store.old.must_reopen ≡ false }
     ensures worked_out { IsWorkedOut D.Disk Listing result store.old store.new }
     ensures faults { FailsAs ends.Fault IsWorkEnd result (D.failures store.old.disk) (D.failures store.new.disk) }
+    ensures only_read { IsOnlyRead D.Disk store.old.disk store.new.disk }
 {
     let entries = store.list(alloc)?;
     Ok(Answer::Long(list_bytes(alloc, entries.as_slice())?))
@@ -124,6 +131,7 @@ fn screen<D: Disk>(alloc: Global, store: &mut Store<D>) -> Result<Answer, PlayEn
     requires { store.old.must_reopen ≡ false }
     ensures worked_out { IsWorkedOut D.Disk Display result store.old store.new }
     ensures faults { FailsAs ends.Fault IsWorkEnd result (D.failures store.old.disk) (D.failures store.new.disk) }
+    ensures only_read { IsOnlyRead D.Disk store.old.disk store.new.disk }
 {
     let mut screen = Screen::new();
     store.screen(alloc, &mut screen)?;

@@ -16,7 +16,7 @@ mod request;
 mod sending;
 mod words;
 
-pub use laws::{numbers_are_decimal, one_split};
+pub use laws::{lines_are_steps, numbers_are_decimal, one_split};
 pub use playing::{PlayEnd, play, play_bounded};
 pub use report::{check, refuse, status};
 pub use sending::{OutputFault, send};

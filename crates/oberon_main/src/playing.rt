@@ -1,5 +1,5 @@
 //! Playing a script over a store.
-ghost use Rattle.std.specs.Prelude.{◌≡◌, ◌↔◌, ℕ, List, [], ◌∷◌, false, OnOk, OnErr, IsOk, IfErr};
+ghost use Rattle.std.specs.Prelude.{◌≡◌, ◌↔◌, ℕ, List, [], ◌∷◌, false, IfSome, OnOk, OnErr, IsOk, IfErr};
 ghost use Rattle.std.specs.Io.KnownBytes.{Appends, Keeps};
 ghost use Rattle.sector_disk.specs.Faults.{FailsAs, OneOf};
 ghost use Rattle.screen_cells.specs.Sent.{AppendsFront};
@@ -8,7 +8,10 @@ ghost use Rattle.oberon_main.specs.Request.{request_of};
 ghost use Rattle.oberon_main.specs.Reading.{Holds, ComesInPieces};
 ghost use Rattle.oberon_main.specs.Opened.{session_of};
 ghost use Rattle.oberon_main.specs.Play.{Plays, CountsPlay, CountsEnd, PlaysLine, RestEndsAs, last_word, no_word};
+ghost use Rattle.oberon_main.specs.Script.{lines_at_end};
+ghost use Rattle.oberon_main.specs.Surviving.{Survives, Outlives, TakesAnswers, LineSurvives, answered_at, answered_by};
 ghost use Rattle.oberon_main.specs.Worked.{end_of};
+ghost use Rattle.desk_journal.specs.View.{IsDurable};
 
 use crate::answer::short_line;
 use crate::answering::work_out;
@@ -87,6 +90,8 @@ pub fn play<R: Read, W: Write, D: Disk>(
         (W.contents writer.old) (W.contents writer.new) store.old store.new }
     ensures pieces { ComesInPieces MOST_READS (R.remaining reader.old) (R.remaining reader.new) }
     ensures faults { CountsPlay result (D.failures store.old.disk) (D.failures store.new.disk) }
+    ensures survives { D.honest store.old.disk → IfSome (R.remaining reader.old)
+        (λ script. Survives D.Disk script (W.contents writer.old) (W.contents writer.new) store.old store.new) }
 {
     play_bounded(alloc, reader, writer, store, MOST_READS)
 }
@@ -104,6 +109,8 @@ pub fn play_bounded<R: Read, W: Write, D: Disk>(
         (W.contents writer.old) (W.contents writer.new) store.old store.new }
     ensures pieces { ComesInPieces reads (R.remaining reader.old) (R.remaining reader.new) }
     ensures faults { CountsPlay result (D.failures store.old.disk) (D.failures store.new.disk) }
+    ensures survives { D.honest store.old.disk → IfSome (R.remaining reader.old)
+        (λ script. Survives D.Disk script (W.contents writer.old) (W.contents writer.new) store.old store.new) }
 {
     let end = play_lines(alloc, reader, writer, store, reads);
     match say(writer, end) {
@@ -140,7 +147,12 @@ fn play_lines<R: Read, W: Write, D: Disk>(
         (W.contents writer.old) (W.contents writer.new) store.old store.new }
     ensures pieces { ComesInPieces reads (R.remaining reader.old) (R.remaining reader.new) }
     ensures faults { CountsEnd result (D.failures store.old.disk) (D.failures store.new.disk) }
+    ensures survives { D.honest store.old.disk → IfSome (R.remaining reader.old)
+        (λ script. Outlives D.Disk (TakesAnswers (W.contents writer.old) (W.contents writer.new) result)
+        script store.old store.new) }
 {
+    // What the store shows is what a crash would leave now.
+    let _ = store.info();
     let mut script = Script::new(reads);
     let mut line = Line::new();
     loop {
@@ -171,6 +183,7 @@ fn play_rest<W: Write, D: Disk>(
     ensures no_input { result ≡ ends.Input → ⊥ }
     ensures premise { D.honest store.new.disk ↔ D.honest store.old.disk }
     ensures faults { CountsEnd result (D.failures store.old.disk) (D.failures store.new.disk) }
+    ensures survives { LineSurvives D.Disk line.now (lines_at_end []) (answered_at result) store.old store.new }
 {
     if line.is_empty() {
         return PlayEnd::Done;
@@ -193,8 +206,13 @@ fn play_line<W: Write, D: Disk>(
         store.old store.new }
     ensures faults { FailsAs ends.Fault (OneOf (ends.Fault ∷ ends.Memory ∷ ends.Output ∷ [])) result
         (D.failures store.old.disk) (D.failures store.new.disk) }
+    ensures survives { LineSurvives D.Disk line.now (λ bytes. bytes ∷ []) (answered_by result) store.old store.new }
+    ensures durable { OnOk result (IsDurable D.Disk store.new) }
+    ensures as_large { D.size store.new.disk ≡ D.size store.old.disk }
 {
     let answer = work_out(alloc, &line.request(), store)?;
+    // What the store shows is what a crash would leave now.
+    let _ = store.info();
     send(writer, answer.as_bytes())?;
     Ok(())
 }

@@ -6,6 +6,7 @@ pub mod Looks
 pub mod Memory
 pub mod Merging
 pub mod Moving
+pub mod Peeks
 pub mod Places
 pub mod Relooking
 pub mod Runs

@@ -10,9 +10,9 @@
 //! The number of characters and of pieces that are there in the end is printed.
 #![tactic(auto)]
 
-ghost use Rattle.std.specs.Prelude.{◌<◌};
-
 use piece_ring::{DEFAULT_LOOK, NoMemory, Piece, Ring};
+use rand_core::{Rng, SeedableRng};
+use rand_xoshiro::SplitMix64;
 use std::alloc::Global;
 use std::{env, io};
 
@@ -24,27 +24,6 @@ const LONGEST: u32 = 16;
 
 /// How far from the last place a near round may be.
 const NEAR: u32 = 50;
-
-/// Numbers by Marsaglia's xorshift of 32 bits.
-#[derive(Drop)]
-struct Random {
-    state: u32,
-}
-
-impl Random {
-    /// A number below the bound.
-    fn below(&mut self, bound: u32) -> u32
-        requires { 0 < bound }
-        ensures { result < bound }
-    {
-        let mut x = self.state;
-        x ^= x << 13;
-        x ^= x >> 17;
-        x ^= x << 5;
-        self.state = x;
-        x % bound
-    }
-}
 
 /// What the rounds do.
 #[derive(Clone, Copy, PartialEq, Eq)]
@@ -107,20 +86,18 @@ fn shift(alloc: Global, ring: &mut Ring, beg: u32, long: u32, to: u32) -> Result
 }
 
 /// A random position, or one within `NEAR` of the last.
-fn place(mode: Mode, random: &mut Random, len: u32, last: u32) -> u32 {
+fn place(mode: Mode, random: &mut SplitMix64, len: u32, last: u32) -> u32 {
     if mode == Mode::Near {
         let low = last.saturating_sub(NEAR);
-        return low.saturating_add(random.below(2 * NEAR)).min(len);
+        return low.saturating_add(random.next_u32() % (2 * NEAR)).min(len);
     }
-    random.below(len.max(1))
+    random.next_u32() % len.max(1)
 }
 
 /// Does the rounds, and leaves the ring.
 fn run(alloc: Global, mode: Mode, pieces: u32, rounds: u32) -> Result<Ring, NoMemory> {
     let mut ring = ring_of(alloc, pieces)?;
-    let mut random = Random {
-        state: 2_463_534_242,
-    };
+    let mut random = SplitMix64::seed_from_u64(1);
     let mut last = ring.len() / 2;
     for round in 0..rounds {
         if mode == Mode::Typing {
@@ -128,7 +105,7 @@ fn run(alloc: Global, mode: Mode, pieces: u32, rounds: u32) -> Result<Ring, NoMe
             continue;
         }
         let beg = place(mode, &mut random, ring.len(), last);
-        let long = (1 + random.below(LONGEST)).min(ring.len().saturating_sub(beg));
+        let long = (1 + random.next_u32() % LONGEST).min(ring.len().saturating_sub(beg));
         last = place(mode, &mut random, ring.len(), beg);
         shift(alloc, &mut ring, beg, long, last)?;
     }
@@ -163,19 +140,16 @@ fn mode_of(word: Option<String>) -> Option<Mode> {
     }
 }
 
-/// The number that a word spells.
-fn number(word: Option<String>) -> Option<u32> {
-    word?.parse().ok()
+/// The numbers that two words spell.
+fn numbers(pieces: Option<String>, rounds: Option<String>) -> Option<(u32, u32)> {
+    Some((pieces?.parse().ok()?, rounds?.parse().ok()?))
 }
 
 fn main(rt: HostRuntime) -> io::Result<()> {
     let mut words = env::args(&rt)?;
     words.next();
-    let (Some(mode), Some(pieces), Some(rounds)) = (
-        mode_of(words.next()),
-        number(words.next()),
-        number(words.next()),
-    ) else {
+    let mode = mode_of(words.next());
+    let (Some(mode), Some((pieces, rounds))) = (mode, numbers(words.next(), words.next())) else {
         println!(rt; "usage: ring_bench far|near|type|rows PIECES ROUNDS")?;
         return Ok(());
     };

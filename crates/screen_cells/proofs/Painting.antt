@@ -1,6 +1,6 @@
 -- What is painted: a row from the left, and the rows from the bottom.
 use Rattle.std.proofs.Common.{◌≡◌, ◌≢◌, ℕ, Bool, true, ◌+◌, ◌<◌, ◌≤◌, ◌-◌, false, Option, List, [], length, get_or, set}
-use Rattle.std.proofs.Common.{map, refl, ap, ◌∙◌, arith, below_more, subst, sym}
+use Rattle.std.proofs.Common.{map, refl, ap, ◌∙◌, arith, below_more}
 use Rattle.std.specs.Prelude.{if◌then◌else◌, nat_lt, None}
 use Rattle.std.proofs.lemmas.List.{length-set, get_or-set_same, get_or-set_other}
 use Rattle.char_file.specs.Source.{OnlyReads}

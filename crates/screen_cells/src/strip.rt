@@ -179,49 +179,6 @@ fn index_of(shown: &[Shown<'_>], viewer: ViewerId) -> usize
         .unwrap_or(shown.len())
 }
 
-/// The filled cells of a row of a frame. `Fault`: the source failed in this call.
-fn cells_of_row<S: CharSource>(
-    frame: &Frame,
-    text: &Text,
-    w: u8,
-    h: u8,
-    row: u8,
-    source: &mut S,
-) -> Result<Line, Fault>
-    requires columns { w ≤ 50 }
-    requires rows { h ≤ 31 }
-    requires row { row < h }
-    requires org { frame.now.org ≤ length (flat text.now) }
-    requires offsets { AreWithin (length (S.characters source.old)) (flat text.now) }
-    ensures cells { IfOk result (λ line. S.honest source.old
-        → line.items ≡ row_cells w (contents (S.characters source.old) (flat text.now)) frame.now.org row) }
-    ensures reads { OnlyReads S.characters S.failures S.honest S.same_ground source.old source.new }
-    ensures cause { CountsFault result (S.failures source.old) (S.failures source.new) }
-{
-    frame.line(text, w, h, row, source)
-}
-
-/// The cell of a frame at which a position is shown, if it is. `Fault`: the source failed in this call.
-fn cell_of_position<S: CharSource>(
-    frame: &Frame,
-    text: &Text,
-    w: u8,
-    h: u8,
-    p: u32,
-    source: &mut S,
-) -> Result<Option<(u8, u8)>, Fault>
-    requires columns { w ≤ 50 }
-    requires rows { h ≤ 31 }
-    requires place { p ≤ length (flat text.now) }
-    requires offsets { AreWithin (length (S.characters source.old)) (flat text.now) }
-    ensures cell { IfOk result (λ cell. S.honest source.old
-        → cell ≡ cell_of w h (bytes (S.characters source.old) (flat text.now)) frame.now.org p) }
-    ensures reads { OnlyReads S.characters S.failures S.honest S.same_ground source.old source.new }
-    ensures cause { CountsFault result (S.failures source.old) (S.failures source.new) }
-{
-    frame.cell_of(text, w, h, p, source)
-}
-
 /// The cell of a frame of `w` columns and `h` rows at which the caret of a viewer stands, if it is shown.
 fn caret_at<S: CharSource>(
     shown: &Shown<'_>,
@@ -244,7 +201,7 @@ fn caret_at<S: CharSource>(
     if p > shown.main.len() {
         return Ok(None);
     }
-    cell_of_position(shown.frame, shown.main, w, h, p, source)
+    shown.frame.cell_of(shown.main, w, h, p, source)
 }
 
 /// The menu row `y` of a viewer of that width whose rows begin at `bottom`.
@@ -270,7 +227,7 @@ fn menu_strip<S: CharSource>(
     };
     let _ = bottom;
     let _ = y;
-    let line = cells_of_row(&frame, shown.menu, width, 1, 0, source)?;
+    let line = frame.line(shown.menu, width, 1, 0, source)?;
     Ok(Strip::Menu(line))
 }
 
@@ -300,7 +257,7 @@ fn viewer_strip<S: CharSource>(
     }
     let h = top - bottom - 1;
     let row = top - 2 - y;
-    let line = cells_of_row(shown.frame, shown.main, width - 1, h, row, source)?;
+    let line = shown.frame.line(shown.main, width - 1, h, row, source)?;
     let caret = caret_at(shown, width - 1, h, source)?;
     let selection = shown.frame.selection;
     Ok(Strip::Frame(FrameRow {

@@ -1,10 +1,12 @@
 -- One byte more, one sector more, and the last one.
-use Rattle.std.proofs.Common.{◌≡◌, ◌≢◌, inl, inr, ℕ, ◌+◌, ◌*◌, ◌<◌, ◌≤◌, List, [], ◌∷◌, ◌++◌, length, get_or, take}
-use Rattle.std.proofs.Common.{append_assoc, set, replicate, sym, ◌∙◌, ap, subst, arith, length-append}
+use Rattle.std.proofs.Common.{◌≡◌, ◌≢◌, inl, inr, ℕ, ◌+◌, ◌*◌, ◌<◌, ◌≤◌, List, [], ◌++◌, length, get_or, take}
+use Rattle.std.proofs.Common.{append_assoc, replicate, sym, ◌∙◌, ap, subst, arith}
 use Rattle.std.proofs.lemmas.Bool.{cases_lt}
 use Rattle.std.proofs.lemmas.Bool.Decides.{nat_tests}
-use Rattle.std.proofs.lemmas.List.{get_or_push, get_or-set_same, get_or-set_other, get_or_past}
-use Rattle.std.proofs.lemmas.List.{get_or_append_left, get_or-replicate, take_more}
+use Rattle.std.proofs.lemmas.List.{get_or_past}
+use Rattle.std.proofs.lemmas.List.{get_or-replicate, take_rest}
+use Rattle.std.proofs.Math.Seq.{take-add}
+use Rattle.std.specs.List.{between}
 use Rattle.sector_disk.specs.Trail.{Content, Moment, written}
 use Rattle.desk_image.specs.declared.limits.TheConstants.{SECTOR_BYTES}
 use Rattle.sector_streams.specs.Stored.{Holds}
@@ -16,39 +18,6 @@ reads_here m n bytes = grind (arith, nat_tests)
 
 pub reads_elsewhere : (m : Moment) (n k : ℕ) (bytes : List ℕ) → k ≢ n → (written m n bytes).reads k ≡ m.reads k
 reads_elsewhere m n k bytes other = grind (arith, nat_tests)
-
--- a byte at the end changes no other one
-get_or_before_push : (l : List ℕ) (b i : ℕ) → i ≢ length l → get_or (l ++ b ∷ []) i 0 ≡ get_or l i 0
-get_or_before_push l b i other = elim (cases_lt i (length l)) [
-  | inl before ↦ get_or_append_left l (b ∷ []) 0 i before
-  | inr after ↦ get_or_past (l ++ b ∷ []) i 0 (omega (arith, after, other, length-append l (b ∷ [])))
-      ∙ sym (get_or_past l i 0 after)
-]
-
--- a byte more in the buffer
-pub pushed : (c : Content) (from full used b : ℕ) (buffer l : List ℕ) → used < SECTOR_BYTES
-    → length buffer ≡ SECTOR_BYTES → IsSpread c from full used buffer l
-    → IsSpread c from full (used + 1) (set buffer used b) (l ++ b ∷ [])
-pushed c from full used b buffer l room wide was = record {
-  count = length-append l (b ∷ []) ∙ omega (arith, was.count);
-  above = λ k j low within. was.above k j low within
-      ∙ sym (get_or_before_push l b (SECTOR_BYTES * k + j) (λ at. omega (arith, at, was.count, low, within)));
-  rest = λ j low. elim (cases_lt j used) [
-    | inl before ↦ other j low (λ at. omega (arith, at, before))
-    | inr after ↦ elim (cases_lt used j) [
-      | inl behind ↦ other j low (λ at. omega (arith, at, behind))
-      | inr at_end ↦ (let here : j ≡ used = omega (arith, after, at_end) in
-          subst (λ n. get_or (set buffer used b) n 0 ≡ get_or (l ++ b ∷ []) (SECTOR_BYTES * full + n) 0) (sym here)
-          (get_or-set_same buffer used b 0 (omega (arith, wide, room))
-          ∙ sym (get_or_push l b 0 (SECTOR_BYTES * full + used) was.count)))
-    ]
-  ];
-}
-  where
-    other : (j : ℕ) → j < SECTOR_BYTES → j ≢ used
-        → get_or (set buffer used b) j 0 ≡ get_or (l ++ b ∷ []) (SECTOR_BYTES * full + j) 0
-    other j low away = get_or-set_other buffer used j b 0 away ∙ was.rest j low
-        ∙ sym (get_or_before_push l b (SECTOR_BYTES * full + j) (λ at. away (omega (arith, at, was.count))))
 
 -- a buffer without bytes
 blank : (j : ℕ) (buffer : List ℕ) → buffer ≡ replicate SECTOR_BYTES 0 → j < SECTOR_BYTES → get_or buffer j 0 ≡ 0
@@ -98,14 +67,16 @@ carried c c' f f' l same_from same_limit step was = λ room.
     subst (λ n. IsSpread c' n f'.full f'.used f'.buffer l) (sym same_from)
     (step (was (subst (λ n. length l ≤ SECTOR_BYTES * n) same_limit room)))
 
--- one byte of a list more
-pub goes_on : (c : Content) (f : Filling) (before bytes : List ℕ) (i : ℕ) → i < length bytes
-    → HasTaken c f ((before ++ take i bytes) ++ get_or bytes i 0 ∷ []) → HasTaken c f (before ++ take (i + 1) bytes)
-goes_on c f before bytes i room was = subst (HasTaken c f) longer was
+-- a stretch of a list more
+pub goes_on : (c : Content) (f : Filling) (before bytes : List ℕ) (i n : ℕ)
+    → HasTaken c f ((before ++ take i bytes) ++ take n (between i (length bytes) bytes))
+    → HasTaken c f (before ++ take (i + n) bytes)
+goes_on c f before bytes i n was = subst (HasTaken c f) longer was
   where
-    longer : (before ++ take i bytes) ++ get_or bytes i 0 ∷ [] ≡ before ++ take (i + 1) bytes
-    longer = append_assoc before (take i bytes) (get_or bytes i 0 ∷ [])
-        ∙ ap (λ l. before ++ l) (sym (take_more bytes i 0 room))
+    longer : (before ++ take i bytes) ++ take n (between i (length bytes) bytes) ≡ before ++ take (i + n) bytes
+    longer = append_assoc before (take i bytes) (take n (between i (length bytes) bytes))
+        ∙ ap (λ l. before ++ (take i bytes ++ take n l)) (take_rest bytes i)
+        ∙ ap (λ l. before ++ l) (sym (take-add i n bytes))
 
 -- the sector that is being filled is one of those that may be filled
 pub is_within : (from limit full : ℕ) → full < limit → (n : ℕ) → n ≡ from + full → InRange from limit n

@@ -1,5 +1,6 @@
-//! Bytes that come one by one and fill sectors.
-ghost use Rattle.std.specs.Prelude.{◌≡◌, ◌+◌, ◌*◌, ◌^◌, ◌<◌, ◌≤◌, ◌++◌, ◌∷◌, [], ℕ, List, OnOk, length, replicate};
+//! Bytes that come and fill sectors.
+ghost use Rattle.std.specs.Prelude.{◌≡◌, ◌+◌, ◌*◌, ◌^◌, ◌<◌, ◌≤◌, ◌++◌, [], ℕ, List, OnOk, length, replicate};
+ghost use Rattle.std.specs.Prelude.{take, drop};
 ghost use Rattle.desk_image.specs.declared.limits.TheConstants.{SECTOR_BYTES};
 
 use desk_image::SECTOR_BYTES;
@@ -10,6 +11,14 @@ fn blank() -> Sector
     ensures { result ≡ replicate SECTOR_BYTES 0 }
 {
     [0; SECTOR_BYTES as usize]
+}
+
+/// Copies the bytes into a sector, from byte `at` of it on.
+fn pour(sector: &mut Sector, at: usize, bytes: &[u8])
+    requires { at + length bytes.now ≤ SECTOR_BYTES }
+    ensures { sector.new ≡ take at sector.old ++ (bytes.now ++ drop (at + length bytes.now) sector.old) }
+{
+    sector[at..at + bytes.len()].copy_from_slice(bytes);
 }
 
 /// Bytes on their way to sectors. Those that fill a sector are written when the next one comes, and the last ones by
@@ -78,34 +87,25 @@ impl Filling {
         Ok(())
     }
 
-    /// Takes one byte into the buffer, where there is room.
-    fn take(&mut self, byte: u8)
+    /// Takes as many bytes as the buffer has room for, and returns how many these are. Where it has none they are all
+    /// dropped.
+    fn take_some(&mut self, bytes: &[u8]) -> usize
         ensures from { self.new.from ≡ self.old.from }
         ensures limit { self.new.limit ≡ self.old.limit }
-        ensures taken { (c : Content) (bytes : List ℕ)
+        ensures some { 0 < length bytes.now → 0 < result }
+        ensures within { result ≤ length bytes.now }
+        ensures taken { (c : Content) (before : List ℕ)
             → (self.old.used ≡ SECTOR_BYTES → self.old.full + 1 ≡ self.old.limit)
-            → HasTaken c self.old bytes → HasTaken c self.new (bytes ++ byte ∷ []) }
+            → HasTaken c self.old before → HasTaken c self.new (before ++ take result bytes.now) }
     {
-        if self.used < SECTOR_BYTES as usize {
-            self.buffer[self.used] = byte;
-            self.used += 1;
+        let room = SECTOR_BYTES as usize - self.used;
+        if room == 0 {
+            return bytes.len();
         }
-    }
-
-    /// Takes one byte, and writes the sector before it where that one is full.
-    fn put_byte<D: Disk>(&mut self, disk: &mut D, byte: u8) -> Result<(), Fault>
-        requires { first_sector self.old + most_sectors self.old ≤ D.size disk.old }
-        ensures kept { IsConfined D.size D.honest D.trail (SectorsOf self.old) disk.old disk.new }
-        ensures cause { CountsFault result (D.failures disk.old) (D.failures disk.new) }
-        ensures from { first_sector self.new ≡ first_sector self.old }
-        ensures limit { most_sectors self.new ≡ most_sectors self.old }
-        ensures taken { OnOk result (D.honest disk.old → (before : List ℕ)
-            → HasTaken (now (D.trail disk.old)).reads self.old before
-            → HasTaken (now (D.trail disk.new)).reads self.new (before ++ byte ∷ [])) }
-    {
-        self.turn_over(disk)?;
-        self.take(byte);
-        Ok(())
+        let count = room.min(bytes.len());
+        pour(&mut self.buffer, self.used, &bytes[..count]);
+        self.used += count;
+        count
     }
 
     /// Takes the bytes, those that fit the sectors, and writes each sector that is full when a byte after it comes.
@@ -120,8 +120,10 @@ impl Filling {
             → HasTaken (now (D.trail disk.old)).reads self.old before
             → HasTaken (now (D.trail disk.new)).reads self.new (before ++ bytes.now)) }
     {
-        for byte in bytes {
-            self.put_byte(disk, *byte)?;
+        let mut at = 0;
+        while at < bytes.len() {
+            self.turn_over(disk)?;
+            at += self.take_some(&bytes[at..]);
         }
         Ok(())
     }

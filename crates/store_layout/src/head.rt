@@ -5,7 +5,7 @@ ghost use Rattle.store_layout.specs.Layout.{head_of, IsGoodHead};
 
 use crate::layout::LAYOUT;
 use byteorder::{BigEndian, ByteOrder};
-use desk_image::IMAGE_BYTES;
+use desk_image::{IMAGE_BYTES, SECTOR_BYTES};
 use event_loop_laws::MOST_WRITTEN;
 use sector_disk::Sector;
 
@@ -41,7 +41,7 @@ impl Head {
     pub fn sector(&self) -> Sector
         ensures { head_of result ≡ self.now }
     {
-        let mut sector = [0; 1024];
+        let mut sector = [0; SECTOR_BYTES as usize];
         sector[..4].copy_from_slice(&bytes_of(self.version));
         sector[4..8].copy_from_slice(&bytes_of(self.epoch));
         sector[8..12].copy_from_slice(&bytes_of(self.written));

@@ -4,6 +4,7 @@ ghost use Rattle.event_bytes.specs.declared.event.Event.{Event};
 ghost use Rattle.event_bytes.specs.Spelling.{Begins};
 ghost use Rattle.store_layout.specs.Layout.{is_open, is_label};
 
+use desk_image::SECTOR_BYTES;
 use event_bytes::Event;
 use sector_disk::Sector;
 
@@ -12,7 +13,7 @@ use sector_disk::Sector;
 pub fn label() -> Sector
     ensures { is_label result ≡ true }
 {
-    let mut label = [0; 1024];
+    let mut label = [0; SECTOR_BYTES as usize];
     label[..16].copy_from_slice(b"OBERONDESKSTORE1");
     label
 }
@@ -22,7 +23,7 @@ pub fn label() -> Sector
 pub fn open_gate() -> Sector
     ensures { is_open result ≡ true }
 {
-    let mut gate = [0; 1024];
+    let mut gate = [0; SECTOR_BYTES as usize];
     gate[..8].copy_from_slice(b"OPENGATE");
     gate
 }
@@ -32,7 +33,7 @@ pub fn open_gate() -> Sector
 pub fn closed_gate() -> Sector
     ensures { is_open result ≡ false }
 {
-    [0; 1024]
+    [0; SECTOR_BYTES as usize]
 }
 
 /// The spelling of the event, and then zeros.
@@ -40,7 +41,7 @@ pub fn body_of(event: &Event) -> Sector
     ensures { Begins result event.now }
 {
     let spelling = event.encode();
-    let mut body = [0; 1024];
+    let mut body = [0; SECTOR_BYTES as usize];
     body[..spelling.len()].copy_from_slice(spelling.as_slice());
     body
 }

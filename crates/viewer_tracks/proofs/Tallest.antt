@@ -57,6 +57,13 @@ pub record IsTallest (t : List Entry) (bottom greatest middle : ℕ) : Type 0 wh
   pub half : middle ≡ bottom_of t (tallest t) + greatest_height t / 2
   pub within : middle ≤ bottom
 
+-- the middle of the tallest, of which the height is known, its place, and what is below it
+middle_of : (t below : List Entry) (h n : ℕ) → greatest_height t ≡ h → first_of h t ≡ n → take n t ≡ below
+    → bottom_of t (tallest t) + greatest_height t / 2 ≡ sum_by (λ e. e.height) below + h / 2
+middle_of t below h n is at front =
+    (λ i. bottom_of t (first_of (is i) t) + is i / 2) ∙ ap (λ k. bottom_of t k + h / 2) at
+    ∙ ap (λ (l : List Entry). sum_by (λ (x : Entry). x.height) l + h / 2) front
+
 pub tallest_none : IsTallest [] 0 0 0
 tallest_none = record { sum = refl; most = refl; half = refl; within = omega arith }
 
@@ -76,10 +83,7 @@ tallest_more t e b g m so more =
           omega (
             arith,
             so.sum,
-            ap (λ h. h / 2) is,
-            ap (λ h. bottom_of (t ++ e ∷ []) (first_of h (t ++ e ∷ []))) is
-                ∙ ap (bottom_of (t ++ e ∷ [])) at
-                ∙ ap (sum_by (λ (x : Entry). x.height)) (take_at t (e ∷ []) (length t) refl),
+            middle_of (t ++ e ∷ []) t e.height (length t) is at (take_at t (e ∷ []) (length t) refl),
           );
       within = omega (arith, so.within);
     }
@@ -105,10 +109,8 @@ tallest_same t e b g m so less =
           omega (
             arith,
             so.half,
-            ap (λ h. h / 2) same,
-            ap (λ h. bottom_of (t ++ e ∷ []) (first_of h (t ++ e ∷ []))) same
-                ∙ ap (bottom_of (t ++ e ∷ [])) at
-                ∙ ap (sum_by (λ (x : Entry). x.height)) (take-append-le (first_of g' t) t (e ∷ []) short),
+            middle_of (t ++ e ∷ []) (take (first_of g' t) t) g' (first_of g' t) same at
+                (take-append-le (first_of g' t) t (e ∷ []) short),
           );
       within = omega (arith, so.within);
     }

@@ -1,4 +1,4 @@
-use Rattle.std.proofs.Common.{ℕ, ◌-◌, length}
+use Rattle.std.proofs.Common.{◌-◌, length}
 use Rattle.command_table.specs.declared.listing.TheConstants.{MOST_NAMES}
 use Rattle.command_table.proofs.Gathering.{IsGathering}
 use Rattle.command_table.proofs.listing.names_from.Given as goal

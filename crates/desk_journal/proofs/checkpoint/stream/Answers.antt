@@ -1,32 +1,14 @@
 use Rattle.std.proofs.Common.{[], ◌≡◌, ◌+◌, ◌∙◌, arith, ap, length, refl}
 use Rattle.sector_disk.specs.Trail.{now}
 use Rattle.desk_image.specs.Image.{image_of, image_bytes}
-use Rattle.desk_journal.proofs.Streaming.{in_sectors, all_stored}
+use Rattle.desk_journal.proofs.Streaming.{all_stored}
 use Rattle.desk_journal.proofs.checkpoint.stream.Goals as goal
-
-pub returns-in_err-finish-clause-kept : goal.returns-in_err-finish-clause-kept
-returns-in_err-finish-clause-kept g c =
-    let f = c.new-filling.ensures in
-    let o = c.put_over.ensures in
-    let p = c.put_through.ensures in
-    in_sectors g.D.Disk c.new-filling.result c.put_over.new.self c.put_through.new.filling
-    (f.from ∙ c.image_at.ensures) f.limit o.from o.limit p.from p.limit o.kept p.kept c.finish.ensures.kept
-
-pub returns-clause-kept : goal.returns-clause-kept
-returns-clause-kept g c =
-    let f = c.new-filling.ensures in
-    let o = c.put_over.ensures in
-    let p = c.put_through.ensures in
-    in_sectors g.D.Disk c.new-filling.result c.put_over.new.self c.put_through.new.filling
-    (f.from ∙ c.image_at.ensures) f.limit o.from o.limit p.from p.limit o.kept p.kept c.finish.ensures.kept
 
 pub returns-clause-stored : goal.returns-clause-stored
 returns-clause-stored g c = λ honest.
     let f = c.new-filling.ensures in
-    let o = c.put_over.ensures in
     let p = c.put_through.ensures in
-    let second = o.kept.still honest in
-    let third = p.kept.still second in
+    let second = p.kept.still honest in
     let d = c.args.desktop.now.desktop in
     let bytes = image_bytes (image_of d) in
     let count : c.in_ok-length.length ≡ length bytes = c.in_ok-length.ensures.spelled.1 in
@@ -34,8 +16,6 @@ returns-clause-stored g c = λ honest.
     (record { count = refl; whole = c.requires.over.whole; parts = c.in_ok-length.ensures.spelled.0; exact = refl }) in
     all_stored (now (g.D.Disk.trail c.finish.new.disk)).reads c.put_through.new.filling _
     (length c.args.tail.now + c.in_ok-length.length) c.args.tail.now bytes
-    (p.from ∙ o.from ∙ f.from ∙ c.image_at.ensures) (p.limit ∙ o.limit ∙ f.limit)
-    (ap (λ n. length c.args.tail.now + n) count)
+    (p.from ∙ f.from ∙ c.image_at.ensures) (p.limit ∙ f.limit) (ap (λ n. length c.args.tail.now + n) count)
     (omega (arith, count, room, c.requires.tail, c.requires.over.counted))
-    (c.in_ok-finish.ensures.held third _ (c.in_ok-length.ensures.taken second c.args.tail.now
-    (c.in_ok-put_over.ensures.taken honest [] (f.taken _))))
+    (c.in_ok-finish.ensures.held second _ (c.in_ok-length.ensures.taken honest [] (f.taken _)))

@@ -1,27 +1,16 @@
 use Rattle.desk_journal.proofs.Fronts.{placed}
-use Rattle.desk_journal.proofs.NewSlot.{slot_written, front_written}
+use Rattle.desk_journal.proofs.NewSlot.{slot_filled}
 use Rattle.desk_journal.proofs.checkpoint.write_slot.Goals as goal
 
-pub returns-clause-new : goal.returns-clause-new
-returns-clause-new g c = λ honest front.
+pub returns-clause-filled : goal.returns-clause-filled
+returns-clause-filled g c = λ honest front.
     let second = c.fill_slot.ensures.kept.still honest in
     let third = c.write.ensures.kept.still second in
     let fourth = c.write-2.ensures.kept.still third in
     let e = c.in_ok-extent.ensures in
-    slot_written _ _ _ _ c.args.slot c.args.epoch c.in_ok-extent.extent c.written.result c.args.desktop.now.desktop
-    c.args.desktop.now.characters c.sector.result c.closed_gate.result c.requires.two c.requires.epoch e.fits
-    c.requires.over e.spelled (e.stored honest) (e.front honest front) c.sector.ensures c.written.ensures
-    c.closed_gate.ensures (placed _ _ _ _ _ c.slot_head.ensures (c.in_ok-write.ensures.written second))
-    (placed _ _ _ _ _ c.gate.ensures (c.in_ok-write-2.ensures.written third)) (c.in_ok-sync.ensures.settled fourth)
-
-pub returns-clause-front : goal.returns-clause-front
-returns-clause-front g c = λ honest front.
-    let second = c.fill_slot.ensures.kept.still honest in
-    let third = c.write.ensures.kept.still second in
-    let fourth = c.write-2.ensures.kept.still third in
-    let e = c.in_ok-extent.ensures in
-    front_written _ _ _ _ c.args.slot c.args.epoch c.in_ok-extent.extent c.written.result c.args.desktop.now.desktop
-    c.args.desktop.now.characters c.sector.result c.closed_gate.result c.requires.two c.requires.epoch e.fits
-    c.requires.over e.spelled (e.stored honest) (e.front honest front) c.sector.ensures c.written.ensures
-    c.closed_gate.ensures (placed _ _ _ _ _ c.slot_head.ensures (c.in_ok-write.ensures.written second))
+    slot_filled _ _ _ _ c.args.place.slot c.args.place.epoch c.in_ok-extent.extent c.written.result
+    c.args.desktop.now.desktop c.args.desktop.now.characters c.sector.result c.closed_gate.result c.args.place.two
+    c.args.place.numbered e.fits c.requires.over e.spelled (e.stored honest) (e.front honest front) c.sector.ensures
+    c.written.ensures c.closed_gate.ensures
+    (placed _ _ _ _ _ c.slot_head.ensures (c.in_ok-write.ensures.written second))
     (placed _ _ _ _ _ c.gate.ensures (c.in_ok-write-2.ensures.written third)) (c.in_ok-sync.ensures.settled fourth)

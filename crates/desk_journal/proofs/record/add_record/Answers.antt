@@ -3,31 +3,23 @@ use Rattle.desk_journal.proofs.record.add_record.Goals as goal
 
 pub returns-in_err-stage-clause-any_moment : goal.returns-in_err-stage-clause-any_moment
 returns-in_err-stage-clause-any_moment g c = λ h number desktop kept.
-    one_call _ _ c.args.slot number c.args.k c.args.event.now desktop kept c.requires.index _
-    (c.stage.ensures.kept.moments h)
+    one_call kept c.requires.index (c.stage.ensures.kept.moments h) c.args.event.now
 
 pub returns-in_err-seal-clause-any_moment : goal.returns-in_err-seal-clause-any_moment
 returns-in_err-seal-clause-any_moment g c = λ h number desktop kept.
-    both_calls _ _ c.args.slot number c.args.k c.args.event.now desktop kept c.requires.index _
-    (c.stage.ensures.kept.moments h)
-    (c.in_ok-stage.ensures.quiet h) (c.in_ok-stage.ensures.begins h) (λ more. c.in_ok-stage.ensures.closed more h) _
+    both_calls kept c.requires.index (c.stage.ensures.kept.moments h) (c.in_ok-stage.ensures.staged h)
     (c.seal.ensures.kept.moments (c.stage.ensures.kept.still h))
 
 pub returns-clause-any_moment : goal.returns-clause-any_moment
 returns-clause-any_moment g c = λ h number desktop kept.
-    both_calls _ _ c.args.slot number c.args.k c.args.event.now desktop kept c.requires.index _
-    (c.stage.ensures.kept.moments h)
-    (c.in_ok-stage.ensures.quiet h) (c.in_ok-stage.ensures.begins h) (λ more. c.in_ok-stage.ensures.closed more h) _
+    both_calls kept c.requires.index (c.stage.ensures.kept.moments h) (c.in_ok-stage.ensures.staged h)
     (c.seal.ensures.kept.moments (c.stage.ensures.kept.still h))
 
 pub returns-clause-added : goal.returns-clause-added
 returns-clause-added g c = λ h number desktop kept.
     let second = c.stage.ensures.kept.still h in
-    recorded _ _ c.args.slot number c.args.k c.args.event.now desktop kept c.requires.index _
-    (c.stage.ensures.kept.moments h)
-    (c.in_ok-stage.ensures.quiet h) (c.in_ok-stage.ensures.begins h) (λ more. c.in_ok-stage.ensures.closed more h) _
-    (c.seal.ensures.kept.moments second)
-    (c.in_ok-seal.ensures.opened second) (c.in_ok-seal.ensures.quiet second)
+    recorded kept c.requires.index (c.stage.ensures.kept.moments h) (c.in_ok-stage.ensures.staged h)
+    (c.seal.ensures.kept.moments second) (c.in_ok-seal.ensures.opened second) (c.in_ok-seal.ensures.quiet second)
 
 pub returns-clause-front : goal.returns-clause-front
 returns-clause-front g c = λ h saved characters was.

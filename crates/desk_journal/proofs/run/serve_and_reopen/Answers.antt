@@ -86,6 +86,7 @@ returns-clause-ok g c = IfOk-weaker c.open.result _ _ (λ reopened found.
           let same = c.reopening_law.ensures store reopened (i.device.still h) i.durable opened in
           (λ j. (same.1 j, same.2 j)) ∙ i.counts ∙ ap (λ cs. all_counted cs (first.epoch, first.events)) all;
       durable = found.durable;
+      settled = λ h. opened.settled (i.device.still h);
       usable = found.usable;
     }) c.open.ensures.ok
 

@@ -1,7 +1,7 @@
 use Rattle.std.proofs.Common.{◌∙◌, length, rules, ap, subst, sym, arith}
 use Rattle.desk_image.specs.Image.{IsSpellable}
 use Rattle.desk_image.specs.Pictures.{pictured}
-use Rattle.event_loop.specs.Images.{is_desktop, IsDesktopOf}
+use Rattle.event_loop.specs.Images.{IsDesktopOf}
 use Rattle.event_loop.proofs.ImageMade.{few_pictures, made, spellable}
 use Rattle.event_loop.proofs.ImageHolds.{makes_desktop}
 use Rattle.event_loop.proofs.images.assemble.Goals as goal

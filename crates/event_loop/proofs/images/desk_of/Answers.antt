@@ -1,4 +1,4 @@
-use Rattle.std.proofs.Common.{◌≤◌, List, ap, map, subst, sym}
+use Rattle.std.proofs.Common.{◌≤◌, List, map, subst, sym}
 use Rattle.viewer_tracks.specs.Viewers.{IsTrack}
 use Rattle.desk_image.specs.declared.picture.Stretch.{Stretch}
 use Rattle.desk_image.specs.Pictures.{pictured, entry_of}

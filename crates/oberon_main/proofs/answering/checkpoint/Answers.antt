@@ -4,6 +4,7 @@ use Rattle.std.proofs.lemmas.Result.{IfOk-weaker}
 use Rattle.desk_journal.specs.View.{StoreView}
 use Rattle.oberon_main.specs.Opened.{session_of}
 use Rattle.oberon_main.proofs.Sessions.{last_answer, last_after, renewed_answer, renewed_after}
+use Rattle.oberon_main.proofs.Surviving.{checkpoint_withstands}
 use Rattle.oberon_main.proofs.Ends.{counts_checkpoint}
 use Rattle.oberon_main.proofs.answering.checkpoint.Goals as goal
 
@@ -18,6 +19,10 @@ returns-in-Ok-clause-worked_out g c = record {
   usable = c.in-Ok.ensures.ok.usable;
   premise = (c.in-Ok.ensures.device.already, c.in-Ok.ensures.device.still);
 }
+
+pub returns-in-Ok-clause-crash : goal.returns-in-Ok-clause-crash
+returns-in-Ok-clause-crash g c = checkpoint_withstands g.D.Disk c.args.store.now c.checkpoint.new.self c.requires
+    c.in-Ok.ensures.any_moment c.in-Ok.ensures.device
 
 pub returns-in-Err : goal.returns-in-Err
 returns-in-Err g c = record {
@@ -39,4 +44,6 @@ returns-in-Err g c = record {
   faults = counts_checkpoint c.in-Err.error _ _ c.in-Err.ensures.faults
       (λ is. false≢true (sym c.requires ∙ c.in-Err.ensures.reopen.only (ap (λ e. Err e) is))) _ c.refused.result
       c.refused.ensures.worn c.refused.ensures.other;
+  crash = checkpoint_withstands g.D.Disk c.args.store.now c.checkpoint.new.self c.requires
+      c.in-Err.ensures.any_moment c.in-Err.ensures.device;
 }

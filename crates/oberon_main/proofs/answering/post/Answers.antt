@@ -4,6 +4,7 @@ use Rattle.std.proofs.lemmas.Result.{IfOk-weaker}
 use Rattle.desk_journal.specs.View.{StoreView}
 use Rattle.oberon_main.specs.Opened.{session_of}
 use Rattle.oberon_main.proofs.Sessions.{worn_answer, worn_after, reply_answer, reply_after}
+use Rattle.oberon_main.proofs.Surviving.{post_withstands}
 use Rattle.oberon_main.proofs.Ends.{counts_post}
 use Rattle.oberon_main.proofs.answering.post.Goals as goal
 
@@ -20,6 +21,10 @@ returns-in-Ok-clause-worked_out g c = record {
   usable = c.in-Ok.ensures.ok.usable;
   premise = (c.in-Ok.ensures.device.already, c.in-Ok.ensures.device.still);
 }
+
+pub returns-in-Ok-clause-crash : goal.returns-in-Ok-clause-crash
+returns-in-Ok-clause-crash g c = post_withstands g.D.Disk c.args.event.now _ c.args.store.now c.post.new.self c.requires
+    c.in-Ok.ensures.any_moment c.in-Ok.ensures.worn c.in-Ok.ensures.device
 
 pub returns-in-Err : goal.returns-in-Err
 returns-in-Err g c = record {
@@ -41,4 +46,6 @@ returns-in-Err g c = record {
   faults = counts_post c.in-Err.error _ _ c.in-Err.ensures.faults
       (λ is. false≢true (sym c.requires ∙ c.in-Err.ensures.reopen.only (ap (λ e. Err e) is))) _ c.refused.result
       c.refused.ensures.worn c.refused.ensures.other;
+  crash = post_withstands g.D.Disk c.args.event.now _ c.args.store.now c.post.new.self c.requires
+      c.in-Err.ensures.any_moment c.in-Err.ensures.worn c.in-Err.ensures.device;
 }

@@ -3,6 +3,7 @@ use Rattle.std.proofs.lemmas.Result.{err_from_is_err_and}
 use Rattle.oberon_main.specs.Opened.{session_of}
 use Rattle.oberon_main.specs.Session.{answer}
 use Rattle.screen_cells.specs.Sent.{AppendsFront}
+use Rattle.oberon_main.proofs.Surviving.{line_stopped, line_answered}
 use Rattle.oberon_main.proofs.playing.play_line.Goals as goal
 
 pub returns-in_err-send-clause-played : goal.returns-in_err-send-clause-played
@@ -17,3 +18,25 @@ returns-in_err-send-clause-played g c =
       usable = tt;
       premise = c.in_ok-answer.ensures.worked_out.premise;
     })
+
+pub returns-in_err-answer-clause-survives : goal.returns-in_err-answer-clause-survives
+returns-in_err-answer-clause-survives g c =
+    let p = err_from_is_err_and c.from_residual.result c.from_residual.ensures.1 in
+    let made = c.in_err-answer.ensures in
+    rw (p.1, p.2) (line_stopped g.D.Disk c.args.line.now c.request.result c.in_err-answer.field-0.0 c.args.store.now
+    c.work_out.new.store c.request.ensures made.faults.errors made.crash)
+
+pub returns-in_err-send-clause-survives : goal.returns-in_err-send-clause-survives
+returns-in_err-send-clause-survives g c =
+    let p = err_from_is_err_and c.from_residual-in_err-send.result c.from_residual-in_err-send.ensures.1 in
+    let made = c.in_ok-answer.ensures in
+    rw (p.1, p.2) (line_answered g.D.Disk c.args.line.now c.request.result c.args.store.now c.work_out.new.store
+    c.request.ensures made.worked_out.session (c.info.ensures.durable made.worked_out.usable)
+    made.worked_out.premise.1 made.crash)
+
+pub returns-clause-survives : goal.returns-clause-survives
+returns-clause-survives g c =
+    let made = c.in_ok-answer.ensures in
+    line_answered g.D.Disk c.args.line.now c.request.result c.args.store.now c.work_out.new.store
+    c.request.ensures made.worked_out.session (c.info.ensures.durable made.worked_out.usable)
+    made.worked_out.premise.1 made.crash

@@ -1,7 +1,23 @@
 use Rattle.std.proofs.Common.{refl, ◌∙◌, inl, inr}
 use Rattle.oberon_main.proofs.Played.{played_more, stopped_in_line, ended_with_rest, cut_off, pieces_with_line}
 use Rattle.oberon_main.proofs.Played.{pieces_with_rest, counts_of_line, counts_from, only_failures}
+use Rattle.oberon_main.proofs.Played.{played_none}
+use Rattle.oberon_main.proofs.Surviving.{no_line, one_line_more, script_stopped, script_ended, script_cut_off}
 use Rattle.oberon_main.proofs.playing.play_lines.Goals as goal
+
+pub loop-line-init : goal.loop-line-init
+loop-line-init g c =
+    let durable = c.info.ensures.durable c.requires in
+    record {
+      played = played_none _ _ _ _ _ _ c.new-script.ensures.pending c.new-script.ensures.reads
+          (λ honest. no_line g.D.Disk c.args.store.now durable honest);
+      usable = c.requires;
+      durable = durable;
+      as_large = refl;
+      calm = refl;
+      still = λ honest. honest;
+      already = λ honest. honest;
+    }
 
 pub returns-in-Err-clause-played : goal.returns-in-Err-clause-played
 returns-in-Err-clause-played g c = record {
@@ -17,6 +33,12 @@ returns-in-Err-clause-played g c = record {
   );
 }
 
+pub returns-in-Err-clause-survives : goal.returns-in-Err-clause-survives
+returns-in-Err-clause-survives g c =
+    let i = c.loop-line.invariant in
+    script_stopped g.D.Disk c.in-Err.end _ _ _ _ _ _ _ _ _ _ _ _ _ i.played (c.in-Feed.ensures.line refl) i.as_large
+    i.durable i.still c.in-Err.ensures.survives c.in-Err.ensures.played.unanswered
+
 pub returns-in-Err-clause-pieces : goal.returns-in-Err-clause-pieces
 returns-in-Err-clause-pieces g c = pieces_with_line _ _ _ _ _ _ _ _ _ _ _ _ c.loop-line.invariant.played
     (c.in-Feed.ensures.line refl)
@@ -24,8 +46,13 @@ returns-in-Err-clause-pieces g c = pieces_with_line _ _ _ _ _ _ _ _ _ _ _ _ c.lo
 pub loop-line-preserved : goal.loop-line-preserved
 loop-line-preserved g c = record {
   played = played_more _ _ _ _ _ _ _ _ _ _ _ _ _ _ c.loop-line.invariant.played (c.in-Feed.ensures.line refl)
-      (λ honest. c.in_default.ensures.played.answered (c.loop-line.invariant.still honest));
+      (λ honest. c.in_default.ensures.played.answered (c.loop-line.invariant.still honest))
+      (one_line_more g.D.Disk _ c.loop-line.invariant.played (c.in-Feed.ensures.line refl)
+      c.loop-line.invariant.as_large c.loop-line.invariant.durable c.loop-line.invariant.still
+      c.in_default.ensures.survives);
   usable = c.in_default.ensures.played.usable;
+  durable = c.in_default.ensures.durable;
+  as_large = c.in_default.ensures.as_large ∙ c.loop-line.invariant.as_large;
   calm = c.in_default.ensures.faults.calm (λ wrong. cc) ∙ c.loop-line.invariant.calm;
   still = λ honest. c.in_default.ensures.played.premise.1 (c.loop-line.invariant.still honest);
   already = λ honest. c.loop-line.invariant.already (c.in_default.ensures.played.premise.0 honest);
@@ -48,6 +75,13 @@ returns-in-End-clause-played g c = record {
   );
 }
 
+pub returns-in-End-clause-survives : goal.returns-in-End-clause-survives
+returns-in-End-clause-survives g c =
+    let i = c.loop-line.invariant in
+    script_ended g.D.Disk c.play_rest.result _ _ _ _ _ _ _ _ _ _ _ _ _ i.played
+    (c.in-End.ensures.rest (λ wrong. cc)) (c.in-End.ensures.end refl) i.as_large i.durable i.still
+    c.play_rest.ensures.survives c.play_rest.ensures.told
+
 pub returns-in-End-clause-pieces : goal.returns-in-End-clause-pieces
 returns-in-End-clause-pieces g c = pieces_with_rest _ _ _ _ _ _ _ _ _ _ _ _ c.loop-line.invariant.played
     (c.in-End.ensures.rest (λ wrong. cc))
@@ -58,6 +92,10 @@ returns-in-Fault-clause-played g c = record {
   usable = λ ends. c.loop-line.invariant.usable;
   premise = (c.loop-line.invariant.already, c.loop-line.invariant.still);
 }
+
+pub returns-in-Fault-clause-survives : goal.returns-in-Fault-clause-survives
+returns-in-Fault-clause-survives g c = script_cut_off g.D.Disk _ _ _ _ _ _ _ _ _ _ _ c.loop-line.invariant.played
+    (c.in-Fault.ensures.rest (λ wrong. cc))
 
 pub returns-in-Fault-clause-pieces : goal.returns-in-Fault-clause-pieces
 returns-in-Fault-clause-pieces g c = pieces_with_rest _ _ _ _ _ _ _ _ _ _ _ _ c.loop-line.invariant.played

@@ -1,4 +1,4 @@
-use Rattle.std.proofs.Common.{◌≡◌, ap, sym, ◌∙◌, ◌==◌, map}
+use Rattle.std.proofs.Common.{ap, sym, ◌∙◌, ◌==◌, map}
 use Rattle.std.proofs.lemmas.Result.{IfOk-weaker}
 use Rattle.screen_cells.specs.Picture.{Viewer, seen_cell, shown_cell, viewer_cell}
 use Rattle.screen_cells.specs.Shown.{as_read}

@@ -11,8 +11,8 @@ returns-clause-strip g c = λ h column.
     let under : c.args.y + 1 < c.args.top = search rules in
     frame_shown (as_read characters shown) c.args.width c.args.bottom c.args.top c.args.y column
     (c.args.top - 2 - c.args.y) c.in_ok-line.line.items c.in_ok-caret.caret shown.frame.now.selection
-    under refl (c.in_ok-line.ensures.cells h)
-    (c.in_ok-caret.ensures.caret (c.cells_of_row.ensures.reads.still h)
+    under refl (c.in_ok-line.ensures.cells.exact h)
+    (c.in_ok-caret.ensures.caret (c.line.ensures.reads.still h)
     ∙ ap (λ (read : List ℕ). caret_at (c.args.width - 1) (c.args.top - c.args.bottom - 1)
-    (as_read read shown).main shown.frame.now.org shown.frame.now.caret) (c.cells_of_row.ensures.reads.same h))
+    (as_read read shown).main shown.frame.now.org shown.frame.now.caret) (c.line.ensures.reads.same h))
     refl

@@ -15,5 +15,6 @@ returns-in-Ok-clause-ok g c =
           kept_shows (g.D.Disk.size disk) (g.D.Disk.trail disk) x.slot x.epoch x.events (shown x.desktop)
           (subst (λ n. IsKept n (g.D.Disk.trail disk) x.slot x.epoch x.events (shown x.desktop)) (sym e.kept.as_large)
           (e.shown (e.kept.already honest)).0);
+      settled = λ honest. (e.shown honest).0.settled.quiet;
       usable = refl;
     }

@@ -1,21 +1,13 @@
-use Rattle.std.proofs.Common.{ap, sym, ◌∙◌, List, ℕ}
-use Rattle.std.specs.Prelude.{Result}
-use Rattle.event_loop_laws.specs.Needs.{given}
 use Rattle.event_loop_laws.specs.Desktop.{Desktop}
-use Rattle.event_loop_laws.specs.Seen.{seen}
 use Rattle.event_loop_laws.specs.Call.{name_of}
 use Rattle.event_loop.specs.Calls.{done_with_name}
 use Rattle.event_loop.specs.Kept.{kept}
-use Rattle.event_loop.proofs.ReadFirst.{refused_after}
+use Rattle.event_loop.proofs.CallLemmas.{refused_given}
 use Rattle.event_loop.proofs.desk.Desk.command_with_name.Goals as goal
 
 pub returns-in-Err-clause-answered : goal.returns-in-Err-clause-answered
 returns-in-Err-clause-answered g c =
-    let s = g.S.CharSource in
-    let old = s.characters c.args.source.now in
-    let d = kept c.args.self.now in
-    refused_after s (λ (x : Desktop). given (name_of x c.args.call) (done_with_name x c.args.command))
-    c.in-Err.code _ _ d
-    c.in_ok-name.ensures.reads c.requires.over (rw c.in-Err.is at c.in_ok-name.ensures.codes)
-    (λ h. ap (λ (r : Result (List ℕ) ℕ). given r (done_with_name (seen old d) c.args.command))
-    (sym (c.in_ok-name.ensures.exact h) ∙ c.in-Err.is))
+    let read = c.in_ok-name.ensures in
+    refused_given g.S.CharSource (λ (y : Desktop). name_of y c.args.call)
+    (λ (y : Desktop). done_with_name y c.args.command) c.in-Err.code _ _
+    (kept c.args.self.now) read.reads c.requires.over (rw c.in-Err.is at read.codes) c.in-Err.is read.exact

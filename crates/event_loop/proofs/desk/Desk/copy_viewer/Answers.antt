@@ -15,7 +15,7 @@ use Rattle.event_loop_laws.specs.KeyLaws.{refusal_answered}
 use Rattle.event_loop_laws.specs.OpenedLaws.{new_id}
 use Rattle.event_loop_laws.specs.OpeningDone.{new_fresh, can_open, whole_columns}
 use Rattle.event_loop_laws.specs.RowLaws.{known_too_low}
-use Rattle.event_loop_laws.specs.OpeningOnLaws.{IsPlaceOf, half_free, copied_low, copied_full}
+use Rattle.event_loop_laws.specs.OpeningOnLaws.{half_free, copied_low, copied_full}
 use Rattle.event_loop_laws.specs.OpeningOnLaws.{copied_answered}
 use Rattle.event_loop.specs.Kept.{kept}
 use Rattle.event_loop.proofs.ViewLemmas.{menu_there}
@@ -27,15 +27,9 @@ returns-then-rows-eq1-clause-answered g c =
     let old = g.S.CharSource.characters c.args.source.now in
     let d = kept c.args.self.now in
     let place = c.place_of-place in
-    let there : IsPlaceOf d.columns c.args.id place.result.x place.result.bottom place.result.top = record {
-      left = place.ensures.x;
-      begins = place.ensures.bottom;
-      ends = place.ensures.top;
-      some = place.ensures.some;
-      within = place.ensures.within;
-    } in
     refusal_answered _ old d (viewer_copied (seen old d) c.args.id) too_low c.requires.over known_too_low
-    (copied_low (seen old d) c.args.id place.result.x place.result.bottom place.result.top there c.if-rows-eq1.true)
+    (copied_low (seen old d) c.args.id place.result.x place.result.bottom place.result.top place.ensures
+    c.if-rows-eq1.true)
 
 pub text_there-menu-requires : goal.text_there-menu-requires
 text_there-menu-requires g c =
@@ -47,21 +41,14 @@ returns-then-not-opening_on_fits-clause-answered g c =
     let old = g.S.CharSource.characters c.args.source.now in
     let d = kept c.args.self.now in
     let place = c.place_of-place in
-    let there : IsPlaceOf d.columns c.args.id place.result.x place.result.bottom place.result.top = record {
-      left = place.ensures.x;
-      begins = place.ensures.bottom;
-      ends = place.ensures.top;
-      some = place.ensures.some;
-      within = place.ensures.within;
-    } in
     let viewer = c.viewer_or_none-viewer.result in
     let more = c.if-rows-eq1.false in
     copied_full _ old d c.args.id place.result.x place.result.bottom place.result.top c.text_there-menu.result.now
-    viewer c.requires.over c.requires.placed there more c.viewer_or_none-viewer.ensures
+    viewer c.requires.over c.requires.placed place.ensures more c.viewer_or_none-viewer.ensures
     (ap (λ (pieces : List Piece). flat pieces) c.text_there-menu.ensures)
     (λ characters text long. sym (c.opening_on_fits.ensures.fits characters text viewer.main viewer.org
     (long ∙ sym c.len.ensures)
-    (inr (half_free d.columns c.args.id place.result.x place.result.bottom place.result.top there more)))
+    (inr (half_free d.columns c.args.id place.result.x place.result.bottom place.result.top place.ensures more)))
     ∙ c.if-not-opening_on_fits.true)
 
 pub open_on-requires-clause-can : goal.open_on-requires-clause-can
@@ -73,13 +60,6 @@ returns-clause-answered g c =
     let old = g.S.CharSource.characters c.args.source.now in
     let d = kept c.args.self.now in
     let place = c.place_of-place in
-    let there : IsPlaceOf d.columns c.args.id place.result.x place.result.bottom place.result.top = record {
-      left = place.ensures.x;
-      begins = place.ensures.bottom;
-      ends = place.ensures.top;
-      some = place.ensures.some;
-      within = place.ensures.within;
-    } in
     let x = place.result.x in
     let y = place.result.bottom + (place.result.top - place.result.bottom) / 2 in
     let viewer = c.viewer_or_none-viewer.result in
@@ -88,7 +68,7 @@ returns-clause-answered g c =
     subst (λ (after : KeptDesktop). IsAnswered H old old d after (settled (seen old d)
     (viewer_copied (seen old d) c.args.id)) Done) (sym c.in_ok-open_on.ensures)
     (copied_answered H old d c.args.id x place.result.bottom place.result.top c.in_ok-menu.menu
-    viewer c.requires.over c.requires.placed there more c.viewer_or_none-viewer.ensures
+    viewer c.requires.over c.requires.placed place.ensures more c.viewer_or_none-viewer.ensures
     (c.in_ok-menu.ensures ∙ ap (λ (pieces : List Piece). flat pieces) c.text_there-menu.ensures)
     (record {
       hold = c.edits_keep_columns.ensures.opened d.columns (new_id d) x y hold (new_fresh d c.requires.over.whole);
@@ -96,5 +76,5 @@ returns-clause-answered g c =
     })
     (λ characters text long. sym (c.opening_on_fits.ensures.fits characters text viewer.main viewer.org
     (long ∙ ap length c.in_ok-menu.ensures ∙ sym c.len.ensures)
-    (inr (half_free d.columns c.args.id x place.result.bottom place.result.top there more)))
+    (inr (half_free d.columns c.args.id x place.result.bottom place.result.top place.ensures more)))
     ∙ c.if-not-opening_on_fits.false))

@@ -7,7 +7,7 @@ pub show_caret-requires-clause-place : goal.show_caret-requires-clause-place
 show_caret-requires-clause-place g c =
     room_left (kept c.args.self.now) (kept c.delete.new.self) c.args.selection.viewer c.args.selection.beg
     c.args.selection.end c.main_of-number.result c.main_of-number.ensures
-    c.in_ok-delete.ensures.changed.rest.viewers c.requires.some c.requires.place c.in_ok-delete.ensures.shorter
+    c.in_ok-delete.ensures.changed.rest.viewers c.requires.some c.requires.at.place c.in_ok-delete.ensures.shorter
 
 pub returns-clause-changed : goal.returns-clause-changed
 returns-clause-changed g c =

@@ -1,4 +1,4 @@
-use Rattle.std.proofs.Common.{◌≡◌, ◌∙◌, ℕ, [], ap, sym, arith}
+use Rattle.std.proofs.Common.{◌∙◌, ℕ, [], ap, sym, arith}
 use Rattle.arrayvec.specs.ArrayVec.{ArrayVec}
 use Rattle.event_loop_laws.specs.Seen.{seen}
 use Rattle.event_loop_laws.specs.RowLaws.{has_space, space_written}
@@ -23,47 +23,38 @@ lengths_of-requires-clause-files g c =
 
 pub returns-then-not-fits_more-clause-answered : goal.returns-then-not-fits_more-clause-answered
 returns-then-not-fits_more-clause-answered g c =
-    let s = g.S.CharSource in
-    let old = s.characters c.args.source.now in
-    deleting_full (s.honest c.args.source.now) old (kept c.args.self.now) c.requires.over c.args.names.now
-    (bytes_of_lines c.as_slice.result.now) c.total-count.result c.lengths_of.result
+    let old = g.S.CharSource.characters c.args.source.now in
+    deleting_full _ old (kept c.args.self.now) c.requires.over c.args.names.now
+    (bytes_of_lines c.as_slice-lines.result.now) c.total-count.result c.lengths_of.result
     (sym c.if-not-can_be_deleted.false ∙ c.can_be_deleted.ensures)
-    (ap bytes_of_lines c.as_slice.ensures.value ∙ c.in_ok-lines.ensures) c.lengths_of.ensures.sum
-    (c.total-count.ensures.value ∙ sym (line_bytes_map (λ (l : ArrayVec ℕ). l.items) c.as_slice.result.now))
+    (ap bytes_of_lines c.as_slice-lines.ensures.value ∙ c.in_ok-made.ensures) c.lengths_of.ensures.sum
+    (c.total-count.ensures.value ∙ sym (line_bytes_map (λ (l : ArrayVec ℕ). l.items) c.as_slice-lines.result.now))
     (sym (c.fits_more.ensures old) ∙ c.if-not-fits_more.true)
 
 pub log_lines-requires-clause-stands : goal.log_lines-requires-clause-stands
 log_lines-requires-clause-stands g c =
-    let s = g.S.CharSource in
-    let old = s.characters c.args.source.now in
-    deleting_stands (s.honest c.args.source.now) old (kept c.args.self.now) c.requires.over c.args.names.now
-    (bytes_of_lines c.as_slice.result.now) c.total-count.result c.lengths_of.result
+    deleting_stands (g.S.CharSource.honest c.args.source.now) _ (kept c.args.self.now) c.requires.over c.args.names.now
+    (bytes_of_lines c.as_slice-lines.result.now) c.total-count.result c.lengths_of.result
     (sym c.if-not-can_be_deleted.false ∙ c.can_be_deleted.ensures)
-    (ap bytes_of_lines c.as_slice.ensures.value ∙ c.in_ok-lines.ensures) c.lengths_of.ensures.sum
+    (ap bytes_of_lines c.as_slice-lines.ensures.value ∙ c.in_ok-made.ensures) c.lengths_of.ensures.sum
     c.remove.new.files.entries c.remove.ensures
 
 pub log_lines-requires-clause-room : goal.log_lines-requires-clause-room
 unfolding seen
 log_lines-requires-clause-room g c =
-    let count = c.total-count.result in
-    let low = space_written (seen [] (kept c.args.self.now)) count count c.lengths_of.result
-    (sym (c.fits_more.ensures []) ∙ c.if-not-fits_more.false) in
-    let same : total c.as_slice-2.result.now ≡ count =
-    ap total (c.as_slice-2.ensures.value ∙ sym c.as_slice.ensures.value) ∙ sym c.total-count.ensures.value in
-    omega (arith, low, same)
+    let low = space_written (seen [] (kept c.args.self.now)) c.total-count.result c.total-count.result
+    c.lengths_of.result (sym (c.fits_more.ensures []) ∙ c.if-not-fits_more.false) in
+    omega (arith, low, c.total-count.ensures.value)
 
 pub log_lines-requires-clause-short : goal.log_lines-requires-clause-short
 log_lines-requires-clause-short g c =
     let s = g.S.CharSource in
-    let old = s.characters c.args.source.now in
-    let low = deleting_short (s.honest c.args.source.now) old (kept c.args.self.now) c.requires.over c.args.names.now
-    (bytes_of_lines c.as_slice.result.now) c.total-count.result c.lengths_of.result
-    (sym c.if-not-can_be_deleted.false ∙ c.can_be_deleted.ensures)
-    (ap bytes_of_lines c.as_slice.ensures.value ∙ c.in_ok-lines.ensures) c.lengths_of.ensures.sum
+    let low = deleting_short (s.honest c.args.source.now) (s.characters c.args.source.now) (kept c.args.self.now)
+    c.requires.over c.args.names.now (bytes_of_lines c.as_slice-lines.result.now) c.total-count.result
+    c.lengths_of.result (sym c.if-not-can_be_deleted.false ∙ c.can_be_deleted.ensures)
+    (ap bytes_of_lines c.as_slice-lines.ensures.value ∙ c.in_ok-made.ensures) c.lengths_of.ensures.sum
     c.remove.new.files.entries c.remove.ensures (sym (c.fits_more.ensures []) ∙ c.if-not-fits_more.false) in
-    let same : total c.as_slice-2.result.now ≡ c.total-count.result =
-    ap total (c.as_slice-2.ensures.value ∙ sym c.as_slice.ensures.value) ∙ sym c.total-count.ensures.value in
-    omega (arith, low, same)
+    omega (arith, low, c.total-count.ensures.value)
 
 pub returns-clause-answered : goal.returns-clause-answered
 returns-clause-answered g c =
@@ -71,12 +62,11 @@ returns-clause-answered g c =
     let old = s.characters c.args.source.now in
     let d = kept c.args.self.now in
     let gone = c.lengths_of.result in
-    let lines = c.as_slice-2.result.now in
-    let same : total lines ≡ c.total-count.result =
-    ap total (c.as_slice-2.ensures.value ∙ sym c.as_slice.ensures.value) ∙ sym c.total-count.ensures.value in
+    let lines = c.as_slice-lines.result.now in
     deleting_answered (s.honest c.args.source.now) old d c.requires.over c.args.names.now (bytes_of_lines lines)
     (total lines) gone (sym c.if-not-can_be_deleted.false ∙ c.can_be_deleted.ensures)
-    (ap bytes_of_lines c.as_slice-2.ensures.value ∙ c.in_ok-lines.ensures) c.lengths_of.ensures.sum
+    (ap bytes_of_lines c.as_slice-lines.ensures.value ∙ c.in_ok-made.ensures) c.lengths_of.ensures.sum
     c.remove.new.files.entries c.remove.ensures (s.characters c.log_lines.new.source) (kept c.log_lines.new.self)
     c.in_ok-log_lines.ensures.logged
-    (λ all. ap (λ n. has_space (seen all d) n n gone) same ∙ sym (c.fits_more.ensures all) ∙ c.if-not-fits_more.false)
+    (λ all. ap (λ n. has_space (seen all d) n n gone) (sym c.total-count.ensures.value) ∙ sym (c.fits_more.ensures all)
+    ∙ c.if-not-fits_more.false)

@@ -1,4 +1,4 @@
-use Rattle.std.proofs.Common.{◌≡◌, ◌∙◌, List, [], ℕ, refl, length, ap, sym, arith}
+use Rattle.std.proofs.Common.{◌∙◌, List, [], ℕ, refl, length, ap, sym, arith}
 use Rattle.std.proofs.lemmas.List.{length-map}
 use Rattle.arrayvec.specs.ArrayVec.{ArrayVec}
 use Rattle.event_loop_laws.specs.Seen.{seen}
@@ -13,41 +13,36 @@ total-count-requires g c =
     let s = g.S.CharSource in
     let old = s.characters c.args.source.now in
     let few = directory_few (s.honest c.args.source.now) old (kept c.args.self.now) c.requires.over
-    (bytes_of_lines c.in_ok-lines.lines.items) _ (c.in_ok-lines.ensures old) refl in
-    let long = length-map {B = List ℕ} c.in_ok-lines.lines.items (λ (l : ArrayVec ℕ). l.items) in
-    let same = ap length c.as_slice.ensures.value in
+    (bytes_of_lines c.in_ok-made.made.items) _ (c.in_ok-made.ensures old) refl in
+    let long = length-map {B = List ℕ} c.in_ok-made.made.items (λ (l : ArrayVec ℕ). l.items) in
+    let same = ap length c.as_slice-lines.ensures.value in
     omega (arith, few, long, same)
 
 pub returns-then-not-fits_more-clause-answered : goal.returns-then-not-fits_more-clause-answered
 returns-then-not-fits_more-clause-answered g c =
-    let s = g.S.CharSource in
-    let old = s.characters c.args.source.now in
-    directory_full (s.honest c.args.source.now) old (kept c.args.self.now) c.requires.over
-    (bytes_of_lines c.as_slice.result.now) c.total-count.result
-    (ap bytes_of_lines c.as_slice.ensures.value ∙ c.in_ok-lines.ensures old)
-    (c.total-count.ensures.value ∙ sym (line_bytes_map (λ (l : ArrayVec ℕ). l.items) c.as_slice.result.now))
+    let old = g.S.CharSource.characters c.args.source.now in
+    directory_full _ old (kept c.args.self.now) c.requires.over
+    (bytes_of_lines c.as_slice-lines.result.now) c.total-count.result
+    (ap bytes_of_lines c.as_slice-lines.ensures.value ∙ c.in_ok-made.ensures old)
+    (c.total-count.ensures.value ∙ sym (line_bytes_map (λ (l : ArrayVec ℕ). l.items) c.as_slice-lines.result.now))
     (sym (c.fits_more.ensures old) ∙ c.if-not-fits_more.true)
 
 pub log_lines-requires-clause-room : goal.log_lines-requires-clause-room
 unfolding seen
 log_lines-requires-clause-room g c =
-    let count = c.total-count.result in
-    let low = space_written (seen [] (kept c.args.self.now)) count count 0
+    let low = space_written (seen [] (kept c.args.self.now)) c.total-count.result c.total-count.result 0
     (sym (c.fits_more.ensures []) ∙ c.if-not-fits_more.false) in
-    let same : total c.as_slice-2.result.now ≡ count =
-    ap total (c.as_slice-2.ensures.value ∙ sym c.as_slice.ensures.value) ∙ sym c.total-count.ensures.value in
-    omega (arith, low, same)
+    omega (arith, low, c.total-count.ensures.value)
 
 pub returns-clause-answered : goal.returns-clause-answered
 returns-clause-answered g c =
     let s = g.S.CharSource in
     let old = s.characters c.args.source.now in
     let d = kept c.args.self.now in
-    let lines = c.as_slice-2.result.now in
-    let same : total lines ≡ c.total-count.result =
-    ap total (c.as_slice-2.ensures.value ∙ sym c.as_slice.ensures.value) ∙ sym c.total-count.ensures.value in
+    let lines = c.as_slice-lines.result.now in
     directory_answered (s.honest c.args.source.now) old d c.requires.over (bytes_of_lines lines) (total lines)
-    (ap bytes_of_lines c.as_slice-2.ensures.value ∙ c.in_ok-lines.ensures old)
+    (ap bytes_of_lines c.as_slice-lines.ensures.value ∙ c.in_ok-made.ensures old)
     (sym (line_bytes_map (λ (l : ArrayVec ℕ). l.items) lines)) (s.characters c.log_lines.new.source)
     (kept c.log_lines.new.self) c.in_ok-log_lines.ensures.logged
-    (λ all. ap (λ n. has_space (seen all d) n n 0) same ∙ sym (c.fits_more.ensures all) ∙ c.if-not-fits_more.false)
+    (λ all. ap (λ n. has_space (seen all d) n n 0) (sym c.total-count.ensures.value) ∙ sym (c.fits_more.ensures all)
+    ∙ c.if-not-fits_more.false)

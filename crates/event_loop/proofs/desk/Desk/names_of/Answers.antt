@@ -1,37 +1,23 @@
-use Rattle.std.proofs.Common.{◌∙◌, List, ℕ, length, sym, subst}
-use Rattle.std.specs.Prelude.{Option, IfSome}
+use Rattle.std.proofs.Common.{◌∙◌}
 use Rattle.std.proofs.lemmas.Result.{IfOk-weaker}
-use Rattle.piece_ring.specs.declared.piece.Piece.{Piece}
 use Rattle.piece_ring.specs.Flat.{flat}
-use Rattle.piece_ring.specs.Text.{Text}
 use Rattle.readers_scanners.specs.Reading.{bytes}
-use Rattle.command_table.specs.Parameters.{IsPlace, names}
+use Rattle.command_table.specs.Parameters.{names}
 use Rattle.event_loop_laws.specs.CallLaws.{called_place, place_stands, names_read}
 use Rattle.event_loop.specs.Kept.{kept}
 use Rattle.event_loop.proofs.desk.Desk.names_of.Goals as goal
 
 pub names-requires-clause-text : goal.names-requires-clause-text
 names-requires-clause-text g c =
-    let s = g.S.CharSource in
-    let old = s.characters c.args.source.now in
-    let d = kept c.args.self.now in
-    subst (λ (t : List Piece). IsPlace (length old) (flat t, c.args.call.after)) (sym c.text_called-text.ensures)
-    (called_place old d c.args.call.viewer c.args.call.in_menu c.args.call.after c.requires.over
-    c.requires.call.within)
+    rw c.text_called-text.ensures (called_place _ _ c.args.call.viewer c.args.call.in_menu c.args.call.after
+    c.requires.over c.requires.call.within)
 
 pub names-requires-clause-sel : goal.names-requires-clause-sel
-names-requires-clause-sel g c =
-    let s = g.S.CharSource in
-    let old = s.characters c.args.source.now in
-    let d = kept c.args.self.now in
-    subst (λ (o : Option (Text ℕ × ℕ)). IfSome o (IsPlace (length old))) (sym c.selection_place.ensures)
-    (place_stands old d c.requires.over)
+names-requires-clause-sel g c = rw c.selection_place.ensures (place_stands _ _ c.requires.over)
 
 pub returns-clause-exact : goal.returns-clause-exact
 returns-clause-exact g c =
-    let s = g.S.CharSource in
-    let old = s.characters c.args.source.now in
-    let d = kept c.args.self.now in
+    let old = g.S.CharSource.characters c.args.source.now in
     IfOk-weaker c.names.result _ _ (λ r fact h. fact h
     ∙ (λ k. names (bytes old) (flat (c.text_called-text.ensures k)) c.args.call.after (c.selection_place.ensures k))
-    ∙ names_read old d c.args.call) c.names.ensures.names
+    ∙ names_read old (kept c.args.self.now) c.args.call) c.names.ensures.names

@@ -1,18 +1,12 @@
 use Rattle.std.proofs.Common.{◌∙◌, sym}
 use Rattle.std.specs.Option.{ok_or}
 use Rattle.event_loop_laws.specs.Limits.{wrong_symbol}
-use Rattle.event_loop_laws.specs.Seen.{seen}
-use Rattle.event_loop.specs.Kept.{kept}
 use Rattle.event_loop.proofs.CallLemmas.{number_found, number_refused}
 use Rattle.event_loop.proofs.desk.Desk.number_of.Goals as goal
 
 pub returns-in-Ok-clause-exact : goal.returns-in-Ok-clause-exact
-returns-in-Ok-clause-exact g c =
-    let x = seen (g.S.CharSource.characters c.args.source.now) (kept c.args.self.now) in
-    λ h. c.ok_or.ensures.value ∙ (λ k. ok_or (c.number_in.ensures k) wrong_symbol)
-    ∙ number_found x c.args.call c.in-Ok.symbol (sym c.in-Ok.is ∙ c.in_ok-symbol.ensures.exact h)
+returns-in-Ok-clause-exact g c = λ h. c.ok_or.ensures.value ∙ (λ k. ok_or (c.number_in.ensures k) wrong_symbol)
+    ∙ number_found _ c.args.call _ (sym c.in-Ok.is ∙ c.in_ok-symbol.ensures.exact h)
 
 pub returns-in-Err-clause-exact : goal.returns-in-Err-clause-exact
-returns-in-Err-clause-exact g c =
-    let x = seen (g.S.CharSource.characters c.args.source.now) (kept c.args.self.now) in
-    λ h. number_refused x c.args.call c.in-Err.code (sym c.in-Err.is ∙ c.in_ok-symbol.ensures.exact h)
+returns-in-Err-clause-exact g c = λ h. number_refused _ c.args.call _ (sym c.in-Err.is ∙ c.in_ok-symbol.ensures.exact h)

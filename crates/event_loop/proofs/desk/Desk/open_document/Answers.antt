@@ -1,4 +1,4 @@
-use Rattle.std.proofs.Common.{[], Ok}
+use Rattle.std.proofs.Common.{Ok}
 use Rattle.std.proofs.lemmas.Result.{IfOk-weaker}
 use Rattle.event_loop_laws.specs.Seen.{seen}
 use Rattle.event_loop_laws.specs.KeyLaws.{row_as}
@@ -6,14 +6,10 @@ use Rattle.event_loop_laws.specs.OpeningOnLaws.{document_row}
 use Rattle.event_loop.specs.Kept.{kept}
 use Rattle.event_loop.proofs.desk.Desk.open_document.Goals as goal
 
-pub allocate-x-requires : goal.allocate-x-requires
-unfolding seen
-allocate-x-requires g c = (c.requires.over.whole.sound []).shaped.marker
-
 pub returns-clause-answered : goal.returns-clause-answered
 returns-clause-answered g c =
     let old = g.S.CharSource.characters c.args.source.now in
     let d = kept c.args.self.now in
     IfOk-weaker c.open_named.result _ _ (λ reply answered. row_as (seen old d) _ answered
-    (λ k. Ok (document_row old d c.args.name.now c.allocate-x.result c.allocate-x.ensures.cell k)))
+    (λ k. Ok (document_row old d c.args.name.now c.free_cell-x.result c.free_cell-x.ensures.cell k)))
     c.open_named.ensures.answered

@@ -1,4 +1,4 @@
-use Rattle.std.proofs.Common.{[], sym, ◌∙◌}
+use Rattle.std.proofs.Common.{sym, ◌∙◌}
 use Rattle.std.proofs.lemmas.Result.{IfOk-weaker}
 use Rattle.event_loop_laws.specs.Limits.{no_file}
 use Rattle.event_loop_laws.specs.Seen.{seen}
@@ -15,15 +15,11 @@ returns-then-not-contains_key-clause-answered g c =
     refusal_answered _ old d _ no_file c.requires.over known_no_file
     (file_missing old d c.args.name.now (sym c.contains_key.ensures ∙ c.if-not-contains_key.true))
 
-pub allocate-x-requires : goal.allocate-x-requires
-unfolding seen
-allocate-x-requires g c = (c.requires.over.whole.sound []).shaped.marker
-
 pub returns-clause-answered : goal.returns-clause-answered
 returns-clause-answered g c =
     let old = g.S.CharSource.characters c.args.source.now in
     let d = kept c.args.self.now in
     IfOk-weaker c.open_named.result _ _ (λ reply answered. row_as (seen old d) _ answered
-    (file_row old d c.args.name.now c.allocate-x.result (sym c.contains_key.ensures ∙ c.if-not-contains_key.false)
-    c.allocate-x.ensures.cell))
+    (file_row old d c.args.name.now c.free_cell-x.result (sym c.contains_key.ensures ∙ c.if-not-contains_key.false)
+    c.free_cell-x.ensures.cell))
     c.open_named.ensures.answered

@@ -1,4 +1,4 @@
-use Rattle.std.proofs.Common.{◌≡◌, ◌+◌, ◌++◌, ℕ, List, [], length, Ok, true, false, refl, sym, ap, subst, ◌∙◌, arith}
+use Rattle.std.proofs.Common.{◌≡◌, ◌+◌, ◌++◌, ℕ, List, length, Ok, true, false, refl, sym, ap, subst, ◌∙◌, arith}
 use Rattle.std.proofs.Common.{inl}
 use Rattle.piece_ring.specs.Look.{default_look}
 use Rattle.piece_ring.specs.Flat.{run}
@@ -17,18 +17,14 @@ use Rattle.event_loop_laws.specs.OpeningOnLaws.{log_full, log_answered}
 use Rattle.event_loop.specs.Kept.{kept}
 use Rattle.event_loop.proofs.desk.Desk.open_log.Goals as goal
 
-pub allocate-x-requires : goal.allocate-x-requires
-unfolding seen
-allocate-x-requires g c = (c.requires.over.whole.sound []).shaped.marker
-
 pub returns-then-not-opening_on_fits-clause-answered : goal.returns-then-not-opening_on_fits-clause-answered
 returns-then-not-opening_on_fits-clause-answered g c =
     let old = g.S.CharSource.characters c.args.source.now in
     let d = kept c.args.self.now in
     let menu = c.menu_line-menu.result.items in
-    let cell = c.allocate-x.result in
+    let cell = c.free_cell-x.result in
     let long : c.len-len.result ≡ length menu = c.len-len.ensures.value in
-    log_full _ old d menu cell c.requires.over c.menu_line-menu.ensures c.allocate-x.ensures.cell
+    log_full _ old d menu cell c.requires.over c.menu_line-menu.ensures c.free_cell-x.ensures.cell
     (subst (λ (n : ℕ). fits (dropped (more_written (opening_on (seen old d) (plain menu) 0 0 cell) n)) ≡ false) long
     (sym (c.opening_on_fits.ensures.fits old (plain menu) 0 0 (length_in_look default_look menu ∙ sym long)
     (inl refl)) ∙ c.if-not-opening_on_fits.true))
@@ -41,7 +37,7 @@ overflow_add-self g c =
     let d = kept c.args.self.now in
     let written : c.open_on.new.self.written ≡ d.written
     = ap (λ (x : KeptDesktop). x.written) c.in_ok-open_on.ensures
-    ∙ written_on d c.in_ok-text.text 0 0 c.allocate-x.result in
+    ∙ written_on d c.in_ok-text.text 0 0 c.free_cell-x.result in
     let room = c.opening_on_fits.ensures.room c.if-not-opening_on_fits.false in
     omega (arith, written, room)
 
@@ -53,7 +49,7 @@ returns-clause-answered g c =
     let d = kept c.args.self.now in
     let menu = c.menu_line-menu.result.items in
     let text = c.in_ok-text.text in
-    let cell = c.allocate-x.result in
+    let cell = c.free_cell-x.result in
     let x = cell.0 in
     let y = cell.1 in
     let long : c.len-len.result ≡ length menu = c.len-len.ensures.value in
@@ -65,7 +61,7 @@ returns-clause-answered g c =
     = λ k. record (c.in_ok-open_on.ensures k) { written = written k + long k } in
     subst (λ (x : KeptDesktop). IsAnswered H old new d x (settled (seen old d) (Ok (log_opened (seen old d)))) Done)
     (sym after)
-    (log_answered H old d menu cell c.requires.over c.menu_line-menu.ensures c.allocate-x.ensures.cell new text
+    (log_answered H old d menu cell c.requires.over c.menu_line-menu.ensures c.free_cell-x.ensures.cell new text
     (c.in_ok-append.ensures.added ∙ ap (λ (l : List ℕ). old ++ l) c.as_slice.ensures.value)
     (c.in_ok-text.ensures ∙ ap (λ (n : ℕ). run d.written n default_look) long)
     (record {

@@ -1,29 +1,8 @@
-use Rattle.event_loop.specs.Mouse.{done_in_menu}
-use Rattle.event_loop.specs.Kept.{kept}
-use Rattle.event_loop.proofs.ReadLemmas.{rest_done}
+use Rattle.event_loop.proofs.ArmLemmas.{rest_done}
 use Rattle.event_loop.proofs.GestureLemmas.{menu_rest}
 use Rattle.event_loop.proofs.desk.Desk.point_menu.Goals as goal
 
-pub returns-in-Left-clause-answered : goal.returns-in-Left-clause-answered
-unfolding done_in_menu
-returns-in-Left-clause-answered g c =
-    rw c.in-Left.is c.resize.ensures.answered
-
-pub returns-in-LeftMiddle-clause-answered : goal.returns-in-LeftMiddle-clause-answered
-unfolding done_in_menu
-returns-in-LeftMiddle-clause-answered g c =
-    rw c.in-LeftMiddle.is c.carry.ensures.answered
-
-pub returns-in-Middle-clause-answered : goal.returns-in-Middle-clause-answered
-unfolding done_in_menu
-returns-in-Middle-clause-answered g c =
-    rw c.in-Middle.is c.call_in_menu.ensures.answered
-
 pub returns-in_default-clause-answered : goal.returns-in_default-clause-answered
 returns-in_default-clause-answered g c =
-    let s = g.S.CharSource in
-    let old = s.characters c.args.source.now in
-    let d = kept c.args.self.now in
-    rest_done (s.honest c.args.source.now) old d _ c.requires.over
-    (menu_rest _ c.args.keys c.args.id c.args.cell.0 c.args.cell.1 c.in_default.not-Left
-    c.in_default.not-LeftMiddle c.in_default.not-Middle)
+    let other = c.in_default in
+    rest_done c.requires.over (menu_rest _ _ _ _ _ other.not-Left other.not-LeftMiddle other.not-Middle)

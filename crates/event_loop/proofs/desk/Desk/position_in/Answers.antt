@@ -1,35 +1,20 @@
 use Rattle.std.proofs.Common.{◌∙◌, refl, ap, length, arith, List}
 use Rattle.piece_ring.specs.declared.piece.Piece.{Piece}
 use Rattle.piece_ring.specs.Flat.{flat}
-use Rattle.event_loop.specs.Kept.{kept}
 use Rattle.event_loop.proofs.PositionLemmas.{org_low, position_read, offsets_kept}
 use Rattle.event_loop.proofs.desk.Desk.position_in.Goals as goal
 
 pub pos_at-requires-clause-org : goal.pos_at-requires-clause-org
 pos_at-requires-clause-org g c =
-    let s = g.S.CharSource in
-    let old = s.characters c.args.source.now in
-    let d = kept c.args.self.now in
-    org_low old d c.args.id c.main_frame-frame.result.org c.main_text-text.result.now c.main_frame-frame.ensures
-    c.main_text-text.ensures c.requires.over
+    org_low _ _ _ _ _ c.main_frame-frame.ensures c.main_text-text.ensures c.requires.over
 
 pub pos_at-requires-clause-offsets : goal.pos_at-requires-clause-offsets
-pos_at-requires-clause-offsets g c =
-    let s = g.S.CharSource in
-    let old = s.characters c.args.source.now in
-    let d = kept c.args.self.now in
-    offsets_kept old old d c.args.id
-    c.main_text-text.result.now c.main_text-text.ensures refl c.requires.over
+pos_at-requires-clause-offsets g c = offsets_kept _ _ _ _ _ c.main_text-text.ensures refl c.requires.over
 
 pub returns-clause-exact : goal.returns-clause-exact
 returns-clause-exact g c =
-    let s = g.S.CharSource in
-    let old = s.characters c.args.source.now in
-    let d = kept c.args.self.now in
     λ h. c.in_ok-pos.ensures.position.exact h
-    ∙ position_read old d c.args.id c.main_frame-frame.result.org c.main_text-text.result.now
-    c.main_frame-frame.ensures
-    c.main_text-text.ensures c.args.column c.args.row
+    ∙ position_read _ _ _ _ _ c.main_frame-frame.ensures c.main_text-text.ensures c.args.column c.args.row
 
 pub returns-clause-from : goal.returns-clause-from
 returns-clause-from g c =

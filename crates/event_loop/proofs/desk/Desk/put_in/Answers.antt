@@ -9,13 +9,13 @@ use Rattle.event_loop.proofs.desk.Desk.put_in.Goals as goal
 pub insert-requires-clause-there : goal.insert-requires-clause-there
 insert-requires-clause-there g c =
     subst (λ (n : ℕ). IsSome (numbered c.args.self.now.texts.entries n)) (sym c.main_of-number.ensures)
-    (main_kept _ (kept c.args.self.now) c.requires.built c.args.id c.requires.placed)
+    (main_kept _ (kept c.args.self.now) c.requires.built c.args.id c.requires.at.placed)
 
 pub show_caret-requires-clause-place : goal.show_caret-requires-clause-place
 show_caret-requires-clause-place g c =
     room_after (kept c.args.self.now) (kept c.insert.new.self) c.args.id c.args.pos c.main_of-number.result
     c.len-len.result _ c.main_of-number.ensures c.len-len.ensures c.in_ok-insert.ensures.changed.rest.viewers
-    c.requires.place c.in_ok-insert.ensures.longer
+    c.requires.at.place c.in_ok-insert.ensures.longer
 
 pub returns-clause-changed : goal.returns-clause-changed
 returns-clause-changed g c =

@@ -1,28 +1,17 @@
 use Rattle.std.proofs.Common.{sym, ◌∙◌}
-use Rattle.event_loop.specs.Kept.{kept}
 use Rattle.event_loop.proofs.BarLemmas.{row_none, row_some}
 use Rattle.event_loop.proofs.ReadLemmas.{org_answered, unchanged_answered}
 use Rattle.event_loop.proofs.desk.Desk.scroll_to_row.Goals as goal
 
 pub returns-in_default-clause-answered : goal.returns-in_default-clause-answered
 returns-in_default-clause-answered g c =
-    let s = g.S.CharSource in
-    let old = s.characters c.args.source.now in
-    let d = kept c.args.self.now in
     let start = c.in_ok-start.ensures in
-    unchanged_answered (s.honest c.args.source.now) old
-    (s.characters c.start_of_row.new.source) d _ c.requires.over
-    start.reads.as_long start.reads.same
+    unchanged_answered _ _ _ _ _ c.requires.over start.reads.as_long start.reads.same
     (λ h. row_none _ c.args.id c.args.row (sym c.in_default.is ∙ start.exact h))
 
 pub returns-clause-answered : goal.returns-clause-answered
 returns-clause-answered g c =
-    let s = g.S.CharSource in
-    let old = s.characters c.args.source.now in
-    let d = kept c.args.self.now in
     let start = c.in_ok-start.ensures in
-    org_answered (s.honest c.args.source.now) old
-    (s.characters c.start_of_row.new.source) d (kept c.begin_at.new.self) c.args.id
-    c.in-Some.start _ c.requires.over (rw c.in-Some.is at start.within) start.reads.as_long start.reads.same
-    c.begin_at.ensures
+    org_answered _ _ _ _ _ c.args.id c.in-Some.start _ c.requires.over (rw c.in-Some.is at start.within)
+    start.reads.as_long start.reads.same c.begin_at.ensures
     (λ h. row_some _ c.args.id c.args.row c.in-Some.start (sym c.in-Some.is ∙ start.exact h))

@@ -8,7 +8,7 @@ returns-then-is_some_stretch-clause-answered g c =
     let old = s.characters c.args.source.now in
     let d = kept c.args.self.now in
     one_drawn (s.honest c.args.source.now) old d c.requires.over
-    c.args.drawn c.requires.placed c.requires.place c.is_some_stretch.result c.is_some_stretch.ensures
+    c.args.drawn c.requires.at.placed c.requires.at.place c.is_some_stretch.result c.is_some_stretch.ensures
     c.select.new.selections.items c.if-is_some_stretch.true c.in_ok-select.ensures
 
 pub returns-clause-answered : goal.returns-clause-answered
@@ -17,5 +17,5 @@ returns-clause-answered g c =
     let old = s.characters c.args.source.now in
     let d = kept c.args.self.now in
     none_drawn (s.honest c.args.source.now) old d c.requires.over
-    c.args.drawn c.requires.placed c.requires.place c.is_some_stretch.result c.is_some_stretch.ensures
+    c.args.drawn c.requires.at.placed c.requires.at.place c.is_some_stretch.result c.is_some_stretch.ensures
     c.unselect.new.selections.items c.if-is_some_stretch.false c.unselect.ensures

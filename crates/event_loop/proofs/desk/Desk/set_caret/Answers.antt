@@ -8,4 +8,4 @@ returns-clause-answered g c =
     let old = s.characters c.args.source.now in
     let d = kept c.args.self.now in
     caret_answered (s.honest c.args.source.now) old d c.requires.over
-    c.args.id c.args.pos c.requires.placed c.requires.place
+    c.args.id c.args.pos c.requires.at.placed c.requires.at.place

@@ -1,22 +1,10 @@
 use Rattle.event_loop_laws.specs.LogLaws.{showing_put}
 use Rattle.event_loop.specs.Kept.{kept}
-use Rattle.event_loop.proofs.TextLemmas.{main_there, org_there, characters_there}
+use Rattle.event_loop.proofs.TextLemmas.{movable}
 use Rattle.event_loop.proofs.desk.Desk.show.Goals as goal
 
-pub org_in-requires-clause-there : goal.org_in-requires-clause-there
-org_in-requires-clause-there g c =
-    main_there (g.S.CharSource.characters c.args.source.now) (kept c.args.self.now) c.args.id c.requires.built
-    c.requires.placed
-
-pub org_in-requires-clause-org : goal.org_in-requires-clause-org
-org_in-requires-clause-org g c =
-    org_there (g.S.CharSource.characters c.args.source.now) (kept c.args.self.now) c.args.id c.requires.built
-    c.requires.placed
-
-pub org_in-requires-clause-offsets : goal.org_in-requires-clause-offsets
-org_in-requires-clause-offsets g c =
-    characters_there (g.S.CharSource.characters c.args.source.now) (kept c.args.self.now) c.args.id c.requires.built
-    c.requires.placed
+pub org_in-requires-clause-movable : goal.org_in-requires-clause-movable
+org_in-requires-clause-movable g c = movable _ (kept c.args.self.now) c.args.id c.requires.built c.requires.placed
 
 pub returns-clause-changed : goal.returns-clause-changed
 returns-clause-changed g c =

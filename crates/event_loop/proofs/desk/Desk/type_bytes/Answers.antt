@@ -3,28 +3,24 @@ use Rattle.piece_ring.specs.Flat.{flat}
 use Rattle.piece_ring.specs.Lengths.{length-run}
 use Rattle.piece_ring.specs.Offsets.{AreWithin, run-AreWithin}
 use Rattle.event_loop_laws.specs.declared.reply.Reply.TheVariants.{Done, No}
-use Rattle.event_loop_laws.specs.Limits.{no_caret, full}
+use Rattle.event_loop_laws.specs.Limits.{full}
 use Rattle.event_loop_laws.specs.Change.{more_written}
 use Rattle.event_loop_laws.specs.Keys.{typed}
 use Rattle.event_loop_laws.specs.Seen.{seen}
 use Rattle.event_loop_laws.specs.Step.{settled}
 use Rattle.event_loop_laws.specs.Outcome.{IsAnswered}
 use Rattle.event_loop_laws.specs.RowLaws.{known_no_caret, over_built, built_longer, changed_under, space_written}
-use Rattle.event_loop_laws.specs.RowPartLaws.{kept_caret}
-use Rattle.event_loop_laws.specs.KeyLaws.{refusal_answered, typed_none, typed_full, typed_answered, main_small}
+use Rattle.event_loop_laws.specs.KeyLaws.{typed_none, typed_full, typed_answered, main_small}
 use Rattle.event_loop.specs.Kept.{kept}
 use Rattle.event_loop_laws.specs.Looks.{AreLooks}
 use Rattle.event_loop_laws.specs.LookedLaws.{run_looks, kept_look}
+use Rattle.event_loop.proofs.StretchLemmas.{refused_row}
 use Rattle.event_loop.proofs.desk.Desk.type_bytes.Goals as goal
 
 pub returns-in_default-clause-answered : goal.returns-in_default-clause-answered
 unfolding seen
 returns-in_default-clause-answered g c =
-    let old = g.S.CharSource.characters c.args.source.now in
-    let d = kept c.args.self.now in
-    refusal_answered _ old
-    d _ no_caret c.requires.over known_no_caret
-    (typed_none (seen old d) (c.in_default.is) c.args.bytes.now)
+    refused_row c.requires.over known_no_caret (typed_none _ (sym c.caret_place.ensures.is ∙ c.in_default.is) _)
 
 pub returns-then-not-fits_more-clause-answered : goal.returns-then-not-fits_more-clause-answered
 returns-then-not-fits_more-clause-answered g c =
@@ -33,9 +29,9 @@ returns-then-not-fits_more-clause-answered g c =
     subst (λ (b : List ℕ). IsAnswered (g.S.CharSource.honest c.args.source.now) old
     old d d
     (settled (seen old d) (typed (seen old d) b)) (No full)) c.as_bytes-bytes.ensures.value
-    (typed_full _ old d c.requires.over c.in-Some.caret c.in-Some.is
-    (kept_caret _ d c.in-Some.caret (over_built old d c.requires.over) c.in-Some.is).0
-    c.as_bytes-bytes.result.now (sym (c.fits_more.ensures old) ∙ c.if-not-fits_more.true))
+    (typed_full _ old d c.requires.over c.in-Some.caret (sym c.in-Some.ensures.is)
+    c.in-Some.ensures.stands.placed c.as_bytes-bytes.result.now
+    (sym (c.fits_more.ensures old) ∙ c.if-not-fits_more.true))
 
 pub buffer_of_run-requires-clause-offsets : goal.buffer_of_run-requires-clause-offsets
 unfolding seen
@@ -62,40 +58,26 @@ put_at_caret-requires-clause-built g c =
     built_longer (length old) (length (g.S.CharSource.characters c.append.new.self)) d
     (omega (arith, grown)) (over_built old d c.requires.over)
 
-pub put_at_caret-requires-clause-placed : goal.put_at_caret-requires-clause-placed
-put_at_caret-requires-clause-placed g c =
-    let old = g.S.CharSource.characters c.args.source.now in
-    let d = kept c.args.self.now in
-    (kept_caret _ d c.in-Some.caret (over_built old d c.requires.over) c.in-Some.is).0
-
-pub put_at_caret-requires-clause-place : goal.put_at_caret-requires-clause-place
-put_at_caret-requires-clause-place g c =
-    let old = g.S.CharSource.characters c.args.source.now in
-    let d = kept c.args.self.now in
-    (kept_caret _ d c.in-Some.caret (over_built old d c.requires.over) c.in-Some.is).1
-
-pub put_at_caret-requires-clause-short : goal.put_at_caret-requires-clause-short
+pub put_at_caret-requires-clause-goes : goal.put_at_caret-requires-clause-goes
 unfolding seen
-put_at_caret-requires-clause-short g c =
+put_at_caret-requires-clause-goes g c =
     let old = g.S.CharSource.characters c.args.source.now in
     let d = kept c.args.self.now in
-    let low = space_written (seen [] d) (length c.as_bytes-bytes.result.now) (length c.as_bytes-bytes.result.now) 0
-    (sym (c.fits_more.ensures []) ∙ c.if-not-fits_more.false) in
-    let main = main_small old d c.in-Some.caret.viewer c.requires.over in
-    let size : length (flat c.in_ok-buffer.buffer) ≡ length c.as_bytes-bytes.result.now =
-    ap length c.in_ok-buffer.ensures
-    ∙ length-run c.args.self.now.written (length c.as_bytes-bytes.result.now) c.args.self.now.look in
-    omega (arith, low, main, size)
-
-pub put_at_caret-requires-clause-within : goal.put_at_caret-requires-clause-within
-put_at_caret-requires-clause-within g c =
-    let old = g.S.CharSource.characters c.args.source.now in
-    let grown : length (g.S.CharSource.characters c.append.new.self) ≡ length old + length c.as_bytes-bytes.result.now =
+    let n = length c.as_bytes-bytes.result.now in
+    let grown : length (g.S.CharSource.characters c.append.new.self) ≡ length old + n =
     ap length c.in_ok-append.ensures.added ∙ length-append old c.as_bytes-bytes.result.now in
-    subst (AreWithin (length (g.S.CharSource.characters c.append.new.self))) (sym c.in_ok-buffer.ensures)
-    (run-AreWithin (length (g.S.CharSource.characters c.append.new.self)) c.args.self.now.written
-    (length c.as_bytes-bytes.result.now) c.args.self.now.look
-    (omega (arith, grown, c.requires.over.counted)))
+    let size : length (flat c.in_ok-buffer.buffer) ≡ n =
+    ap length c.in_ok-buffer.ensures ∙ length-run d.written n d.look in
+    record {
+      short =
+          let low = space_written (seen [] d) n n 0 (sym (c.fits_more.ensures []) ∙ c.if-not-fits_more.false) in
+          let main = main_small old d c.in-Some.caret.viewer c.requires.over in
+          omega (arith, low, main, size);
+      within = subst (AreWithin _) (sym c.in_ok-buffer.ensures)
+          (run-AreWithin _ d.written n d.look (omega (arith, grown, c.requires.over.counted)));
+      looks = subst AreLooks (sym c.in_ok-buffer.ensures)
+          (run_looks d.written n d.look (kept_look (length old) d (over_built old d c.requires.over)));
+    }
 
 pub overflow_add-self : goal.overflow_add-self
 unfolding seen
@@ -104,14 +86,6 @@ overflow_add-self g c =
     let low = space_written (seen [] d) (length c.as_bytes-bytes.result.now) (length c.as_bytes-bytes.result.now) 0
     (sym (c.fits_more.ensures []) ∙ c.if-not-fits_more.false) in
     omega (arith, low, c.in_ok-put_at_caret.ensures.changed.rest.written)
-
-pub put_at_caret-requires-clause-looks : goal.put_at_caret-requires-clause-looks
-put_at_caret-requires-clause-looks g c =
-    let old = g.S.CharSource.characters c.args.source.now in
-    let d = kept c.args.self.now in
-    subst AreLooks (sym c.in_ok-buffer.ensures)
-    (run_looks c.args.self.now.written (length c.as_bytes-bytes.result.now) c.args.self.now.look
-    (kept_look (length old) d (over_built old d c.requires.over)))
 
 pub returns-clause-answered : goal.returns-clause-answered
 returns-clause-answered g c =
@@ -125,7 +99,7 @@ returns-clause-answered g c =
     (settled (seen old d) (typed (seen old d) b)) Done) c.as_bytes-bytes.ensures.value
     (typed_answered _ old c.as_bytes-bytes.result.now (g.S.CharSource.characters c.append.new.self)
     (g.S.CharSource.characters c.put_at_caret.new.source) d (kept c.put_at_caret.new.self) c.requires.over
-    c.in_ok-append.ensures.added reads.as_long (λ h. reads.same (premise.1 h)) c.in-Some.caret c.in-Some.is
-    c.in_ok-buffer.buffer c.in_ok-buffer.ensures
+    c.in_ok-append.ensures.added reads.as_long (λ h. reads.same (premise.1 h)) c.in-Some.caret
+    (sym c.in-Some.ensures.is) c.in_ok-buffer.buffer c.in_ok-buffer.ensures
     (changed_under (λ h. premise.1 h) c.in_ok-put_at_caret.ensures.changed)
     (λ all. sym (c.fits_more.ensures all) ∙ c.if-not-fits_more.false))

@@ -1,0 +1,69 @@
+-- Steps, rows of screens and lists of desktops, proved by computing.
+use Rattle.std.specs.Prelude.{◌≡◌, List, [], ◌∷◌, ◌++◌, map, refl}
+use Rattle.viewer_tracks.specs.Viewers.{viewer_at}
+use Rattle.viewer_tracks.specs.Edits.{opened, replaced, changed, closed}
+use Rattle.viewer_tracks.specs.Columns.{track_of, after_open, after_close, after_change as columns_changed}
+use Rattle.viewer_tracks.specs.Room.{free_row}
+use Rattle.screen_cells.specs.Picture.{picture}
+use Rattle.screen_cells.specs.Screen.{values}
+use Rattle.screen_cells.specs.Bytes.{shown_byte}
+use Rattle.readers_scanners.specs.Form.{form, symbol}
+use Rattle.readers_scanners.specs.Bytes.{is_blank, is_inside, number_of}
+use Rattle.event_bytes.specs.Bytes.{is_letter, is_digit, is_name_byte}
+use Rattle.std.specs.Fmt.{digits}
+use Rattle.command_table.specs.Call.{word_begin, called_at}
+use Rattle.command_table.specs.Commands.{commands, command_named}
+use Rattle.command_table.specs.Parameters.{names_on, value, names}
+use Rattle.event_loop_laws.specs.Desktop.{empty_desktop, file_of, held}
+use Rattle.event_loop_laws.specs.Viewers.{opened_at}
+use Rattle.event_loop_laws.specs.Change.{after_change, insertion, deletion, looks_set, showing}
+use Rattle.event_loop_laws.specs.Keys.{typed, escaped, pressed}
+use Rattle.event_loop_laws.specs.Opening.{opening, opening_on, dropped}
+use Rattle.event_loop_laws.specs.Gesture.{area_at, resized, carried, text_position, scrolled_to_row}
+use Rattle.event_loop_laws.specs.Gesture.{scrolled_to_share, drawn_in, copied_to, looks_taken, taken_out}
+use Rattle.event_loop_laws.specs.Gesture.{sent_to_caret, tool_opened, menu_position, pointed}
+use Rattle.event_loop_laws.specs.Step.{filed, marked, settled, raw, step_in, step}
+use Rattle.event_loop_laws.specs.Log.{logged, all_logged}
+use Rattle.event_loop_laws.specs.Call.{value_of, name_of, names_of, number_of as number_called}
+use Rattle.event_loop_laws.specs.Commands.{file_opened, document_opened, log_opened, put_away, brought_back}
+use Rattle.event_loop_laws.specs.Commands.{viewer_copied, log_cleared, directory_logged, files_deleted, stored}
+use Rattle.event_loop_laws.specs.Commands.{look_set, selection_set, searched, commanded, called}
+use Rattle.event_loop_laws.specs.Listing.{entries_of}
+use Rattle.event_loop_laws.specs.Shown.{shown_screen}
+use Rattle.desk_tests.proofs.StepWords.{Case, Listing, Row, replied, wanted, listed, list_wanted, shown, row_wanted}
+use Rattle.desk_tests.proofs.PairSteps.{pair_steps, pair_rows, pair_listing}
+use Rattle.desk_tests.proofs.SharedSteps.{shared_steps, shared_rows, shared_listing}
+use Rattle.desk_tests.proofs.ScrolledSteps.{scrolled_steps, scrolled_rows, scrolled_listing}
+use Rattle.desk_tests.proofs.WideSteps.{wide_steps, wide_rows, wide_listing}
+use Rattle.desk_tests.proofs.CallSteps.{call_steps}
+
+abbrev pub steps : List Case
+steps = pair_steps ++ shared_steps ++ scrolled_steps ++ wide_steps ++ call_steps
+
+-- each step gives what is wanted
+pub steps_are_done : map replied steps ≡ map wanted steps
+unfolding area_at resized carried text_position scrolled_to_row scrolled_to_share drawn_in copied_to looks_taken
+    taken_out sent_to_caret tool_opened pointed opening opening_on dropped opened_at after_change insertion deletion
+    looks_set showing filed marked settled raw step_in step file_of held typed escaped pressed viewer_at opened
+    replaced changed closed track_of after_open after_close columns_changed called menu_position word_begin called_at
+    commands command_named is_name_byte is_letter is_digit logged all_logged value_of name_of number_called names_of
+    file_opened document_opened log_opened put_away brought_back viewer_copied log_cleared directory_logged
+    files_deleted stored look_set selection_set searched commanded names_on value names form symbol is_blank is_inside
+    number_of digits free_row empty_desktop
+steps_are_done = refl
+
+-- the screens have these rows
+abbrev pub rows : List Row
+rows = pair_rows ++ shared_rows ++ scrolled_rows ++ wide_rows
+
+pub rows_are_shown : map shown rows ≡ map row_wanted rows
+unfolding shown_screen picture values shown_byte viewer_at track_of empty_desktop
+rows_are_shown = refl
+
+-- and each desktop its list
+abbrev pub listings : List Listing
+listings = pair_listing ∷ shared_listing ∷ scrolled_listing ∷ wide_listing ∷ []
+
+pub lists_are_right : map listed listings ≡ map list_wanted listings
+unfolding entries_of track_of empty_desktop
+lists_are_right = refl
