@@ -153,6 +153,6 @@ pub record IsReopened {D : Type 0} (d : Ghosts D) (calls : List Call) (closed re
   pub counts : d.honest closed.disk
       → (reopened.epoch, reopened.events) ≡ all_counted calls (closed.epoch, closed.events)
   pub durable : IsDurable d reopened
-  -- nothing is pending: it was opened, and not only kept
+  -- nothing is pending: what it shows is on the medium
   pub settled : d.honest closed.disk → (n : ℕ) → (now (d.trail reopened.disk)).pending n ≡ false
   pub usable : reopened.must_reopen ≡ false
