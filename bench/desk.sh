@@ -2,10 +2,12 @@
 # Times events and screens of a desktop in memory with one text in a viewer, by processor time: 20,000 keystrokes, in lines, at the text's end and in
 # its middle, 1,000 screens, 200,000 events that touch no text, and 100 searches for a word that isn't there, each with 1,000, 10,000 and 200,000
 # characters; and 100 times the list of 256 files in the log. As a sense of scale, grep -F and ls do the last two over files.
-# Build first: tools/build desk_bench. Other sizes: bench/desk.sh CHARACTERS..
+# It times bench/out/desk_bench, which it builds first, or the program that DESK_BENCH names. Other sizes: bench/desk.sh CHARACTERS..
 # A run without rounds is taken off, so only the rounds count; of grep and ls, a run over nothing.
 set -e
-program=${DESK_BENCH:-$(dirname "$0")/../crates/desk_bench/out/desk_bench}
+bench=$(dirname "$0")
+program=${DESK_BENCH:-$bench/out/desk_bench}
+[ -n "${DESK_BENCH-}" ] || "$bench/build" desk_bench
 [ $# -gt 0 ] || set -- 1000 10000 200000
 
 # The processor time of a run in seconds, and of a hundred runs of a command.

@@ -1,10 +1,12 @@
 #!/bin/sh
 # Times edits in rings of 1,000, 10,000 and 100,000 pieces: 100,000 rounds that take a random stretch out and put it in at a random
 # position (far), as many within 50 characters of the last one (near), and the typing of as many characters.
-# Build first: cd crates/ring_bench && rt run -- near 1000 1000. Other numbers: bench/ring.sh ROUNDS PIECES..
+# It times bench/out/ring_bench, which it builds first. Other numbers: bench/ring.sh ROUNDS PIECES..
 # A walk to a place starts at the last one's, so the time of a near round doesn't grow with the number of pieces; that of a far round does.
 set -e
-program=$(dirname "$0")/../crates/ring_bench/out/ring_bench
+bench=$(dirname "$0")
+program=$bench/out/ring_bench
+"$bench/build" ring_bench
 rounds=${1:-100000}
 [ $# -gt 0 ] && shift
 [ $# -gt 0 ] || set -- 1000 10000 100000

@@ -2,7 +2,7 @@
 # after closing and opening; caret, selections, marker, current look, pattern, buffers, kept viewer and log go on from
 # where they were.
 {
-    "$TESTS/hand_in" System.Tool "$TESTS/tool.text"
+    "$TESTS/../tools/hand_in" System.Tool "$TESTS/tool.text"
     cat "$TESTS/walk.in" "$TESTS/clicks.in"
 } | grep -v '^screen$\|^list$\|^show ' > events
 looks() { printf '%s\n' list 'show A.Text' 'show System.Tool' screen; }

@@ -2,7 +2,7 @@
 # the same, or the first of them and `memory` with status 5; and a store in a file then shows just what the events led to whose replies came.
 # A disk in memory that can't record a write fails as a disk does: then the word is `fault`, and the status 4.
 . "$TESTS/refusing.sh"
-{ "$TESTS/hand_in" System.Tool "$TESTS/tool.text"; cat "$TESTS/walk.in" "$TESTS/clicks.in"; } | grep -v '^screen$\|^list$\|^show ' > events
+{ "$TESTS/../tools/hand_in" System.Tool "$TESTS/tool.text"; cat "$TESTS/walk.in" "$TESTS/clicks.in"; } | grep -v '^screen$\|^list$\|^show ' > events
 "$OBERON" < events > whole
 "$OBERON" format new.disk > formatted || exit 1
 

@@ -1,23 +1,10 @@
-//! Looks for a crash that a store doesn't survive. The argument is how many images at least are tried.
-//!
-//! Each round makes stores of its own by random events, from a seed. Calls of a store (events, with the journal full
-//! and not, checkpoints in both directions, and opening) are stopped at the calls of the disk. What a crash may leave
-//! then is tried: all fillings of the pending sectors where they are few, and random ones where they are more. Each
-//! image must open, and show the desktop before the call or the one after it, and the one after it where the call was
-//! acknowledged.
+//! Looks for a crash that a store doesn't survive (the crate `crash_trials`). The argument is how many images at least
+//! are tried.
 //!
 //! It prints how many images were tried and `all right`, or the first that is wrong, with the seed of its round.
 #![tactic(auto)]
 
-mod fillings;
-mod random;
-mod rounds;
-mod scene;
-mod search;
-mod stores;
-
-use crate::rounds::searched;
-use crate::search::Search;
+use crash_trials::{Search, searched};
 use std::{env, io};
 
 /// Tells what was found.

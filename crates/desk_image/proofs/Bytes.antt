@@ -7,7 +7,7 @@ use Rattle.std.proofs.lemmas.List.{length-take-le}
 use Rattle.event_bytes.specs.Bytes.{is_name}
 use Rattle.event_bytes.specs.Parts.{◌>>=◌, when, byte_at, bytes_at, counted_at}
 use Rattle.event_bytes.specs.Reading.{name_at}
-use Rattle.event_loop_laws.specs.Limits.{most_pattern}
+use Rattle.desktop_definitions.specs.Limits.{most_pattern}
 use Rattle.desk_image.specs.declared.fault.ImageFault.{ImageFault}
 use Rattle.desk_image.specs.declared.source.ByteSource.{Ghosts as SourceGhosts}
 use Rattle.desk_image.specs.Steps.{any_at, short_at}

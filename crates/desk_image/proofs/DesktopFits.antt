@@ -7,11 +7,11 @@ use Rattle.std.proofs.Common.{refl, sym, subst, arith}
 use Rattle.std.proofs.lemmas.Map.Made.{keys_of-map_values}
 use Rattle.viewer_tracks.specs.declared.display.TheConstants.{ROWS, COLUMNS}
 use Rattle.viewer_tracks.specs.declared.display.Track.TheVariants.{User, System}
-use Rattle.event_loop_laws.specs.Limits.{most_held}
-use Rattle.event_loop_laws.specs.Tables.{name_cmp, lengths}
-use Rattle.event_loop_laws.specs.Desktop.{Desktop, KeptDesktop, held}
-use Rattle.event_loop_laws.specs.Seen.{seen, seen_text, seen_table}
-use Rattle.event_loop_laws.specs.Sound.{IsKeptWhole, IsSound, HasLooks}
+use Rattle.desktop_definitions.specs.Limits.{most_held}
+use Rattle.desktop_definitions.specs.Tables.{name_cmp, lengths}
+use Rattle.desktop_definitions.specs.Desktop.{Desktop, KeptDesktop, held}
+use Rattle.desktop_definitions.specs.Seen.{seen, seen_text, seen_table}
+use Rattle.desktop_definitions.specs.Sound.{IsKeptWhole, IsSound, HasLooks}
 use Rattle.desk_image.specs.Image.{InWord, IsSpellable, image_of}
 use Rattle.desk_image.specs.Fitting.{FitsCell, FitsTexts, FitsFiles, FitsImage, total, totals}
 use Rattle.desk_image.proofs.PieceFits.{pieces_fit}

@@ -10,8 +10,8 @@ use Rattle.event_bytes.proofs.PartLaws.{given, some_is, bind_some, test_some, wh
 use Rattle.event_bytes.proofs.PartLaws.{byte_part, word_part, counted_part}
 use Rattle.piece_ring.specs.declared.piece.Look.{Look}
 use Rattle.piece_ring.specs.declared.piece.Piece.{Piece}
-use Rattle.event_loop_laws.specs.declared.limits.TheConstants.{LEAST_OFFSET, GREATEST_OFFSET}
-use Rattle.event_loop_laws.specs.Looks.{IsLook}
+use Rattle.desktop_definitions.specs.declared.limits.TheConstants.{LEAST_OFFSET, GREATEST_OFFSET}
+use Rattle.desktop_definitions.specs.Looks.{IsLook}
 use Rattle.desk_image.specs.Image.{below_zero, offsets}
 use Rattle.desk_image.specs.Image.{long, shifted, look_bytes, piece_bytes, cell_bytes, InLong}
 use Rattle.desk_image.specs.Fitting.{FitsPiece, FitsPattern, FitsCell}

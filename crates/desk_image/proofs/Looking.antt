@@ -5,7 +5,7 @@ use Rattle.piece_ring.specs.declared.piece.Look.{Look}
 use Rattle.piece_ring.specs.declared.piece.Piece.{Piece}
 use Rattle.piece_ring.specs.Text.{Text}
 use Rattle.piece_ring.specs.Flat.{flat, run, characters_of, IsWhole}
-use Rattle.event_loop_laws.specs.Looks.{IsLook, AreLooks}
+use Rattle.desktop_definitions.specs.Looks.{IsLook, AreLooks}
 use Rattle.desk_image.specs.Image.{AreSome}
 
 look_of_run : (off len : ℕ) (look : Look) (rest : Text ℕ) → 0 < len → AreLooks (run off len look ++ rest) → IsLook look

@@ -12,15 +12,15 @@ use Rattle.event_bytes.proofs.PartLaws.{some_is}
 use Rattle.viewer_tracks.specs.declared.display.Track.TheVariants.{User, System}
 use Rattle.viewer_tracks.specs.Viewers.{Entry}
 use Rattle.viewer_tracks.specs.Columns.{Columns, IsColumns, IsPlaced, topmost, shown}
-use Rattle.event_loop_laws.specs.declared.viewer.Viewer.{Viewer}
-use Rattle.event_loop_laws.specs.declared.viewer.Caret.{Caret}
-use Rattle.event_loop_laws.specs.declared.viewer.Selection.{Selection}
-use Rattle.event_loop_laws.specs.Desktop.{KeptDesktop}
-use Rattle.event_loop_laws.specs.Seen.{seen}
-use Rattle.event_loop_laws.specs.Viewers.{viewer_in}
-use Rattle.event_loop_laws.specs.Sound.{IsKeptWhole, IsShaped}
-use Rattle.event_loop_laws.specs.PlaceLaws.{at_same}
-use Rattle.event_loop_laws.specs.ViewLaws.{placed_there}
+use Rattle.desktop_definitions.specs.declared.viewer.Viewer.{Viewer}
+use Rattle.desktop_definitions.specs.declared.viewer.Caret.{Caret}
+use Rattle.desktop_definitions.specs.declared.viewer.Selection.{Selection}
+use Rattle.desktop_definitions.specs.Desktop.{KeptDesktop}
+use Rattle.desktop_definitions.specs.Seen.{seen}
+use Rattle.desktop_definitions.specs.Viewers.{viewer_in}
+use Rattle.desktop_definitions.specs.Sound.{IsKeptWhole, IsShaped}
+use Rattle.desktop_laws.specs.PlaceLaws.{at_same}
+use Rattle.desktop_laws.specs.ViewLaws.{placed_there}
 use Rattle.desk_image.specs.declared.picture.Ranked.{Ranked}
 use Rattle.desk_image.specs.declared.picture.ViewerPicture.{ViewerPicture}
 use Rattle.desk_image.specs.Image.{Image, image_of, caret_in, ranked_in, picture_of}

@@ -2,10 +2,10 @@
 use Rattle.std.specs.Prelude.{◌≡◌, ℕ, ◌≤◌, List, [], Some}
 use Rattle.std.proofs.Common.{sym, ap, subst, ◌∙◌, arith}
 use Rattle.event_bytes.proofs.PartLaws.{some_is}
-use Rattle.event_loop_laws.specs.Limits.{most_written}
-use Rattle.event_loop_laws.specs.Desktop.{KeptDesktop}
-use Rattle.event_loop_laws.specs.Seen.{seen}
-use Rattle.event_loop_laws.specs.Sound.{IsKeptWhole}
+use Rattle.desktop_definitions.specs.Limits.{most_written}
+use Rattle.desktop_definitions.specs.Desktop.{KeptDesktop}
+use Rattle.desktop_definitions.specs.Seen.{seen}
+use Rattle.desktop_definitions.specs.Sound.{IsKeptWhole}
 use Rattle.desk_image.specs.Image.{Image, image_of, Spells}
 use Rattle.desk_image.specs.Fitting.{FitsImage}
 use Rattle.desk_image.specs.Reading.{whole_image_at}

@@ -11,8 +11,8 @@ use Rattle.piece_ring.specs.Lengths.{length-run}
 use Rattle.piece_ring.specs.Offsets.{AreWithin}
 use Rattle.piece_ring.specs.Renaming.{renamed}
 use Rattle.piece_ring.specs.Text.{Text}
-use Rattle.event_loop_laws.specs.Limits.{most_held}
-use Rattle.event_loop_laws.specs.Looks.{IsLook, AreLooks}
+use Rattle.desktop_definitions.specs.Limits.{most_held}
+use Rattle.desktop_definitions.specs.Looks.{IsLook, AreLooks}
 use Rattle.desk_image.specs.Image.{AreSome}
 use Rattle.desk_image.specs.Fitting.{Chain, FitsPiece, FitsPieces, less, total}
 

@@ -12,7 +12,7 @@ use Rattle.std.specs.declared.cmp.Ordering.{Ordering}
 use Rattle.std.specs.declared.cmp.Ordering.TheVariants.{Less, Equal, Greater}
 use Rattle.std.proofs.lemmas.Bool.{leb-true, le-leb}
 use Rattle.std.proofs.lemmas.Cmp.{lists_total, nat_cmp_total}
-use Rattle.event_loop_laws.specs.Tables.{name_cmp}
+use Rattle.desktop_definitions.specs.Tables.{name_cmp}
 use Rattle.desk_image.specs.Fitting.{follows}
 use Rattle.desk_image.specs.Steps.{last_key}
 

@@ -15,15 +15,16 @@ use Rattle.event_bytes.specs.Parts.{byte, word, counted}
 use Rattle.piece_ring.specs.declared.piece.Piece.{Piece}
 use Rattle.viewer_tracks.specs.declared.display.TheConstants.{ROWS}
 use Rattle.viewer_tracks.specs.declared.display.Track.TheVariants.{User, System}
-use Rattle.event_loop_laws.specs.Limits.{most_files, most_held, most_pattern}
-use Rattle.event_loop_laws.specs.Tables.{Texts, Files}
-use Rattle.event_loop_laws.specs.Desktop.{KeptDesktop, held}
-use Rattle.event_loop_laws.specs.Seen.{seen, seen_text}
-use Rattle.event_loop_laws.specs.Sound.{IsKeptWhole, IsSound}
-use Rattle.event_loop_laws.specs.FewLaws.{few_viewers, few_texts}
-use Rattle.event_loop_laws.specs.TableLaws.{length_seen, length_seen_text, lengths_seen}
-use Rattle.event_loop_laws.specs.ViewLaws.{few_stand}
-use Rattle.desk_image.specs.declared.limits.TheConstants.{IMAGE_BYTES, SECTOR_BYTES}
+use Rattle.desktop_definitions.specs.Limits.{most_files, most_held, most_pattern}
+use Rattle.desktop_definitions.specs.Tables.{Texts, Files}
+use Rattle.desktop_definitions.specs.Desktop.{KeptDesktop, held}
+use Rattle.desktop_definitions.specs.Seen.{seen, seen_text}
+use Rattle.desktop_definitions.specs.Sound.{IsKeptWhole, IsSound}
+use Rattle.desktop_laws.specs.FewLaws.{few_viewers, few_texts}
+use Rattle.desktop_laws.specs.TableLaws.{length_seen, length_seen_text, lengths_seen}
+use Rattle.desktop_laws.specs.ViewLaws.{few_stand}
+use Rattle.desk_image.specs.declared.limits.TheConstants.{IMAGE_BYTES}
+use Rattle.sector_disk.specs.declared.disk.TheConstants.{SECTOR_BYTES}
 use Rattle.desk_image.specs.declared.picture.ViewerPicture.{ViewerPicture}
 use Rattle.desk_image.specs.Image.{Image, image_of, image_bytes, IsSpellable, Spells, AreSome, picture_of}
 use Rattle.desk_image.specs.Image.{long, optional, listed, piece_bytes, pieces_bytes, cell_bytes, text_bytes}

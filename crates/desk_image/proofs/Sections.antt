@@ -1,7 +1,7 @@
 -- An image in sections is the image.
 use Rattle.std.proofs.Common.{◌≡◌, ℕ, ◌-◌, List, Option, Some, None, refl, sym, ◌∙◌, Result, Ok, Err, ap}
 use Rattle.event_bytes.specs.Parts.{◌>>=◌}
-use Rattle.event_loop_laws.specs.Limits.{most_held}
+use Rattle.desktop_definitions.specs.Limits.{most_held}
 use Rattle.desk_image.specs.declared.fault.ImageFault.{ImageFault}
 use Rattle.desk_image.specs.declared.picture.ViewerPicture.{ViewerPicture}
 use Rattle.desk_image.specs.declared.source.ByteSource.{Ghosts as SourceGhosts}

@@ -15,12 +15,12 @@ use Rattle.event_bytes.specs.Bytes.{is_name}
 use Rattle.piece_ring.specs.declared.piece.Look.{Look}
 use Rattle.piece_ring.specs.declared.piece.Piece.{Piece}
 use Rattle.piece_ring.specs.Flat.{flat}
-use Rattle.event_loop_laws.specs.Limits.{most_held}
-use Rattle.event_loop_laws.specs.Looks.{AreLooks}
-use Rattle.event_loop_laws.specs.Tables.{Texts, Files, name_cmp}
-use Rattle.event_loop_laws.specs.Seen.{seen_text, seen_table}
-use Rattle.event_loop_laws.specs.Sound.{AllWithin}
-use Rattle.event_loop_laws.specs.TableLaws.{kept_lengths}
+use Rattle.desktop_definitions.specs.Limits.{most_held}
+use Rattle.desktop_definitions.specs.Looks.{AreLooks}
+use Rattle.desktop_definitions.specs.Tables.{Texts, Files, name_cmp}
+use Rattle.desktop_definitions.specs.Seen.{seen_text, seen_table}
+use Rattle.desktop_definitions.specs.Sound.{AllWithin}
+use Rattle.desktop_laws.specs.TableLaws.{kept_lengths}
 use Rattle.desk_image.specs.Image.{InWord, AreSome}
 use Rattle.desk_image.specs.Fitting.{Chain, FitsText, FitsFile, total, totals, after_text, after_file, follows}
 use Rattle.desk_image.proofs.PieceFits.{IsFitting, pieces_fit, length_flat, kept_looks}

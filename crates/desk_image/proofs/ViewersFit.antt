@@ -19,18 +19,18 @@ use Rattle.viewer_tracks.specs.declared.display.Track.{Track}
 use Rattle.viewer_tracks.specs.declared.display.Track.TheVariants.{User, System}
 use Rattle.viewer_tracks.specs.Viewers.{Entry, IsTrack, times_in}
 use Rattle.viewer_tracks.specs.Columns.{Columns, times_on, topmost, shown}
-use Rattle.event_loop_laws.specs.declared.viewer.Viewer.{Viewer}
-use Rattle.event_loop_laws.specs.declared.viewer.Caret.{Caret}
-use Rattle.event_loop_laws.specs.declared.viewer.Selection.{Selection}
-use Rattle.event_loop_laws.specs.declared.viewer.Kept.{Kept}
-use Rattle.event_loop_laws.specs.Limits.{most_held}
-use Rattle.event_loop_laws.specs.Tables.{Texts, numbered, lengths}
-use Rattle.event_loop_laws.specs.Viewers.{viewer_in, viewer_or_none, text_in, main_length}
-use Rattle.event_loop_laws.specs.Sound.{AreViewers, ArePlaces, AreMarks}
-use Rattle.event_loop_laws.specs.Sound.{times_there}
-use Rattle.event_loop_laws.specs.FewLaws.{few_viewers}
-use Rattle.event_loop_laws.specs.PlaceLaws.{at_same}
-use Rattle.event_loop_laws.specs.ViewLaws.{viewer_at_place, few_selections}
+use Rattle.desktop_definitions.specs.declared.viewer.Viewer.{Viewer}
+use Rattle.desktop_definitions.specs.declared.viewer.Caret.{Caret}
+use Rattle.desktop_definitions.specs.declared.viewer.Selection.{Selection}
+use Rattle.desktop_definitions.specs.declared.viewer.Kept.{Kept}
+use Rattle.desktop_definitions.specs.Limits.{most_held}
+use Rattle.desktop_definitions.specs.Tables.{Texts, numbered, lengths}
+use Rattle.desktop_definitions.specs.Viewers.{viewer_in, viewer_or_none, text_in, main_length}
+use Rattle.desktop_definitions.specs.Sound.{AreViewers, ArePlaces, AreMarks}
+use Rattle.desktop_definitions.specs.Sound.{times_there}
+use Rattle.desktop_laws.specs.FewLaws.{few_viewers}
+use Rattle.desktop_laws.specs.PlaceLaws.{at_same}
+use Rattle.desktop_laws.specs.ViewLaws.{viewer_at_place, few_selections}
 use Rattle.desk_image.specs.declared.picture.Ranked.{Ranked}
 use Rattle.desk_image.specs.declared.picture.ViewerPicture.{ViewerPicture}
 use Rattle.desk_image.specs.Image.{InByte, InWord, InLong, caret_in, ranked_in, picture_of}

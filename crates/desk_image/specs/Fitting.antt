@@ -8,10 +8,10 @@ use Rattle.event_bytes.specs.Bytes.{is_name}
 use Rattle.piece_ring.specs.declared.piece.Piece.{Piece}
 use Rattle.viewer_tracks.specs.declared.display.TheConstants.{ROWS, COLUMNS}
 use Rattle.viewer_tracks.specs.Viewers.{Entry}
-use Rattle.event_loop_laws.specs.declared.viewer.Kept.{Kept}
-use Rattle.event_loop_laws.specs.Limits.{most_files, most_held, most_pattern}
-use Rattle.event_loop_laws.specs.Looks.{IsLook}
-use Rattle.event_loop_laws.specs.Tables.{Texts, Files, name_cmp}
+use Rattle.desktop_definitions.specs.declared.viewer.Kept.{Kept}
+use Rattle.desktop_definitions.specs.Limits.{most_files, most_held, most_pattern}
+use Rattle.desktop_definitions.specs.Looks.{IsLook}
+use Rattle.desktop_definitions.specs.Tables.{Texts, Files, name_cmp}
 use Rattle.desk_image.specs.declared.picture.Ranked.{Ranked}
 use Rattle.desk_image.specs.declared.picture.ViewerPicture.{ViewerPicture}
 use Rattle.desk_image.specs.Image.{Image, InByte, InWord, InLong}

@@ -14,14 +14,14 @@ use Rattle.viewer_tracks.specs.declared.display.Track.TheVariants.{User, System}
 use Rattle.viewer_tracks.specs.Columns.{shown}
 use Rattle.viewer_tracks.specs.Display.{left_of}
 use Rattle.viewer_tracks.specs.Viewers.{Entry}
-use Rattle.event_loop_laws.specs.declared.limits.TheConstants.{LEAST_OFFSET, GREATEST_OFFSET}
-use Rattle.event_loop_laws.specs.declared.viewer.Viewer.{Viewer}
-use Rattle.event_loop_laws.specs.declared.viewer.Caret.{Caret}
-use Rattle.event_loop_laws.specs.declared.viewer.Selection.{Selection}
-use Rattle.event_loop_laws.specs.declared.viewer.Kept.{Kept}
-use Rattle.event_loop_laws.specs.Tables.{Texts, Files}
-use Rattle.event_loop_laws.specs.Desktop.{KeptDesktop}
-use Rattle.event_loop_laws.specs.Sound.{IsKeptWhole}
+use Rattle.desktop_definitions.specs.declared.limits.TheConstants.{LEAST_OFFSET, GREATEST_OFFSET}
+use Rattle.desktop_definitions.specs.declared.viewer.Viewer.{Viewer}
+use Rattle.desktop_definitions.specs.declared.viewer.Caret.{Caret}
+use Rattle.desktop_definitions.specs.declared.viewer.Selection.{Selection}
+use Rattle.desktop_definitions.specs.declared.viewer.Kept.{Kept}
+use Rattle.desktop_definitions.specs.Tables.{Texts, Files}
+use Rattle.desktop_definitions.specs.Desktop.{KeptDesktop}
+use Rattle.desktop_definitions.specs.Sound.{IsKeptWhole}
 use Rattle.desk_image.specs.declared.picture.Ranked.{Ranked}
 use Rattle.desk_image.specs.declared.picture.ViewerPicture.{ViewerPicture}
 

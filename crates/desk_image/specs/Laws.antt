@@ -1,9 +1,10 @@
 -- What holds of images, whoever reads or writes them.
 use Rattle.std.specs.Prelude.{◌≡◌, ℕ, ◌+◌, ◌%◌, ◌^◌, ◌<◌, ◌≤◌, ◌↔◌, List, [], length, Some}
-use Rattle.event_loop_laws.specs.Desktop.{KeptDesktop, empty_desktop}
-use Rattle.event_loop_laws.specs.Sound.{IsKeptWhole}
+use Rattle.desktop_definitions.specs.Desktop.{KeptDesktop, empty_desktop}
+use Rattle.desktop_definitions.specs.Sound.{IsKeptWhole}
 use Rattle.desk_image.specs.declared.empty.TheConstants.{EMPTY_IMAGE}
-use Rattle.desk_image.specs.declared.limits.TheConstants.{IMAGE_BYTES, SECTOR_BYTES}
+use Rattle.desk_image.specs.declared.limits.TheConstants.{IMAGE_BYTES}
+use Rattle.sector_disk.specs.declared.disk.TheConstants.{SECTOR_BYTES}
 use Rattle.desk_image.specs.Image.{Image, image_of, image_bytes, IsSpellable, Spells}
 use Rattle.desk_image.specs.Fitting.{FitsImage}
 use Rattle.desk_image.specs.Reading.{whole_image_at}

@@ -10,10 +10,10 @@ use Rattle.viewer_tracks.specs.declared.display.TheConstants.{ROWS, COLUMNS, SYS
 use Rattle.viewer_tracks.specs.declared.display.Track.{Track}
 use Rattle.viewer_tracks.specs.declared.display.Track.TheVariants.{User, System}
 use Rattle.viewer_tracks.specs.Viewers.{Entry}
-use Rattle.event_loop_laws.specs.declared.limits.TheConstants.{FONTS, COLOURS}
-use Rattle.event_loop_laws.specs.declared.viewer.Kept.{Kept}
-use Rattle.event_loop_laws.specs.Limits.{most_files, most_held, most_pattern}
-use Rattle.event_loop_laws.specs.Tables.{Texts, Files}
+use Rattle.desktop_definitions.specs.declared.limits.TheConstants.{FONTS, COLOURS}
+use Rattle.desktop_definitions.specs.declared.viewer.Kept.{Kept}
+use Rattle.desktop_definitions.specs.Limits.{most_files, most_held, most_pattern}
+use Rattle.desktop_definitions.specs.Tables.{Texts, Files}
 use Rattle.desk_image.specs.declared.picture.Ranked.{Ranked}
 use Rattle.desk_image.specs.declared.picture.ViewerPicture.{ViewerPicture}
 use Rattle.desk_image.specs.Image.{Image, below_zero, offsets}

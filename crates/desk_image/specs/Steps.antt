@@ -4,9 +4,9 @@ use Rattle.event_bytes.specs.Parts.{Reader, ◌>>=◌, byte_at, bytes_at}
 use Rattle.piece_ring.specs.declared.piece.Look.{Look}
 use Rattle.piece_ring.specs.declared.piece.Piece.{Piece}
 use Rattle.viewer_tracks.specs.Viewers.{Entry}
-use Rattle.event_loop_laws.specs.declared.viewer.Kept.{Kept}
-use Rattle.event_loop_laws.specs.Limits.{most_held, most_pattern}
-use Rattle.event_loop_laws.specs.Tables.{Texts, Files}
+use Rattle.desktop_definitions.specs.declared.viewer.Kept.{Kept}
+use Rattle.desktop_definitions.specs.Limits.{most_held, most_pattern}
+use Rattle.desktop_definitions.specs.Tables.{Texts, Files}
 use Rattle.desk_image.specs.Fitting.{total, totals, FitsTexts, FitsFiles, FitsPieces}
 use Rattle.desk_image.specs.Image.{Image}
 use Rattle.desk_image.specs.Reading.{optional_at, look_at, pattern_at, cell_at, texts_at, files_at, pieces_at}

@@ -7,7 +7,7 @@ ghost use Rattle.desk_image.specs.Image.{pieces_bytes, cell_bytes, ranked_bytes,
 ghost use Rattle.desk_image.specs.Image.{kept_bytes, listed, long, optional};
 
 use crate::{Ranked, ViewerPicture};
-use event_loop_laws::Kept;
+use desktop_definitions::Kept;
 
 /// How many bytes a look has.
 pub const LOOK_BYTES: usize = 3;

@@ -23,7 +23,7 @@ pub use laws::{
     parts_make_one_desktop,
 };
 pub use lengths::{LOOK_BYTES, cell_len, entries_len, kept_len, pieces_len, viewer_len};
-pub use limits::{IMAGE_BYTES, SECTOR_BYTES};
+pub use limits::IMAGE_BYTES;
 pub use picture::{PATTERN, Picture, Ranked, Stretch, Stretches, TRACK, ViewerPicture};
 pub use reading::read_picture;
 pub use sink::ByteSink;

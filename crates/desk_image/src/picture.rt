@@ -1,8 +1,8 @@
 //! What an image says, part by part.
 
 use arrayvec::ArrayVec;
+use desktop_definitions::{Kept, MOST_PATTERN, Viewer};
 use event_bytes::Name;
-use event_loop_laws::{Kept, MOST_PATTERN, Viewer};
 use piece_ring::Look;
 use std::collections::BTreeMap;
 use std::vec::Vec;

@@ -8,8 +8,8 @@ ghost use Rattle.viewer_tracks.specs.declared.display.TheConstants.{ROWS as rows
 ghost use Rattle.event_bytes.specs.Bytes.{is_name};
 ghost use Rattle.event_bytes.specs.Parts.{byte_at, word_at, bytes_at};
 ghost use Rattle.event_bytes.specs.Reading.{name_at};
-ghost use Rattle.event_loop_laws.specs.declared.limits.TheConstants.{LEAST_OFFSET, GREATEST_OFFSET};
-ghost use Rattle.event_loop_laws.specs.Looks.{IsLook};
+ghost use Rattle.desktop_definitions.specs.declared.limits.TheConstants.{LEAST_OFFSET, GREATEST_OFFSET};
+ghost use Rattle.desktop_definitions.specs.Looks.{IsLook};
 ghost use Rattle.desk_image.specs.Fitting.{Chain, FitsPiece, less, total, totals, FitsPieces, FitsText, after_text};
 ghost use Rattle.desk_image.specs.Fitting.{FitsTexts, FitsFile, after_file, FitsFiles, follows, FitsRanked};
 ghost use Rattle.desk_image.specs.Fitting.{FitsViewer, after_viewer, FitsViewers, FitsEntry, above, FitsTrack};
@@ -28,10 +28,10 @@ use crate::{
     ByteSource, ImageFault, PATTERN, Picture, Ranked, Stretch, Stretches, TRACK, ViewerPicture,
 };
 use arrayvec::ArrayVec;
-use event_bytes::Name;
-use event_loop_laws::{
+use desktop_definitions::{
     COLOURS, FONTS, GREATEST_OFFSET, Kept, LEAST_OFFSET, MOST_FILES, MOST_HELD, Viewer,
 };
+use event_bytes::Name;
 use piece_ring::{Look, Piece};
 use sector_disk::Fault;
 use std::alloc::Global;

@@ -2,14 +2,14 @@
 ghost use Rattle.std.specs.Prelude.{◌≡◌, ◌<◌, ◌^◌, length, OnOk};
 ghost use Rattle.event_bytes.specs.Parts.{byte, word, counted};
 ghost use Rattle.piece_ring.specs.Flat.{flat};
-ghost use Rattle.event_loop_laws.specs.Looks.{IsLook, AreLooks};
+ghost use Rattle.desktop_definitions.specs.Looks.{IsLook, AreLooks};
 ghost use Rattle.desk_image.specs.Streams.{Puts};
 ghost use Rattle.desk_image.specs.Pictures.{entry_of};
 ghost use Rattle.desk_image.specs.Image.{look_bytes, piece_bytes, pieces_bytes, cell_bytes, ranked_bytes, viewer_bytes};
 ghost use Rattle.desk_image.specs.Image.{entry_bytes, kept_bytes, long, optional, AreSome};
 
 use crate::{ByteSink, Ranked, Stretch, ViewerPicture};
-use event_loop_laws::{Kept, LEAST_OFFSET};
+use desktop_definitions::{Kept, LEAST_OFFSET};
 use piece_ring::{Cursor, Look, Piece};
 use sector_disk::Fault;
 

@@ -1,16 +1,2 @@
-pub mod Chaining
-pub mod Choosing
-pub mod Failing
-pub mod Fronts
-pub mod Laying
-pub mod Loading
-pub mod NewSlot
-pub mod OneMore
-pub mod Recording
-pub mod Renewing
-pub mod Reopening
-pub mod Running
-pub mod Settling
-pub mod Starting
 pub mod Storing
-pub mod Streaming
+pub mod Passing

@@ -5,19 +5,19 @@ use Rattle.sector_disk.specs.Confined.{IsConfined}
 use Rattle.sector_disk.specs.Trail.{Content, now, LeavesOnly, Nowhere}
 use Rattle.sector_disk.proofs.Touching.{weakened, chained, still_all}
 use Rattle.event_bytes.specs.declared.event.Event.{Event}
-use Rattle.event_loop_laws.specs.Desktop.{KeptDesktop}
-use Rattle.event_loop_laws.specs.Step.{step}
-use Rattle.desk_image.specs.declared.limits.TheConstants.{SECTOR_BYTES}
+use Rattle.desktop_definitions.specs.Desktop.{KeptDesktop}
+use Rattle.desktop_definitions.specs.Step.{step}
+use Rattle.sector_disk.specs.declared.disk.TheConstants.{SECTOR_BYTES}
 use Rattle.store_layout.specs.declared.layout.TheConstants.{JOURNAL_EVENTS, SLOTS, STORE_SECTORS}
 use Rattle.store_layout.specs.Kept.{IsKept, IsFront}
 use Rattle.store_layout.specs.Meaning.{Means, MeansEither}
-use Rattle.desk_journal.specs.declared.live.LiveDesktop.{LiveDesktop}
+use Rattle.desk_slots.specs.declared.live.LiveDesktop.{LiveDesktop}
 use Rattle.desk_journal.specs.Checkpointing.{LeavesDesktop, IsRenewed}
-use Rattle.desk_journal.specs.Device.{IsSameDevice}
-use Rattle.desk_journal.specs.Live.{shown, IsLive, StaysLive}
+use Rattle.desk_slots.specs.Device.{IsSameDevice}
+use Rattle.desk_slots.specs.Live.{shown, IsLive, StaysLive}
 use Rattle.desk_journal.specs.Posting.{LeavesEither, IsStarved}
 use Rattle.desk_journal.specs.View.{StoreView}
-use Rattle.desk_journal.proofs.Settling.{kept_on}
+use Rattle.desk_slots.proofs.Settling.{kept_on}
 
 -- what a store knows of its disk: room, and where it is honest what stands there
 abbrev Knows : {D : Type 0} → Ghosts D → D → ℕ → ℕ → ℕ → ℕ → LiveDesktop → Type 0

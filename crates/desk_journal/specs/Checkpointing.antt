@@ -4,10 +4,10 @@ use Rattle.sector_disk.specs.declared.disk.Disk.{Ghosts}
 use Rattle.sector_disk.specs.Trail.{LeavesOnly}
 use Rattle.sector_disk.specs.Faults.{FailsAs}
 use Rattle.store_layout.specs.Meaning.{Means}
-use Rattle.desk_journal.specs.declared.error.Error.{Error}
-use Rattle.desk_journal.specs.declared.error.Error.TheVariants.{Fault, Worn}
-use Rattle.desk_journal.specs.Device.{IsSameDevice}
-use Rattle.desk_journal.specs.Errors.{OfCheckpoint}
+use Rattle.desk_slots.specs.declared.error.Error.{Error}
+use Rattle.desk_slots.specs.declared.error.Error.TheVariants.{Fault, Worn}
+use Rattle.desk_slots.specs.Device.{IsSameDevice}
+use Rattle.desk_slots.specs.Errors.{OfCheckpoint}
 use Rattle.desk_journal.specs.Posting.{TurnsAway, IsBroken, IsLast, IsUnusable}
 use Rattle.desk_journal.specs.View.{StoreView, IsDurable}
 

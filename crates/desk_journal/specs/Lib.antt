@@ -5,9 +5,3 @@ pub mod Opening
 pub mod Posting
 pub mod Checkpointing
 pub mod Looking
-pub mod Load
-pub mod Run
-pub mod Stops
-pub mod Live
-pub mod Written
-pub mod Words

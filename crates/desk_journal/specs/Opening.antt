@@ -2,8 +2,8 @@
 use Rattle.std.specs.Prelude.{◌≡◌, ℕ, false}
 use Rattle.sector_disk.specs.declared.disk.Disk.{Ghosts}
 use Rattle.sector_disk.specs.Trail.{now}
-use Rattle.desk_journal.specs.declared.error.Error.{Error}
-use Rattle.desk_journal.specs.declared.error.Error.TheVariants.{NotAStore, Damaged}
+use Rattle.desk_slots.specs.declared.error.Error.{Error}
+use Rattle.desk_slots.specs.declared.error.Error.TheVariants.{NotAStore, Damaged}
 use Rattle.store_layout.specs.Finding.{IsForeign, IsDamagedAt}
 use Rattle.store_layout.specs.Meaning.{Shows}
 use Rattle.desk_journal.specs.View.{StoreView, IsDurable}
@@ -21,8 +21,3 @@ module _ {D : Type 0} (d : Ghosts D) where
   pub record IsNoStore (disk : D) (error : Error) : Type 0 where
     pub foreign : error ≡ NotAStore → d.honest disk → IsForeign (d.size disk) (now (d.trail disk)).reads
     pub damaged : (n : ℕ) → error ≡ Damaged n → d.honest disk → IsDamagedAt (d.size disk) (now (d.trail disk)).reads n
-
-  -- Opening finds what was closed.
-  abbrev pub ReopeningLaw : Type 0
-  ReopeningLaw = (closed opened : StoreView D) → d.honest closed.disk → IsDurable d closed → IsOpened closed.disk opened
-      → (opened.desktop ≡ closed.desktop) × (opened.epoch ≡ closed.epoch) × (opened.events ≡ closed.events)

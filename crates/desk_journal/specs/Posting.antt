@@ -4,15 +4,15 @@ use Rattle.sector_disk.specs.declared.disk.Disk.{Ghosts}
 use Rattle.sector_disk.specs.Trail.{LeavesOnly}
 use Rattle.sector_disk.specs.Faults.{FailsAs}
 use Rattle.event_bytes.specs.declared.event.Event.{Event}
-use Rattle.event_loop_laws.specs.declared.reply.Reply.{Reply}
-use Rattle.event_loop_laws.specs.declared.reply.Reply.TheVariants.{No}
-use Rattle.event_loop_laws.specs.Outcome.{IsReply}
-use Rattle.event_loop_laws.specs.Step.{step}
-use Rattle.desk_journal.specs.declared.error.Error.{Error}
-use Rattle.desk_journal.specs.declared.error.Error.TheVariants.{NoMemory, Fault, MustReopen, Worn}
+use Rattle.desktop_definitions.specs.declared.reply.Reply.{Reply}
+use Rattle.desktop_definitions.specs.declared.reply.Reply.TheVariants.{No}
+use Rattle.desktop_definitions.specs.Outcome.{IsReply}
+use Rattle.desktop_definitions.specs.Step.{step}
+use Rattle.desk_slots.specs.declared.error.Error.{Error}
+use Rattle.desk_slots.specs.declared.error.Error.TheVariants.{NoMemory, Fault, MustReopen, Worn}
 use Rattle.store_layout.specs.declared.layout.TheConstants.{JOURNAL_EVENTS, LAST_EPOCH}
-use Rattle.desk_journal.specs.Device.{IsSameDevice}
-use Rattle.desk_journal.specs.Errors.{OfPost}
+use Rattle.desk_slots.specs.Device.{IsSameDevice}
+use Rattle.desk_slots.specs.Errors.{OfPost}
 use Rattle.store_layout.specs.Meaning.{Means, MeansEither}
 use Rattle.desk_journal.specs.View.{StoreView, IsDurable}
 

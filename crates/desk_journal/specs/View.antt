@@ -2,7 +2,7 @@
 use Rattle.std.specs.Prelude.{ℕ, Bool}
 use Rattle.sector_disk.specs.declared.disk.Disk.{Ghosts}
 use Rattle.sector_disk.specs.Trail.{now, Leaves}
-use Rattle.event_loop_laws.specs.Desktop.{Desktop, KeptDesktop}
+use Rattle.desktop_definitions.specs.Desktop.{Desktop, KeptDesktop}
 use Rattle.store_layout.specs.Meaning.{Shows}
 
 pub record StoreView (D : Type 0) : Type 0 where

@@ -1,30 +1,15 @@
 //! The store: a desktop on a disk of sectors, which survives a crash at any moment.
 //!
-//! What the sectors mean, `store_layout` says (in words: docs/STORE.md). Each event that is posted goes into the
-//! journal of the slot in use before it is acknowledged: first its body and a closed gate after it, then, after a sync,
-//! its gate is opened, and a sync follows. When the journal is full the desktop goes whole into the other slot
-//! (`checkpoint`). A crash leaves a gate closed or open and nothing in between, so what the disk means is at each
-//! moment the desktop before the event or the one after it.
+//! What the sectors mean, `store_layout` says (in words: docs/STORE.md), and `desk_slots` reads and writes them. Each
+//! event that is posted goes into the journal of the slot in use before it is acknowledged: first its body and a closed
+//! gate after it, then, after a sync, its gate is opened, and a sync follows. When the journal is full the desktop goes
+//! whole into the other slot (`checkpoint`). A crash leaves a gate closed or open and nothing in between, so what the
+//! disk means is at each moment the desktop before the event or the one after it. What follows of many calls, one after
+//! another, `store_runs` says.
 #![tactic(auto)]
 
-mod call;
-mod characters;
-mod checkpoint;
-mod error;
-mod format;
-mod laws;
-mod live;
-mod load;
-mod place;
-mod reading;
-mod record;
-mod run;
-mod slots;
 mod store;
 
-pub use call::{Answer, Call};
-pub use error::Error;
-pub use laws::{reopening_law, runs_compose, runs_survive};
-pub use run::{serve, serve_all, serve_and_reopen};
+pub use desk_slots::Error;
 pub use store::{Info, Store};
 pub use store_layout::{JOURNAL_EVENTS, STORE_SECTORS, finding_law, footprint_law, showing_law};

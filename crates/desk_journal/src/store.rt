@@ -3,9 +3,9 @@
 //! A clause sees a store as a `StoreView`. What each call promises is said in words, one for an outcome, of
 //! `specs/Opening.antt`, `specs/Posting.antt`, `specs/Checkpointing.antt` and `specs/Looking.antt`.
 ghost use Rattle.std.specs.Prelude.{◌≡◌, ◌<◌, ◌≤◌, ◌↔◌, true, false, Ok, Err, IfOk, IfErr, OnOk, IsErrOf, option_map};
-ghost use Rattle.event_loop_laws.specs.Desktop.{empty_desktop, file_of};
-ghost use Rattle.desk_journal.specs.Device.{IsOnlyRead, IsSameDevice, disk_after, outcome};
-ghost use Rattle.desk_journal.specs.Errors.{OfFormat, OfOpen, OfPost, OfLook, OfCheckpoint};
+ghost use Rattle.desktop_definitions.specs.Desktop.{empty_desktop, file_of};
+ghost use Rattle.desk_slots.specs.Device.{IsOnlyRead, IsSameDevice, disk_after, outcome};
+ghost use Rattle.desk_slots.specs.Errors.{OfFormat, OfOpen, OfPost, OfLook, OfCheckpoint};
 ghost use Rattle.desk_journal.specs.Looking.{OnlyLooks};
 ghost use Rattle.store_layout.specs.Meaning.{Shows};
 ghost use Rattle.desk_journal.specs.Checkpointing.{LeavesDesktop, IsRenewed};
@@ -13,21 +13,14 @@ ghost use Rattle.desk_journal.specs.Opening.{IsOpened, IsNoStore};
 ghost use Rattle.desk_journal.specs.Posting.{LeavesEither, IsAcknowledged, IsStarved, IsBroken, IsLast, IsWorn};
 ghost use Rattle.desk_journal.specs.Posting.{IsUnusable, TurnsAway};
 ghost use Rattle.desk_journal.specs.View.{IsDurable};
-ghost use Rattle.desk_journal.specs.Words.{Leaves, now, IsConfined, FailsAs, entries_of, shown_screen};
+ghost use Rattle.desk_slots.specs.Words.{Leaves, now, IsConfined, FailsAs, entries_of, shown_screen};
 
-use crate::Error;
-use crate::checkpoint::renew;
-use crate::format::lay_out;
-use crate::live::LiveDesktop;
-use crate::load::load;
-use crate::place::Place;
-use crate::record::record;
-use desk_image::SECTOR_BYTES;
+use desk_slots::{Error, LiveDesktop, Place, lay_out, load, record, renew};
+use desktop_definitions::{Entry, Reply};
 use event_bytes::{Event, Name};
-use event_loop::{Entry, Reply};
 use piece_ring::Look;
 use screen_cells::Screen;
-use sector_disk::{Disk, Fault};
+use sector_disk::{Disk, Fault, SECTOR_BYTES};
 use std::alloc::Global;
 use std::marker::Model;
 use store_layout::{JOURNAL_EVENTS, LAST_EPOCH, LAYOUT, STORE_SECTORS};
@@ -63,10 +56,10 @@ pub struct Store<D: Disk> {
 impl<D: Disk> Model for Store<D> {
     ghost use Rattle.std.specs.Prelude.{◌≡◌, ◌<◌, ◌≤◌, ◌*◌, length, false};
     ghost use Rattle.sector_disk.specs.Trail.{now};
-    ghost use Rattle.desk_image.specs.declared.limits.TheConstants.{SECTOR_BYTES};
+    ghost use Rattle.sector_disk.specs.declared.disk.TheConstants.{SECTOR_BYTES};
     ghost use Rattle.store_layout.specs.declared.layout.TheConstants.{JOURNAL_EVENTS, SLOTS, STORE_SECTORS};
     ghost use Rattle.store_layout.specs.Kept.{IsKept, IsFront};
-    ghost use Rattle.desk_journal.specs.Live.{shown, IsLive};
+    ghost use Rattle.desk_slots.specs.Live.{shown, IsLive};
     ghost use Rattle.desk_journal.specs.View.{StoreView};
 
     ghost Value = { StoreView D };

@@ -6,13 +6,13 @@ use Rattle.viewer_tracks.specs.declared.display.Track.TheVariants.{User}
 use Rattle.viewer_tracks.specs.Viewers.{Entry}
 use Rattle.event_bytes.specs.declared.event.Event.TheVariants.{Point}
 use Rattle.event_bytes.specs.declared.keys.Keys.TheVariants.{Middle}
-use Rattle.event_loop_laws.specs.declared.reply.Reply.{Reply}
-use Rattle.event_loop_laws.specs.declared.reply.Reply.TheVariants.{Done, No}
-use Rattle.event_loop_laws.specs.Limits.{no_caret, no_selection, no_command, no_file, full, most_written}
-use Rattle.event_loop_laws.specs.Limits.{wrong_symbol, no_viewer, bad_value, too_low}
-use Rattle.event_loop_laws.specs.Desktop.{Desktop}
-use Rattle.event_loop_laws.specs.Change.{in_look, plain}
-use Rattle.event_loop_laws.specs.Opening.{menu_line}
+use Rattle.desktop_definitions.specs.declared.reply.Reply.{Reply}
+use Rattle.desktop_definitions.specs.declared.reply.Reply.TheVariants.{Done, No}
+use Rattle.desktop_definitions.specs.Limits.{no_caret, no_selection, no_command, no_file, full, most_written}
+use Rattle.desktop_definitions.specs.Limits.{wrong_symbol, no_viewer, bad_value, too_low}
+use Rattle.desktop_definitions.specs.Desktop.{Desktop}
+use Rattle.desktop_definitions.specs.Change.{in_look, plain}
+use Rattle.desktop_definitions.specs.Opening.{menu_line}
 use Rattle.desk_tests.proofs.StepWords.{Case, done, refused, click, look, chars, entry, viewer, caret, selection, kept}
 use Rattle.desk_tests.proofs.StepWords.{columns, texts_with, edited, scrolled, with_viewer, with_document, without}
 use Prim.Native.String.{String}

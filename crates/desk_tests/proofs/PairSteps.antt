@@ -7,11 +7,12 @@ use Rattle.event_bytes.specs.declared.event.Event.TheVariants.{Typed, Key, Mark,
 use Rattle.event_bytes.specs.declared.keys.Key.TheVariants.{Back, Copy, Paste, Cut, Escape}
 use Rattle.event_bytes.specs.declared.keys.Keys.TheVariants.{Left, LeftMiddle, LeftRight, Middle, MiddleLeft}
 use Rattle.event_bytes.specs.declared.keys.Keys.TheVariants.{MiddleRight, Right, RightLeft, RightMiddle}
-use Rattle.event_loop_laws.specs.declared.entry.Entry.TheVariants.{File as FileEntry, Viewer as ViewerEntry, Written}
-use Rattle.event_loop_laws.specs.Limits.{no_selection, no_command, full, outside, most_written}
-use Rattle.event_loop_laws.specs.Desktop.{Desktop}
-use Rattle.event_loop_laws.specs.Change.{plain}
-use Rattle.event_loop_laws.specs.Opening.{menu_line}
+use Rattle.desktop_definitions.specs.declared.entry.Entry.TheVariants.{File as FileEntry, Viewer as ViewerEntry}
+use Rattle.desktop_definitions.specs.declared.entry.Entry.TheVariants.{Written}
+use Rattle.desktop_definitions.specs.Limits.{no_selection, no_command, full, outside, most_written}
+use Rattle.desktop_definitions.specs.Desktop.{Desktop}
+use Rattle.desktop_definitions.specs.Change.{plain}
+use Rattle.desktop_definitions.specs.Opening.{menu_line}
 use Rattle.desk_tests.proofs.StepWords.{Case, done, refused, unchanged, click, idle, clicks_in_bar, clicks_for_caret}
 use Rattle.desk_tests.proofs.StepWords.{empty, chars, entry, columns, viewer, caret, selection, edited, with_document}
 use Rattle.desk_tests.proofs.StepWords.{without, Listing, Row, rows_of, filler, bar, menu, body, blanks, selected}

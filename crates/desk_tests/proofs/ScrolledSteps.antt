@@ -5,8 +5,8 @@ use Rattle.viewer_tracks.specs.Columns.{Columns}
 use Rattle.event_bytes.specs.declared.event.Event.TheVariants.{Typed, Key, Point}
 use Rattle.event_bytes.specs.declared.keys.Key.TheVariants.{Back, Copy, Paste, Cut, Escape}
 use Rattle.event_bytes.specs.declared.keys.Keys.TheVariants.{Left, LeftMiddle, Middle, Right, RightLeft, RightMiddle}
-use Rattle.event_loop_laws.specs.declared.entry.Entry.TheVariants.{Viewer as ViewerEntry, Written}
-use Rattle.event_loop_laws.specs.Desktop.{Desktop}
+use Rattle.desktop_definitions.specs.declared.entry.Entry.TheVariants.{Viewer as ViewerEntry, Written}
+use Rattle.desktop_definitions.specs.Desktop.{Desktop}
 use Rattle.desk_tests.proofs.StepWords.{Case, done, click, clicks_in_bar, clicks_for_caret, empty, chars, entry}
 use Rattle.desk_tests.proofs.StepWords.{columns, viewer, caret, selection, edited, scrolled as scrolled_to, without}
 use Rattle.desk_tests.proofs.StepWords.{Listing, Row, rows_of, filler, bar, menu, hyphens, body, blanks}

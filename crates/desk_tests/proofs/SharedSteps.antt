@@ -5,16 +5,17 @@ use Rattle.piece_ring.specs.declared.piece.Look.{Look}
 use Rattle.piece_ring.specs.Text.{Text}
 use Rattle.viewer_tracks.specs.declared.display.Track.TheVariants.{System}
 use Rattle.viewer_tracks.specs.Viewers.{Entry}
-use Rattle.screen_cells.specs.declared.cell.Mark.TheVariants.{Selected, Text as InText}
+use Rattle.screen_pictures.specs.declared.cell.Mark.TheVariants.{Selected, Text as InText}
 use Rattle.event_bytes.specs.declared.event.Event.TheVariants.{Typed, Key, Point, File}
 use Rattle.event_bytes.specs.declared.keys.Key.TheVariants.{Back, Copy, Paste, Cut, Escape}
 use Rattle.event_bytes.specs.declared.keys.Keys.TheVariants.{Left, LeftMiddle, LeftRight, Middle, Right, RightLeft}
 use Rattle.event_bytes.specs.declared.keys.Keys.TheVariants.{RightMiddle}
-use Rattle.event_loop_laws.specs.declared.entry.Entry.TheVariants.{File as FileEntry, Viewer as ViewerEntry, Written}
-use Rattle.event_loop_laws.specs.declared.viewer.Selection.{Selection}
-use Rattle.event_loop_laws.specs.Limits.{no_selection}
-use Rattle.event_loop_laws.specs.Desktop.{Desktop}
-use Rattle.event_loop_laws.specs.Change.{in_look, plain}
+use Rattle.desktop_definitions.specs.declared.entry.Entry.TheVariants.{File as FileEntry, Viewer as ViewerEntry}
+use Rattle.desktop_definitions.specs.declared.entry.Entry.TheVariants.{Written}
+use Rattle.desktop_definitions.specs.declared.viewer.Selection.{Selection}
+use Rattle.desktop_definitions.specs.Limits.{no_selection}
+use Rattle.desktop_definitions.specs.Desktop.{Desktop}
+use Rattle.desktop_definitions.specs.Change.{in_look, plain}
 use Rattle.desk_tests.proofs.StepWords.{Case, done, refused, unchanged, click, clicks_in_bar, clicks_for_caret, look}
 use Rattle.desk_tests.proofs.StepWords.{chars, entry, columns, viewer, caret, selection, kept, edited, scrolled}
 use Rattle.desk_tests.proofs.StepWords.{without, texts_with, with_document, Listing, Row, rows_of, cells, filler, bar}

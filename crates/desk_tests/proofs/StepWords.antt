@@ -12,27 +12,27 @@ use Rattle.piece_ring.specs.Text.{Text}
 use Rattle.viewer_tracks.specs.declared.display.Track.{Track}
 use Rattle.viewer_tracks.specs.Viewers.{Entry}
 use Rattle.viewer_tracks.specs.Columns.{Columns}
-use Rattle.screen_cells.specs.declared.cell.Cell.{Cell}
-use Rattle.screen_cells.specs.declared.cell.Mark.{Mark}
-use Rattle.screen_cells.specs.declared.cell.Mark.TheVariants.{Marker, Caret as AtCaret, Selected, Menu, Bar}
-use Rattle.screen_cells.specs.declared.cell.Mark.TheVariants.{Text as InText, Filler}
+use Rattle.screen_pictures.specs.declared.cell.Cell.{Cell}
+use Rattle.screen_pictures.specs.declared.cell.Mark.{Mark}
+use Rattle.screen_pictures.specs.declared.cell.Mark.TheVariants.{Marker, Caret as AtCaret, Selected, Menu, Bar}
+use Rattle.screen_pictures.specs.declared.cell.Mark.TheVariants.{Text as InText, Filler}
 use Rattle.event_bytes.specs.declared.event.Event.{Event}
 use Rattle.event_bytes.specs.declared.event.Event.TheVariants.{Point}
 use Rattle.event_bytes.specs.declared.keys.Keys.{Keys}
-use Rattle.event_loop_laws.specs.declared.entry.Entry.{Entry as Listed}
-use Rattle.event_loop_laws.specs.declared.reply.Reply.{Reply}
-use Rattle.event_loop_laws.specs.declared.reply.Reply.TheVariants.{Done, No}
-use Rattle.event_loop_laws.specs.declared.viewer.Viewer.{Viewer}
-use Rattle.event_loop_laws.specs.declared.viewer.Caret.{Caret}
-use Rattle.event_loop_laws.specs.declared.viewer.Selection.{Selection}
-use Rattle.event_loop_laws.specs.declared.viewer.Kept.{Kept}
-use Rattle.event_loop_laws.specs.Tables.{Texts}
-use Rattle.event_loop_laws.specs.Desktop.{Desktop, empty_desktop}
-use Rattle.event_loop_laws.specs.Change.{plain}
-use Rattle.event_loop_laws.specs.Opening.{menu_line}
-use Rattle.event_loop_laws.specs.Listing.{entries_of}
-use Rattle.event_loop_laws.specs.Step.{step}
-use Rattle.event_loop_laws.specs.Shown.{shown_screen}
+use Rattle.desktop_definitions.specs.declared.entry.Entry.{Entry as Listed}
+use Rattle.desktop_definitions.specs.declared.reply.Reply.{Reply}
+use Rattle.desktop_definitions.specs.declared.reply.Reply.TheVariants.{Done, No}
+use Rattle.desktop_definitions.specs.declared.viewer.Viewer.{Viewer}
+use Rattle.desktop_definitions.specs.declared.viewer.Caret.{Caret}
+use Rattle.desktop_definitions.specs.declared.viewer.Selection.{Selection}
+use Rattle.desktop_definitions.specs.declared.viewer.Kept.{Kept}
+use Rattle.desktop_definitions.specs.Tables.{Texts}
+use Rattle.desktop_definitions.specs.Desktop.{Desktop, empty_desktop}
+use Rattle.desktop_definitions.specs.Change.{plain}
+use Rattle.desktop_definitions.specs.Opening.{menu_line}
+use Rattle.desktop_definitions.specs.Listing.{entries_of}
+use Rattle.desktop_definitions.specs.Step.{step}
+use Rattle.desktop_definitions.specs.Shown.{shown_screen}
 use Prim.Native.String.{String}
 
 -- ---- parts of a desktop

@@ -4,9 +4,9 @@ use Rattle.viewer_tracks.specs.Viewers.{viewer_at}
 use Rattle.viewer_tracks.specs.Edits.{opened, replaced, changed, closed}
 use Rattle.viewer_tracks.specs.Columns.{track_of, after_open, after_close, after_change as columns_changed}
 use Rattle.viewer_tracks.specs.Room.{free_row}
-use Rattle.screen_cells.specs.Picture.{picture}
-use Rattle.screen_cells.specs.Screen.{values}
-use Rattle.screen_cells.specs.Bytes.{shown_byte}
+use Rattle.screen_pictures.specs.Picture.{picture}
+use Rattle.screen_pictures.specs.Screen.{values}
+use Rattle.screen_pictures.specs.Bytes.{shown_byte}
 use Rattle.readers_scanners.specs.Form.{form, symbol}
 use Rattle.readers_scanners.specs.Bytes.{is_blank, is_inside, number_of}
 use Rattle.event_bytes.specs.Bytes.{is_letter, is_digit, is_name_byte}
@@ -14,22 +14,23 @@ use Rattle.std.specs.Fmt.{digits}
 use Rattle.command_table.specs.Call.{word_begin, called_at}
 use Rattle.command_table.specs.Commands.{commands, command_named}
 use Rattle.command_table.specs.Parameters.{names_on, value, names}
-use Rattle.event_loop_laws.specs.Desktop.{empty_desktop, file_of, held}
-use Rattle.event_loop_laws.specs.Viewers.{opened_at}
-use Rattle.event_loop_laws.specs.Change.{after_change, insertion, deletion, looks_set, showing}
-use Rattle.event_loop_laws.specs.Keys.{typed, escaped, pressed}
-use Rattle.event_loop_laws.specs.Opening.{opening, opening_on, dropped}
-use Rattle.event_loop_laws.specs.Gesture.{area_at, resized, carried, text_position, scrolled_to_row}
-use Rattle.event_loop_laws.specs.Gesture.{scrolled_to_share, drawn_in, copied_to, looks_taken, taken_out}
-use Rattle.event_loop_laws.specs.Gesture.{sent_to_caret, tool_opened, menu_position, pointed}
-use Rattle.event_loop_laws.specs.Step.{filed, marked, settled, raw, step_in, step}
-use Rattle.event_loop_laws.specs.Log.{logged, all_logged}
-use Rattle.event_loop_laws.specs.Call.{value_of, name_of, names_of, number_of as number_called}
-use Rattle.event_loop_laws.specs.Commands.{file_opened, document_opened, log_opened, put_away, brought_back}
-use Rattle.event_loop_laws.specs.Commands.{viewer_copied, log_cleared, directory_logged, files_deleted, stored}
-use Rattle.event_loop_laws.specs.Commands.{look_set, selection_set, searched, commanded, called}
-use Rattle.event_loop_laws.specs.Listing.{entries_of}
-use Rattle.event_loop_laws.specs.Shown.{shown_screen}
+use Rattle.desktop_definitions.specs.Desktop.{empty_desktop, file_of, held}
+use Rattle.desktop_definitions.specs.Viewers.{opened_at}
+use Rattle.desktop_definitions.specs.Change.{after_change, insertion, deletion, looks_set, showing}
+use Rattle.desktop_definitions.specs.Keys.{typed, escaped, pressed}
+use Rattle.desktop_definitions.specs.Opening.{opening, opening_on, dropped}
+use Rattle.desktop_definitions.specs.Gesture.{area_at, resized, carried, text_position, scrolled_to_row}
+use Rattle.desktop_definitions.specs.Gesture.{scrolled_to_share, drawn_in, copied_to, looks_taken, taken_out}
+use Rattle.desktop_definitions.specs.Gesture.{sent_to_caret, tool_opened, menu_position, pointed}
+use Rattle.desktop_definitions.specs.Step.{filed, marked, settled, raw, step_in, step}
+use Rattle.desktop_definitions.specs.Log.{logged, all_logged}
+use Rattle.desktop_definitions.specs.Call.{value_of, name_of, names_of, number_of as number_called}
+use Rattle.desktop_definitions.specs.Effects.{file_opened, document_opened, log_opened, put_away, brought_back}
+use Rattle.desktop_definitions.specs.Effects.{viewer_copied, log_cleared, directory_logged, files_deleted, stored}
+use Rattle.desktop_definitions.specs.Commands.{commanded, called}
+use Rattle.desktop_definitions.specs.Effects.{look_set, selection_set, searched}
+use Rattle.desktop_definitions.specs.Listing.{entries_of}
+use Rattle.desktop_definitions.specs.Shown.{shown_screen}
 use Rattle.desk_tests.proofs.StepWords.{Case, Listing, Row, replied, wanted, listed, list_wanted, shown, row_wanted}
 use Rattle.desk_tests.proofs.PairSteps.{pair_steps, pair_rows, pair_listing}
 use Rattle.desk_tests.proofs.SharedSteps.{shared_steps, shared_rows, shared_listing}

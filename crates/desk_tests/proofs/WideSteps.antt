@@ -5,9 +5,9 @@ use Rattle.piece_ring.specs.Text.{Text}
 use Rattle.event_bytes.specs.declared.event.Event.TheVariants.{Typed, Key, Point}
 use Rattle.event_bytes.specs.declared.keys.Key.TheVariants.{Back, Copy, Paste, Cut, Escape}
 use Rattle.event_bytes.specs.declared.keys.Keys.TheVariants.{Left, Right, RightLeft}
-use Rattle.event_loop_laws.specs.declared.entry.Entry.TheVariants.{Viewer as ViewerEntry, Written}
-use Rattle.event_loop_laws.specs.Limits.{no_selection}
-use Rattle.event_loop_laws.specs.Desktop.{Desktop}
+use Rattle.desktop_definitions.specs.declared.entry.Entry.TheVariants.{Viewer as ViewerEntry, Written}
+use Rattle.desktop_definitions.specs.Limits.{no_selection}
+use Rattle.desktop_definitions.specs.Desktop.{Desktop}
 use Rattle.desk_tests.proofs.StepWords.{Case, done, refused, unchanged, click, clicks_for_caret, empty, chars, entry}
 use Rattle.desk_tests.proofs.StepWords.{columns, viewer, caret, selection, edited, Listing, Row, rows_of, filler, bar}
 use Rattle.desk_tests.proofs.StepWords.{menu, hyphens, body, at_caret}

@@ -1,8 +1,10 @@
-//! The tests of all libraries, one module a topic.
+//! The tests of the libraries below the desktop, one module a topic: characters, rings, texts, events, symbols, frames,
+//! tracks, cells, calls and writers. Beside them stand the steps of whole desktops that another model works out
+//! (`proofs/Steps.antt`).
 //!
-//! They stand in one crate at the top, since a crate with tests is proved twice. What a module tests is what no clause
+//! They stand in a crate of their own, since a crate with tests is proved twice. What a module tests is what no clause
 //! says: worked rows, texts as they are printed, that a call can succeed, and what happens where a device or an
-//! allocation fails in mid-stream.
+//! allocation fails in mid-stream. What a disk keeps is tested by `store_tests`.
 #![tactic(auto)]
 
 #[cfg(test)]
@@ -12,27 +14,13 @@ mod cells;
 #[cfg(test)]
 mod characters;
 #[cfg(test)]
-mod crashes;
-#[cfg(test)]
-mod disks;
-#[cfg(test)]
 mod events;
 #[cfg(test)]
 mod frames;
 #[cfg(test)]
-mod playing;
-#[cfg(test)]
-mod reports;
-#[cfg(test)]
 mod rings;
 #[cfg(test)]
-mod runs;
-#[cfg(test)]
 mod sources;
-#[cfg(test)]
-mod stores;
-#[cfg(test)]
-mod streams;
 #[cfg(test)]
 mod symbols;
 #[cfg(test)]

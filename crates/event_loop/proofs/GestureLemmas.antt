@@ -4,20 +4,20 @@ use Rattle.std.proofs.Common.{refl, sym, ap, subst, ◌∙◌}
 use Rattle.event_bytes.specs.declared.keys.Keys.{Keys}
 use Rattle.event_bytes.specs.declared.keys.Keys.TheVariants.{Left, LeftMiddle, LeftRight, Middle, Right, RightLeft}
 use Rattle.event_bytes.specs.declared.keys.Keys.TheVariants.{RightMiddle}
-use Rattle.event_loop_laws.specs.declared.reply.Reply.{Reply}
-use Rattle.event_loop_laws.specs.declared.area.Area.{Area}
-use Rattle.event_loop_laws.specs.declared.area.Area.TheVariants.{Filler, Menu, Bar, Body}
-use Rattle.event_loop_laws.specs.declared.viewer.Selection.{Selection}
-use Rattle.event_loop_laws.specs.Limits.{first_version, outside}
-use Rattle.event_loop_laws.specs.Needs.{unless}
-use Rattle.event_loop_laws.specs.Desktop.{Desktop, KeptDesktop}
-use Rattle.event_loop_laws.specs.Seen.{seen}
-use Rattle.event_loop_laws.specs.Step.{settled}
-use Rattle.event_loop_laws.specs.Outcome.{IsAnswered}
-use Rattle.event_loop_laws.specs.Gesture.{area_at, frame_row, pointed, scrolled_to_row, scrolled_to_share}
-use Rattle.event_loop.specs.Mouse.{done_in_filler, done_in_menu, done_in_bar, done_at, done_with}
-use Rattle.event_loop.specs.declared.stop.Stop.{Stop}
-use Rattle.event_loop.proofs.PositionLemmas.{area_seen}
+use Rattle.desktop_definitions.specs.declared.reply.Reply.{Reply}
+use Rattle.desktop_definitions.specs.declared.area.Area.{Area}
+use Rattle.desktop_definitions.specs.declared.area.Area.TheVariants.{Filler, Menu, Bar, Body}
+use Rattle.desktop_definitions.specs.declared.viewer.Selection.{Selection}
+use Rattle.desktop_definitions.specs.Limits.{first_version, outside}
+use Rattle.desktop_definitions.specs.Needs.{unless}
+use Rattle.desktop_definitions.specs.Desktop.{Desktop, KeptDesktop}
+use Rattle.desktop_definitions.specs.Seen.{seen}
+use Rattle.desktop_definitions.specs.Step.{settled}
+use Rattle.desktop_definitions.specs.Outcome.{IsAnswered}
+use Rattle.desktop_definitions.specs.Gesture.{area_at, frame_row, pointed, scrolled_to_row, scrolled_to_share}
+use Rattle.desk_core.specs.Mouse.{done_in_filler, done_in_menu, done_in_bar, done_at, done_with}
+use Rattle.desk_core.specs.declared.stop.Stop.{Stop}
+use Rattle.desk_core.proofs.PositionLemmas.{area_seen}
 
 -- ---- what isn't in the table
 

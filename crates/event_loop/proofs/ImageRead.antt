@@ -3,13 +3,13 @@ use Rattle.std.proofs.Common.{◌≡◌, ℕ, ◌<◌, ◌^◌, ◌∙◌, ◌==
 use Rattle.std.proofs.Common.{List, [], ◌∷◌, refl, sym, ap}
 use Rattle.std.proofs.Common.{Option, Some, None, arith}
 use Rattle.std.proofs.lemmas.Bool.{eqb-true}
-use Rattle.event_loop_laws.specs.Desktop.{KeptDesktop}
+use Rattle.desktop_definitions.specs.Desktop.{KeptDesktop}
 use Rattle.desk_image.specs.Image.{Image, image_bytes, IsSpellable, Spells}
 use Rattle.desk_image.specs.Reading.{image_at, whole_image_at}
 use Rattle.desk_image.specs.Laws.{ReadingLaw}
 use Rattle.event_bytes.specs.Parts.{◌>>=◌}
 use Rattle.event_bytes.proofs.PartLaws.{some_is}
-use Rattle.event_loop.specs.Images.{IsDesktopOf}
+use Rattle.desk_imaging.specs.Images.{IsDesktopOf}
 
 empty_is : (l : List ℕ) → (length l == 0) ≡ true → l ≡ []
 empty_is [] is = refl

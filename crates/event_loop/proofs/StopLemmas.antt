@@ -2,9 +2,9 @@
 use Rattle.std.proofs.Common.{◌≡◌, ℕ, Result, Ok, Err, rules}
 use Rattle.std.specs.Prelude.{IfErr, IsErrOf}
 use Rattle.sector_disk.specs.Faults.{FailsAs}
-use Rattle.event_loop.specs.declared.stop.Stop.{Stop}
-use Rattle.event_loop.specs.declared.stop.Stop.TheVariants as stops
-use Rattle.event_loop.specs.Stops.{IsStop}
+use Rattle.desk_core.specs.declared.stop.Stop.{Stop}
+use Rattle.desk_core.specs.declared.stop.Stop.TheVariants as stops
+use Rattle.desk_core.specs.Stops.{IsStop}
 
 is_stop : (stop : Stop) → IsStop stop
 is_stop stops.NoMemory = search rules

@@ -8,26 +8,29 @@ ghost use Rattle.readers_scanners.specs.Reading.{contents};
 ghost use Rattle.desk_image.specs.Image.{Spells};
 ghost use Rattle.desk_image.specs.Passing.{OnlyGets};
 ghost use Rattle.desk_image.specs.Streams.{IsImageFault};
-ghost use Rattle.event_loop_laws.specs.declared.reply.Reply.TheVariants.{No};
-ghost use Rattle.event_loop_laws.specs.Desktop.{KeptDesktop, empty_desktop, file_of};
-ghost use Rattle.event_loop_laws.specs.Seen.{seen};
-ghost use Rattle.event_loop_laws.specs.Step.{step};
-ghost use Rattle.event_loop_laws.specs.Sound.{IsKeptWhole, IsOver, Grows};
-ghost use Rattle.event_loop_laws.specs.Outcome.{IsReply, IsUnchanged, IsSameSource};
-ghost use Rattle.event_loop_laws.specs.Listing.{entries_of};
-ghost use Rattle.event_loop_laws.specs.Shown.{shown_screen};
+ghost use Rattle.desktop_definitions.specs.declared.reply.Reply.TheVariants.{No};
+ghost use Rattle.desktop_definitions.specs.Desktop.{KeptDesktop, empty_desktop, file_of};
+ghost use Rattle.desktop_definitions.specs.Seen.{seen};
+ghost use Rattle.desktop_definitions.specs.Step.{step};
+ghost use Rattle.desktop_definitions.specs.Sound.{IsKeptWhole, IsOver, Grows};
+ghost use Rattle.desktop_definitions.specs.Outcome.{IsReply, IsUnchanged, IsSameSource};
+ghost use Rattle.desktop_definitions.specs.Listing.{entries_of};
+ghost use Rattle.desktop_definitions.specs.Shown.{shown_screen};
 ghost use Rattle.desk_image.specs.Streams.{Puts};
 ghost use Rattle.desk_image.specs.Image.{image_of, image_bytes, IsSpellable};
-ghost use Rattle.event_loop.specs.Stops.{IsStop};
+ghost use Rattle.desk_core.specs.Stops.{IsStop};
 
-use crate::desk::{Desk, empty_desk};
-use crate::files::{entries, file_of};
-use crate::images::assemble;
-use crate::stop::{NoMemory, Stop};
+use crate::events::act;
 use char_file::{CharSource, Fault};
+use desk_core::desk::{Desk, empty_desk};
+use desk_core::files::{entries, file_of};
+use desk_core::stop::{NoMemory, Stop};
 use desk_image::{ByteSink, ByteSource, ImageFault, desktops_fit, images_are_read, read_picture};
+use desk_imaging::images::assemble;
+use desk_imaging::imaging::put_image;
+use desk_views::{list_track, paint};
+use desktop_definitions::{Entry, Reply};
 use event_bytes::{Event, Name};
-use event_loop_laws::{Entry, Reply};
 use screen_cells::Screen;
 use std::alloc::Global;
 use std::marker::Model;
@@ -36,7 +39,7 @@ use viewer_tracks::Track;
 
 /// A desktop: texts by number, the viewers that show them, files by name, and how many characters were ever written.
 ///
-/// A clause sees it as it is kept (`KeptDesktop` in `specs/Desktop.antt` of `event_loop_laws`), each text as pieces
+/// A clause sees it as it is kept (`KeptDesktop` in `specs/Desktop.antt` of `desktop_definitions`), each text as pieces
 /// that name characters. These stand in a source, among which the desktop is `seen`. Each call that makes or reads
 /// characters is handed the source, and asks that the desktop is over it (`IsOver`): the source has just the characters
 /// that were written.
@@ -46,11 +49,11 @@ pub struct Desktop {
 }
 
 impl Model for Desktop {
-    ghost use Rattle.event_loop_laws.specs.Desktop.{KeptDesktop};
+    ghost use Rattle.desktop_definitions.specs.Desktop.{KeptDesktop};
 
     ghost Value = { KeptDesktop };
 
-    ghost use Rattle.event_loop.specs.Kept.{kept};
+    ghost use Rattle.desk_core.specs.Kept.{kept};
 
     ghost view = { λ d. kept d.desk };
 }
@@ -111,7 +114,7 @@ impl Desktop {
         ensures source { IsSameSource S.failures S.honest S.same_ground source.old source.new }
         ensures faults { FailsAs Stop.Fault IsStop result (S.failures source.old) (S.failures source.new) }
     {
-        self.desk.act(alloc, event, source)
+        act(&mut self.desk, alloc, event, source)
     }
 
     /// The text of the file of that name. None exactly where there is no file of that name.
@@ -139,10 +142,8 @@ impl Desktop {
         ensures faults { FailsAs Stop.Fault IsStop result (S.failures source.old) (S.failures source.new) }
     {
         let mut entries = entries(alloc, &self.desk.files)?;
-        self.desk
-            .list_track(alloc, Track::User, &mut entries, source)?;
-        self.desk
-            .list_track(alloc, Track::System, &mut entries, source)?;
+        list_track(&self.desk, alloc, Track::User, &mut entries, source)?;
+        list_track(&self.desk, alloc, Track::System, &mut entries, source)?;
         entries.push(Entry::Written(self.desk.written))?;
         Ok(entries)
     }
@@ -164,7 +165,7 @@ impl Desktop {
         ensures reads { OnlyReads S.characters S.failures S.honest S.same_ground source.old source.new }
         ensures faults { FailsAs Stop.Fault IsStop result (S.failures source.old) (S.failures source.new) }
     {
-        self.desk.paint(alloc, source, screen)
+        paint(&self.desk, alloc, source, screen)
     }
 
     /// Puts the image of the desktop, the bytes that say how it is kept, and returns how many bytes these are. The
@@ -175,7 +176,7 @@ impl Desktop {
         ensures spelled { IfOk result (λ n. IsSpellable self.now × (n ≡ length (image_bytes (image_of self.now)))) }
         ensures puts { Puts K.ByteSink result (image_bytes (image_of self.now)) sink.old sink.new }
     {
-        self.desk.put_image(sink)
+        put_image(&self.desk, sink)
     }
 
     /// How many characters were ever written, at most 4,194,304.

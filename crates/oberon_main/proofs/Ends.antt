@@ -2,9 +2,9 @@
 use Rattle.std.proofs.Common.{◌≡◌, ◌⊎◌, ℕ, ◌<◌, Result, Ok, Err, IfOk, IfErr, ◌≢◌, inl, inr, refl, sym, ap}
 use Rattle.std.proofs.Common.{◌∙◌, subst}
 use Rattle.sector_disk.specs.Faults.{FailsAs}
-use Rattle.desk_journal.specs.declared.error.Error.{Error}
-use Rattle.desk_journal.specs.declared.error.Error.TheVariants.{NoMemory, Fault, MustReopen, NotAStore, Damaged}
-use Rattle.desk_journal.specs.declared.error.Error.TheVariants.{TooSmall, Worn}
+use Rattle.desk_journal.specs.Errors.{Error}
+use Rattle.desk_journal.specs.Errors.{NoMemory, Fault, MustReopen, NotAStore, Damaged}
+use Rattle.desk_journal.specs.Errors.{TooSmall, Worn}
 use Rattle.desk_journal.specs.Errors.{OfPost, OfCheckpoint}
 use Rattle.oberon_main.specs.declared.answering.Answer.{Answer}
 use Rattle.oberon_main.specs.declared.playing.PlayEnd.{PlayEnd}

@@ -1,13 +1,4 @@
 pub mod Ends
-pub mod Escapes
-pub mod Feeds
-pub mod FirstSpace
-pub mod Gathering
-pub mod LongLines
-pub mod Numbers
 pub mod Played
 pub mod Sessions
-pub mod Splitting
-pub mod Stretches
 pub mod Surviving
-pub mod Taking

@@ -9,17 +9,17 @@ use Rattle.std.proofs.lemmas.List.Concat.{flat_map-append}
 use Rattle.sector_disk.specs.Faults.{FailsAs, OneOf}
 use Rattle.oberon_main.specs.declared.playing.PlayEnd.{PlayEnd}
 use Rattle.oberon_main.specs.declared.playing.PlayEnd.TheVariants.{Done, Fault, Memory, Input, Output}
-use Rattle.oberon_main.specs.declared.request.Request.TheVariants.{Malformed}
-use Rattle.oberon_main.specs.declared.line.Line.{Line}
-use Rattle.oberon_main.specs.Script.{ended, IsLine, IsSplit, lines_at_end, BeginsWith}
-use Rattle.oberon_main.specs.Reading.{Holds, Unplayed, TakesLine, TakesRest, ComesInPieces, most_bytes}
-use Rattle.oberon_main.specs.Request.{request_of}
+use Rattle.script_lines.specs.declared.request.Request.TheVariants.{Malformed}
+use Rattle.script_lines.specs.declared.line.Line.{Line}
+use Rattle.script_lines.specs.Script.{ended, IsLine, IsSplit, lines_at_end, BeginsWith}
+use Rattle.script_lines.specs.Reading.{Holds, Unplayed, TakesLine, TakesRest, ComesInPieces, most_bytes}
+use Rattle.script_lines.specs.Request.{request_of}
 use Rattle.screen_cells.specs.Sent.{AppendsFront}
 use Rattle.oberon_main.specs.Session.{Session, answer, after, out, after_all}
 use Rattle.oberon_main.specs.Play.{IsPlayed, IsStopped, IsCutOff, TextOf, IsTold, IsHalted, EndsAs, CountsEnd}
 use Rattle.oberon_main.specs.Play.{CountsPlay, last_word, IsAnswered, LineEndsAs}
 use Rattle.oberon_main.specs.Play.{RestEndsAs}
-use Rattle.oberon_main.proofs.Splitting.{some_split}
+use Rattle.script_lines.proofs.Splitting.{some_split}
 
 -- ---- lists of lines
 

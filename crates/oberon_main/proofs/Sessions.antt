@@ -4,13 +4,13 @@ use Rattle.std.specs.Prelude.{codes}
 use Rattle.std.proofs.lemmas.Bool.{cond-true, cond-false, le-leb, lt-leb, leb-true, eqb-true, eq-eqb, ne_eqb}
 use Rattle.std.proofs.lemmas.Bool.{and_from, cases_lt, false_from_ne_true, and_parts}
 use Rattle.event_bytes.specs.declared.event.Event.{Event}
-use Rattle.event_loop_laws.specs.declared.reply.Reply.{Reply}
-use Rattle.event_loop_laws.specs.Desktop.{Desktop}
-use Rattle.event_loop_laws.specs.Step.{step}
+use Rattle.desktop_definitions.specs.declared.reply.Reply.{Reply}
+use Rattle.desktop_definitions.specs.Desktop.{Desktop}
+use Rattle.desktop_definitions.specs.Step.{step}
 use Rattle.store_layout.specs.declared.layout.TheConstants.{JOURNAL_EVENTS, LAST_EPOCH}
-use Rattle.oberon_main.specs.declared.request.Request.TheVariants.{Post, Checkpoint}
-use Rattle.oberon_main.specs.Script.{ended}
-use Rattle.oberon_main.specs.Answer.{reply_line}
+use Rattle.script_lines.specs.declared.request.Request.TheVariants.{Post, Checkpoint}
+use Rattle.script_lines.specs.Script.{ended}
+use Rattle.script_answers.specs.Answer.{reply_line}
 use Rattle.oberon_main.specs.Session.{Session, is_full, is_last, is_worn, renewed, stepped, worn_line, answer, after}
 
 -- a session by its three parts

@@ -12,8 +12,8 @@ use Rattle.sector_disk.specs.declared.disk.Disk.{Ghosts}
 use Rattle.sector_disk.specs.Trail.{Content, now, Leaves, LeavesOnly}
 use Rattle.sector_disk.proofs.Touching.{weakened, chained, at_last}
 use Rattle.event_bytes.specs.declared.event.Event.{Event}
-use Rattle.event_loop_laws.specs.Desktop.{Desktop}
-use Rattle.event_loop_laws.specs.Step.{step, steps}
+use Rattle.desktop_definitions.specs.Desktop.{Desktop}
+use Rattle.desktop_definitions.specs.Step.{step, steps}
 use Rattle.screen_cells.specs.Sent.{AppendsFront}
 use Rattle.store_layout.specs.Bits.{true_or_false}
 use Rattle.store_layout.specs.Meaning.{Means, MeansEither}
@@ -22,16 +22,15 @@ use Rattle.desk_journal.specs.Checkpointing.{LeavesDesktop}
 use Rattle.desk_journal.specs.Device.{IsOnlyRead, IsSameDevice}
 use Rattle.desk_journal.specs.Posting.{LeavesEither, TurnsAway, IsLast}
 use Rattle.desk_journal.specs.View.{StoreView, IsDurable}
-use Rattle.desk_journal.proofs.Reopening.{at_start}
-use Rattle.desk_journal.proofs.Running.{shows_means}
-use Rattle.oberon_main.specs.declared.line.Line.{Line}
+use Rattle.desk_journal.proofs.Passing.{at_start, shows_means}
+use Rattle.script_lines.specs.declared.line.Line.{Line}
 use Rattle.oberon_main.specs.declared.playing.PlayEnd.{PlayEnd}
 use Rattle.oberon_main.specs.declared.playing.PlayEnd.TheVariants.{Done, Fault, Memory, Input, Output}
-use Rattle.oberon_main.specs.declared.request.Request.{Request}
-use Rattle.oberon_main.specs.declared.request.Request.TheVariants.{Post, Checkpoint, Show, Listing, Display, Malformed}
-use Rattle.oberon_main.specs.Script.{BeginsWith, lines_at_end}
-use Rattle.oberon_main.specs.Request.{request_of}
-use Rattle.oberon_main.specs.Reading.{Holds, Unplayed, TakesLine, TakesRest}
+use Rattle.script_lines.specs.declared.request.Request.{Request}
+use Rattle.script_lines.specs.declared.request.Request.TheVariants.{Post, Checkpoint, Show, Listing, Display, Malformed}
+use Rattle.script_lines.specs.Script.{BeginsWith, lines_at_end}
+use Rattle.script_lines.specs.Request.{request_of}
+use Rattle.script_lines.specs.Reading.{Holds, Unplayed, TakesLine, TakesRest}
 use Rattle.oberon_main.specs.Worked.{IsWorkEnd}
 use Rattle.oberon_main.specs.Session.{Session, is_full, is_last, is_worn, renewed, stepped, after, out, after_all}
 use Rattle.oberon_main.specs.Opened.{session_of}

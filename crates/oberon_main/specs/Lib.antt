@@ -1,10 +1,3 @@
-pub mod Script
-pub mod Reading
-pub mod Words
-pub mod Percent
-pub mod Request
-pub mod Answer
-pub mod Stretch
 pub mod Session
 pub mod Opened
 pub mod Play

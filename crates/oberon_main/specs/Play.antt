@@ -6,13 +6,13 @@ use Rattle.std.specs.Prelude.{IfErr, codes, false}
 use Rattle.std.specs.Io.KnownBytes.{Appends, Consumes, Keeps}
 use Rattle.oberon_main.specs.declared.playing.PlayEnd.{PlayEnd}
 use Rattle.oberon_main.specs.declared.playing.PlayEnd.TheVariants.{Done, Fault, Memory, Input, Output}
-use Rattle.oberon_main.specs.Script.{ended, IsSplit, lines_at_end, BeginsWith}
-use Rattle.oberon_main.specs.declared.request.Request.{Request}
-use Rattle.oberon_main.specs.declared.request.Request.TheVariants.{Malformed}
-use Rattle.oberon_main.specs.Request.{request_of}
+use Rattle.script_lines.specs.Script.{ended, IsSplit, lines_at_end, BeginsWith}
+use Rattle.script_lines.specs.declared.request.Request.{Request}
+use Rattle.script_lines.specs.declared.request.Request.TheVariants.{Malformed}
+use Rattle.script_lines.specs.Request.{request_of}
 use Rattle.oberon_main.specs.Session.{Session, answer, after, out, after_all}
-use Rattle.oberon_main.specs.declared.line.Line.{Line}
-use Rattle.oberon_main.specs.Reading.{Holds}
+use Rattle.script_lines.specs.declared.line.Line.{Line}
+use Rattle.script_lines.specs.Reading.{Holds}
 use Rattle.oberon_main.specs.Opened.{session_of}
 use Rattle.sector_disk.specs.declared.disk.Disk.{Ghosts}
 use Rattle.desk_journal.specs.View.{StoreView}

@@ -1,11 +1,11 @@
 -- What is said of a store, and the statuses of the program.
 use Rattle.std.specs.Prelude.{ℕ, List, ◌++◌, codes}
 use Rattle.std.specs.Fmt.{decimal}
-use Rattle.desk_journal.specs.declared.error.Error.{Error}
-use Rattle.desk_journal.specs.declared.error.Error.TheVariants.{NoMemory, NotAStore, Damaged}
+use Rattle.desk_journal.specs.Errors.{Error}
+use Rattle.desk_journal.specs.Errors.{NoMemory, NotAStore, Damaged}
 use Rattle.oberon_main.specs.declared.playing.PlayEnd.{PlayEnd}
 use Rattle.oberon_main.specs.declared.playing.PlayEnd.TheVariants.{Done, Memory}
-use Rattle.oberon_main.specs.Script.{ended}
+use Rattle.script_lines.specs.Script.{ended}
 
 -- a store that can be used: its layout, its epoch, and how many events its journal has
 abbrev pub check_line : ℕ → ℕ → ℕ → List ℕ

@@ -1,17 +1,17 @@
 -- What a script is answered, line by line.
 use Rattle.std.specs.Prelude.{ℕ, ◌+◌, Bool, ◌&&◌, ◌==◌, nat_le, if◌then◌else◌, List, [], ◌∷◌, ◌++◌, codes}
 use Rattle.event_bytes.specs.declared.event.Event.{Event}
-use Rattle.event_loop_laws.specs.Desktop.{Desktop, file_of}
-use Rattle.event_loop_laws.specs.Step.{step}
-use Rattle.event_loop_laws.specs.Listing.{entries_of}
-use Rattle.event_loop_laws.specs.Shown.{shown_screen}
-use Rattle.screen_cells.specs.Printed.{printed}
+use Rattle.desktop_definitions.specs.Desktop.{Desktop, file_of}
+use Rattle.desktop_definitions.specs.Step.{step}
+use Rattle.desktop_definitions.specs.Listing.{entries_of}
+use Rattle.desktop_definitions.specs.Shown.{shown_screen}
+use Rattle.screen_pictures.specs.Printed.{printed}
 use Rattle.store_layout.specs.declared.layout.TheConstants.{JOURNAL_EVENTS, LAST_EPOCH}
-use Rattle.oberon_main.specs.declared.request.Request.{Request}
-use Rattle.oberon_main.specs.declared.request.Request.TheVariants.{Post, Checkpoint, Show, Listing, Display, Malformed}
-use Rattle.oberon_main.specs.Script.{ended}
-use Rattle.oberon_main.specs.Request.{request_of}
-use Rattle.oberon_main.specs.Answer.{reply_line, show_lines, list_lines}
+use Rattle.script_lines.specs.declared.request.Request.{Request}
+use Rattle.script_lines.specs.declared.request.Request.TheVariants.{Post, Checkpoint, Show, Listing, Display, Malformed}
+use Rattle.script_lines.specs.Script.{ended}
+use Rattle.script_lines.specs.Request.{request_of}
+use Rattle.script_answers.specs.Answer.{reply_line, show_lines, list_lines}
 
 -- what answers depend on: the desktop, the epoch, and how many events the journal has
 pub record Session : Type 0 where

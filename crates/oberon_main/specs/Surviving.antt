@@ -4,18 +4,18 @@ use Rattle.std.specs.Io.KnownBytes.{Appends}
 use Rattle.sector_disk.specs.declared.disk.Disk.{Ghosts}
 use Rattle.sector_disk.specs.Trail.{Content, now, Leaves, LeavesOnly}
 use Rattle.event_bytes.specs.declared.event.Event.{Event}
-use Rattle.event_loop_laws.specs.Step.{steps}
+use Rattle.desktop_definitions.specs.Step.{steps}
 use Rattle.screen_cells.specs.Sent.{AppendsFront}
 use Rattle.store_layout.specs.Meaning.{Means, MeansEither}
 use Rattle.desk_journal.specs.View.{StoreView, IsDurable}
-use Rattle.oberon_main.specs.declared.line.Line.{Line}
+use Rattle.script_lines.specs.declared.line.Line.{Line}
 use Rattle.oberon_main.specs.declared.playing.PlayEnd.{PlayEnd}
 use Rattle.oberon_main.specs.declared.playing.PlayEnd.TheVariants.{Done, Fault, Memory, Input, Output}
-use Rattle.oberon_main.specs.declared.request.Request.{Request}
-use Rattle.oberon_main.specs.declared.request.Request.TheVariants.{Post, Checkpoint, Show, Listing, Display, Malformed}
-use Rattle.oberon_main.specs.Script.{BeginsWith, lines_at_end}
-use Rattle.oberon_main.specs.Request.{request_of}
-use Rattle.oberon_main.specs.Reading.{Holds}
+use Rattle.script_lines.specs.declared.request.Request.{Request}
+use Rattle.script_lines.specs.declared.request.Request.TheVariants.{Post, Checkpoint, Show, Listing, Display, Malformed}
+use Rattle.script_lines.specs.Script.{BeginsWith, lines_at_end}
+use Rattle.script_lines.specs.Request.{request_of}
+use Rattle.script_lines.specs.Reading.{Holds}
 use Rattle.oberon_main.specs.Session.{Session, is_worn, after, out, after_all}
 use Rattle.oberon_main.specs.Opened.{session_of}
 use Rattle.oberon_main.specs.Play.{last_word}

@@ -2,14 +2,14 @@
 use Rattle.std.specs.Prelude.{◌≡◌, ◌↔◌, ◌∷◌, [], ℕ, List, Result, IfOk, OnOk, false}
 use Rattle.sector_disk.specs.declared.disk.Disk.{Ghosts}
 use Rattle.sector_disk.specs.Faults.{OneOf}
-use Rattle.desk_journal.specs.declared.error.Error.{Error}
-use Rattle.desk_journal.specs.declared.error.Error.TheVariants.{NoMemory}
+use Rattle.desk_journal.specs.Errors.{Error}
+use Rattle.desk_journal.specs.Errors.{NoMemory}
 use Rattle.desk_journal.specs.View.{StoreView}
 use Rattle.oberon_main.specs.declared.answering.Answer.{Answer}
 use Rattle.oberon_main.specs.declared.answering.Answer.TheVariants.{Short, Long}
 use Rattle.oberon_main.specs.declared.playing.PlayEnd.{PlayEnd}
 use Rattle.oberon_main.specs.declared.playing.PlayEnd.TheVariants.{Fault, Memory}
-use Rattle.oberon_main.specs.declared.request.Request.{Request}
+use Rattle.script_lines.specs.declared.request.Request.{Request}
 use Rattle.oberon_main.specs.Opened.{session_of}
 use Rattle.oberon_main.specs.Session.{answer, after}
 

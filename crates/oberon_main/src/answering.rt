@@ -2,21 +2,21 @@
 ghost use Rattle.std.specs.Prelude.{◌≡◌, ◌≢◌, false, IsOk, IfOk, IfErr};
 ghost use Rattle.sector_disk.specs.Faults.{FailsAs};
 ghost use Rattle.desk_journal.specs.Device.{IsOnlyRead};
-ghost use Rattle.oberon_main.specs.declared.request.Request.TheVariants.{Post, Checkpoint, Show};
-ghost use Rattle.oberon_main.specs.declared.request.Request.TheVariants.{Listing, Display, Malformed};
+ghost use Rattle.script_lines.specs.declared.request.Request.TheVariants.{Post, Checkpoint, Show};
+ghost use Rattle.script_lines.specs.declared.request.Request.TheVariants.{Listing, Display, Malformed};
 ghost use Rattle.oberon_main.specs.declared.playing.PlayEnd.TheVariants as ends;
 ghost use Rattle.oberon_main.specs.Session.{worn_line};
 ghost use Rattle.oberon_main.specs.Worked.{bytes_of, end_of, IsWorkEnd, IsWorkedOut};
 ghost use Rattle.oberon_main.specs.Surviving.{Withstands};
 
-use crate::answer::{
-    ShortLine, list_bytes, refusal_bytes, reply_bytes, screen_bytes, short_line, text_bytes,
-};
 use crate::playing::PlayEnd;
-use crate::request::Request;
 use desk_journal::{Error, Store};
 use event_bytes::{Event, Name};
 use screen_cells::Screen;
+use script_answers::{
+    ShortLine, list_bytes, refusal_bytes, reply_bytes, screen_bytes, short_line, text_bytes,
+};
+use script_lines::Request;
 use sector_disk::Disk;
 use std::alloc::Global;
 

@@ -1,22 +1,16 @@
 //! Scripts over a store: what they are answered, and what else the program says of a store.
 //!
-//! A script comes in (`line`), each of its lines is read (`request`, `words`, `percent`), its answer worked out over
-//! the store (`answering`, `answer`) and written (`sending`); `playing` is the whole of that. `report` says what else
-//! there is to say of a store.
+//! A script's lines come in as requests (the crate `script_lines`), the answer to each is worked out over the store
+//! (`answering`), and its bytes are written (the crate `script_answers`); `playing` is the whole of that. `report` says
+//! what else there is to say of a store.
 #![tactic(auto)]
 
-mod answer;
 mod answering;
 mod laws;
-mod line;
-mod percent;
 mod playing;
 mod report;
-mod request;
-mod sending;
-mod words;
 
-pub use laws::{lines_are_steps, numbers_are_decimal, one_split};
+pub use desk_journal::{Error, STORE_SECTORS, Store};
+pub use laws::lines_are_steps;
 pub use playing::{PlayEnd, play, play_bounded};
 pub use report::{check, refuse, status};
-pub use sending::{OutputFault, send};

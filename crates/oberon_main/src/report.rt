@@ -5,12 +5,10 @@ ghost use Rattle.oberon_main.specs.declared.playing.PlayEnd.TheVariants as ends;
 ghost use Rattle.screen_cells.specs.Sent.{AppendsFront};
 ghost use Rattle.oberon_main.specs.Report.{check_line, refusal_line, refusal_status, end_status};
 
-use crate::answer::{ShortLine, numbered_line, short_line};
 use crate::playing::PlayEnd;
-use crate::sending::{OutputFault, send};
 use arrayvec::ArrayVec;
 use desk_journal::{Error, Store};
-use event_loop::decimal_digits;
+use script_answers::{OutputFault, ShortLine, numbered_line, send, short_line};
 use sector_disk::Disk;
 use std::io::Write;
 
@@ -37,15 +35,16 @@ pub fn check<W: Write, D: Disk>(writer: &mut W, store: &Store<D>) -> PlayEnd
 fn check_bytes(layout: u32, epoch: u32, events: u32) -> ShortLine
     ensures { result.items ≡ check_line layout epoch events }
 {
+    let mut digits = itoa::Buffer::new();
     let mut text = ArrayVec::<u8, 60>::new();
     text.try_extend_from_slice(b"ok layout ").unwrap();
-    text.try_extend_from_slice(decimal_digits(layout).as_slice())
+    text.try_extend_from_slice(digits.format(layout).as_bytes())
         .unwrap();
     text.try_extend_from_slice(b" epoch ").unwrap();
-    text.try_extend_from_slice(decimal_digits(epoch).as_slice())
+    text.try_extend_from_slice(digits.format(epoch).as_bytes())
         .unwrap();
     text.try_extend_from_slice(b" events ").unwrap();
-    text.try_extend_from_slice(decimal_digits(events).as_slice())
+    text.try_extend_from_slice(digits.format(events).as_bytes())
         .unwrap();
     short_line(text.as_slice())
 }

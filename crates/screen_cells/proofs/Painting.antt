@@ -10,12 +10,13 @@ use Rattle.viewer_tracks.specs.declared.display.Track.TheVariants.{User, System}
 use Rattle.viewer_tracks.specs.Display.{track_at, left_of}
 use Rattle.viewer_tracks.specs.Viewers.{viewer_at}
 use Rattle.viewer_tracks.specs.Columns.{Columns, no_viewers, shown}
-use Rattle.screen_cells.specs.declared.cell.Cell.{Cell}
+use Rattle.screen_pictures.specs.declared.cell.Cell.{Cell}
 use Rattle.screen_cells.specs.declared.shown.Shown.{Shown}
 use Rattle.screen_cells.specs.declared.strip.Strip.{Strip}
-use Rattle.screen_cells.specs.Picture.{Viewer, picture, filler, filler_cell, track_cell, seen_cell, marked, is_at}
+use Rattle.screen_pictures.specs.Picture.{Viewer, picture, filler, filler_cell, track_cell, seen_cell, marked, is_at}
 use Rattle.screen_cells.specs.Shown.{as_read, strip_cell}
-use Rattle.screen_cells.specs.Screen.{screen_of, painted_row, strips_cell, values}
+use Rattle.screen_pictures.specs.Screen.{screen_of, values}
+use Rattle.screen_cells.specs.Rows.{painted_row, strips_cell}
 use Rattle.screen_cells.proofs.Values.{values_is, values_same}
 
 -- the elements of a list before index n are what f makes of those that were there, and the others are as before

@@ -2,8 +2,8 @@
 use Rattle.std.proofs.Common.{◌≡◌, ℕ, List, ◌++◌, Option, refl, subst}
 use Rattle.std.specs.Prelude.{codes}
 use Rattle.std.specs.Io.KnownBytes.{Appends}
-use Rattle.screen_cells.specs.declared.cell.Cell.{Cell}
-use Rattle.screen_cells.specs.Printed.{printed, character_lines, mark_lines, ended}
+use Rattle.screen_pictures.specs.declared.cell.Cell.{Cell}
+use Rattle.screen_pictures.specs.Printed.{printed, character_lines, mark_lines, ended}
 use Rattle.screen_cells.proofs.Taking.{HasTaken, taken_none, taken_part}
 
 -- what is left after the characters, and after the first word

@@ -10,7 +10,7 @@ use Rattle.std.proofs.lemmas.Bool.Decides.{nat_tests}
 use Rattle.piece_ring.specs.declared.piece.Look.{Look}
 use Rattle.text_frames.specs.declared.frame.Selection.{Selection}
 use Rattle.text_frames.specs.Row.{row_cells}
-use Rattle.screen_cells.specs.Picture.{Viewer, bar_cell, menu_cell, text_cell, frame_cell, viewer_cell, caret_at}
+use Rattle.screen_pictures.specs.Picture.{Viewer, bar_cell, menu_cell, text_cell, frame_cell, viewer_cell, caret_at}
 
 -- a row below the menu
 pub frame_shown : (v : Viewer) (width bottom top y column row : ℕ) (line : List (ℕ × Look × ℕ))

@@ -7,7 +7,7 @@ use Rattle.std.proofs.lemmas.List.Folds.{list_all_at}
 use Rattle.std.proofs.lemmas.List.Sums.{position_or_len_is}
 use Rattle.std.proofs.lemmas.List.FromFn.{length-range_with_len, get_or-range_with_len}
 use Rattle.std.proofs.lemmas.Bool.Decides.{nat_tests}
-use Rattle.screen_cells.specs.Printed.{without_trailing, least}
+use Rattle.screen_pictures.specs.Printed.{without_trailing, least}
 
 -- all bytes from index n on are blank
 pub record IsBlankFrom (blank : ℕ) (bytes : List ℕ) (n : ℕ) : Type 0 where

@@ -4,9 +4,9 @@ use Rattle.std.specs.Prelude.{replicate}
 use Rattle.std.proofs.lemmas.List.{length-replicate, get_or-replicate}
 use Rattle.std.proofs.lemmas.List.FromFn.{fill_by_all, get_or-map-range_with_len, length-map-range_with_len}
 use Rattle.viewer_tracks.specs.declared.display.TheConstants.{ROWS, COLUMNS}
-use Rattle.screen_cells.specs.declared.cell.Cell.{Cell}
-use Rattle.screen_cells.specs.Picture.{filler}
-use Rattle.screen_cells.specs.Screen.{values, screen_of, cell_at, column_at}
+use Rattle.screen_pictures.specs.declared.cell.Cell.{Cell}
+use Rattle.screen_pictures.specs.Picture.{filler}
+use Rattle.screen_pictures.specs.Screen.{values, screen_of, cell_at, column_at}
 
 module _ {X : Type 0} where
   pub values_is : (n : ℕ) (f : ℕ → X) (xs : List X) (d : X) → length xs ≡ n → ((k : ℕ) → k < n → get_or xs k d ≡ f k)

@@ -6,8 +6,8 @@ use Rattle.readers_scanners.specs.Reading.{contents}
 use Rattle.screen_cells.specs.declared.shown.Shown.{Shown}
 use Rattle.screen_cells.specs.declared.strip.Strip.{Strip}
 use Rattle.screen_cells.specs.declared.strip.Strip.TheVariants.{Filler, Menu, Frame}
-use Rattle.screen_cells.specs.declared.cell.Cell.{Cell}
-use Rattle.screen_cells.specs.Picture.{Viewer, filler, bar_cell, menu_cell, text_cell}
+use Rattle.screen_pictures.specs.declared.cell.Cell.{Cell}
+use Rattle.screen_pictures.specs.Picture.{Viewer, filler, bar_cell, menu_cell, text_cell}
 
 -- a viewer as it reads, over these characters
 abbrev pub as_read : List ℕ → Shown → Viewer

@@ -1,9 +1,9 @@
 //! What holds of all screens, for crates above.
 ghost use Rattle.std.specs.Prelude.{◌≡◌, ◌<◌, ℕ, Option, List};
 ghost use Rattle.viewer_tracks.specs.Columns.{no_viewers};
-ghost use Rattle.screen_cells.specs.declared.cell.Cell.{Cell as ACell};
-ghost use Rattle.screen_cells.specs.Picture.{Viewer, filler_cell, is_at, picture};
-ghost use Rattle.screen_cells.specs.Screen.{screen_of, cell_at};
+ghost use Rattle.screen_pictures.specs.declared.cell.Cell.{Cell as ACell};
+ghost use Rattle.screen_pictures.specs.Picture.{Viewer, filler_cell, is_at, picture};
+ghost use Rattle.screen_pictures.specs.Screen.{screen_of, cell_at};
 
 use viewer_tracks::{COLUMNS, ROWS};
 

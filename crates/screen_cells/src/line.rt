@@ -1,10 +1,10 @@
 //! A printed line of a row.
 ghost use Rattle.std.specs.Prelude.{◌≡◌, ◌<◌, ◌≤◌, length, map};
-ghost use Rattle.screen_cells.specs.Mark.{letter};
-ghost use Rattle.screen_cells.specs.Printed.{row_line, without_trailing, character_line, mark_line, has_mark_line};
+ghost use Rattle.screen_pictures.specs.Mark.{letter};
+ghost use Rattle.screen_pictures.specs.Printed.{row_line, without_trailing, character_line, mark_line, has_mark_line};
 
-use crate::cell::Cell;
 use arrayvec::ArrayVec;
+use screen_pictures::Cell;
 
 /// A row's number and colon, its 80 bytes and a line feed.
 pub(crate) type Line = ArrayVec<u8, 84>;

@@ -2,7 +2,7 @@
 ghost use Rattle.std.specs.Prelude.{◌≡◌, OnOk, OnErr};
 ghost use Rattle.std.specs.Io.KnownBytes.{Appends};
 ghost use Rattle.screen_cells.specs.Sent.{AppendsFront};
-ghost use Rattle.screen_cells.specs.Printed.{printed, character_lines, mark_lines};
+ghost use Rattle.screen_pictures.specs.Printed.{printed, character_lines, mark_lines};
 
 use crate::line::{character_line, has_mark_line, mark_line};
 use crate::screen::Screen;

@@ -2,13 +2,14 @@
 ghost use Rattle.std.specs.Prelude.{◌≡◌, ◌<◌, ◌-◌, if◌then◌else◌, nat_lt, length, map, All, OnOk};
 ghost use Rattle.sector_disk.specs.Trail.{CountsFault};
 ghost use Rattle.char_file.specs.Source.{OnlyReads};
-ghost use Rattle.screen_cells.specs.Picture.{filler, marked, picture};
+ghost use Rattle.screen_pictures.specs.Picture.{filler, marked, picture};
 ghost use Rattle.screen_cells.specs.Shown.{IsShowable, as_read, strip_cell};
-ghost use Rattle.screen_cells.specs.Screen.{screen_of, cell_at, column_at, painted_row, strips_cell, values};
+ghost use Rattle.screen_pictures.specs.Screen.{screen_of, cell_at, column_at, values};
+ghost use Rattle.screen_cells.specs.Rows.{painted_row, strips_cell};
 
-use crate::cell::{Cell, Mark};
 use crate::shown::Shown;
 use crate::strip::{Strip, track_strip};
+use screen_pictures::{Cell, Mark};
 use std::marker::Model;
 use text_frames::{CharSource, Fault};
 use viewer_tracks::{COLUMNS, ROWS, SYSTEM_LEFT, Track, Tracks};
@@ -29,7 +30,7 @@ pub struct Screen {
 
 impl Model for Screen {
     ghost use Rattle.std.specs.Prelude.{◌≡◌, List, length};
-    ghost use Rattle.screen_cells.specs.declared.cell.Cell.{Cell};
+    ghost use Rattle.screen_pictures.specs.declared.cell.Cell.{Cell};
     ghost use Rattle.viewer_tracks.specs.declared.display.TheConstants.{ROWS};
 
     ghost Value = { List (List Cell) };

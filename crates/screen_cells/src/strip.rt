@@ -7,16 +7,16 @@ ghost use Rattle.text_frames.specs.Row.{row_cells};
 ghost use Rattle.viewer_tracks.specs.Display.{left_of};
 ghost use Rattle.viewer_tracks.specs.Viewers.{viewer_at, number_of};
 ghost use Rattle.viewer_tracks.specs.Columns.{shown as shown_track, StandsAt};
-ghost use Rattle.screen_cells.specs.Bytes.{shown_byte};
-ghost use Rattle.screen_cells.specs.Picture.{cell_with, filler, is_at, is_selected, text_cell, caret_at};
-ghost use Rattle.screen_cells.specs.Picture.{viewer_cell, width_of, track_cell};
-ghost use Rattle.screen_cells.specs.Mark.{mark_of};
+ghost use Rattle.screen_pictures.specs.Bytes.{shown_byte};
+ghost use Rattle.screen_pictures.specs.Picture.{cell_with, filler, is_at, is_selected, text_cell, caret_at};
+ghost use Rattle.screen_pictures.specs.Picture.{viewer_cell, width_of, track_cell};
+ghost use Rattle.screen_pictures.specs.Mark.{mark_of};
 ghost use Rattle.screen_cells.specs.Shown.{IsShowable, as_read, strip_cell};
 
-use crate::cell::{Cell, Mark};
 use crate::shown::Shown;
 use arrayvec::ArrayVec;
 use piece_ring::{DEFAULT_LOOK, Look};
+use screen_pictures::{Cell, Mark};
 use text_frames::{CharSource, Fault, Frame, Selection, Text};
 use viewer_tracks::{COLUMNS, ROWS, SYSTEM_LEFT, Track, Tracks, ViewerId};
 
@@ -144,7 +144,7 @@ fn cell_with(blank: u8, c: Option<Filled>, mark: Mark) -> Cell
 }
 
 /// The byte that is shown for one.
-#[tactic(auto, unfolding(crate::specs::Bytes::shown_byte))]
+#[tactic(auto, unfolding(screen_pictures::specs::Bytes::shown_byte))]
 fn shown_byte(byte: u8) -> u8
     ensures { result ≡ shown_byte byte }
 {

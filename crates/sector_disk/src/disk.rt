@@ -7,8 +7,11 @@ ghost use Rattle.sector_disk.specs.Confined.{IsConfined};
 #[derive(Clone, Copy, Debug, PartialEq, Eq)]
 pub struct Fault;
 
+/// How many bytes a sector has.
+pub const SECTOR_BYTES: u32 = 1024;
+
 /// The bytes of a sector.
-pub type Sector = [u8; 1024];
+pub type Sector = [u8; SECTOR_BYTES as usize];
 
 /// Sectors of 1,024 bytes, numbered from 0.
 ///

@@ -1,8 +1,7 @@
 //! Bytes that are read one by one out of sectors.
 ghost use Rattle.std.specs.Prelude.{◌≡◌, ◌+◌, ◌/◌, ◌^◌, ◌<◌, ◌≤◌, ℕ, OnOk, IfOk};
 
-use desk_image::SECTOR_BYTES;
-use sector_disk::{Disk, Fault, Sector};
+use sector_disk::{Disk, Fault, SECTOR_BYTES, Sector};
 
 /// Bytes on their way out of sectors. It holds one sector, and no disk: each call is given the disk.
 #[derive(Drop)]

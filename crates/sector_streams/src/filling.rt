@@ -1,10 +1,9 @@
 //! Bytes that come and fill sectors.
 ghost use Rattle.std.specs.Prelude.{◌≡◌, ◌+◌, ◌*◌, ◌^◌, ◌<◌, ◌≤◌, ◌++◌, [], ℕ, List, OnOk, length, replicate};
 ghost use Rattle.std.specs.Prelude.{take, drop};
-ghost use Rattle.desk_image.specs.declared.limits.TheConstants.{SECTOR_BYTES};
+ghost use Rattle.sector_disk.specs.declared.disk.TheConstants.{SECTOR_BYTES};
 
-use desk_image::SECTOR_BYTES;
-use sector_disk::{Disk, Fault, Sector};
+use sector_disk::{Disk, Fault, SECTOR_BYTES, Sector};
 
 /// A sector of zeros.
 fn blank() -> Sector

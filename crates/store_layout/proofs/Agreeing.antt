@@ -2,7 +2,7 @@
 use Rattle.std.proofs.Common.{◌≡◌, inl, inr, ℕ, ◌+◌, ◌<◌, ◌≤◌, length, sym, ◌∙◌, ap, subst, arith, true, zero, suc}
 use Rattle.std.proofs.lemmas.Bool.{cases_lt}
 use Rattle.sector_disk.specs.Trail.{Content}
-use Rattle.event_loop_laws.specs.Desktop.{Desktop}
+use Rattle.desktop_definitions.specs.Desktop.{Desktop}
 use Rattle.store_layout.specs.declared.layout.TheConstants.{JOURNAL_EVENTS, SLOTS}
 use Rattle.store_layout.specs.Layout.{is_open, slot_gate, gate, head, head_of}
 use Rattle.store_layout.specs.Meaning.{Standing, Stands, Means, full_sectors}

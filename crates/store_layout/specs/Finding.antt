@@ -3,7 +3,7 @@ use Rattle.std.specs.Prelude.{◌≡◌, ◌⊎◌, ◌<◌, ◌≤◌, ◌+◌,
 use Rattle.sector_disk.specs.Trail.{Content}
 use Rattle.event_bytes.specs.declared.event.Event.{Event}
 use Rattle.event_bytes.specs.Spelling.{Begins}
-use Rattle.event_loop_laws.specs.Desktop.{Desktop}
+use Rattle.desktop_definitions.specs.Desktop.{Desktop}
 use Rattle.store_layout.specs.declared.layout.TheConstants.{JOURNAL_EVENTS, LABEL, SLOTS, STORE_SECTORS}
 use Rattle.store_layout.specs.Layout.{is_label, is_open, slot_gate, slot_head, body, image_at, head, IsGoodHead}
 use Rattle.store_layout.specs.Meaning.{HasImage, Means, Shows}

@@ -1,8 +1,8 @@
 -- The sectors that a meaning depends on.
 use Rattle.std.specs.Prelude.{◌≡◌, ◌<◌, ◌+◌, ◌*◌, ℕ, true, ◌↔◌}
 use Rattle.sector_disk.specs.Trail.{Content}
-use Rattle.event_loop_laws.specs.Desktop.{Desktop}
-use Rattle.desk_image.specs.declared.limits.TheConstants.{SECTOR_BYTES}
+use Rattle.desktop_definitions.specs.Desktop.{Desktop}
+use Rattle.sector_disk.specs.declared.disk.TheConstants.{SECTOR_BYTES}
 use Rattle.store_layout.specs.declared.layout.TheConstants.{JOURNAL_EVENTS, LABEL, SLOTS}
 use Rattle.store_layout.specs.Layout.{is_open, slot_gate, slot_head, gate, body, image_at, area_at, head}
 use Rattle.store_layout.specs.Meaning.{Means, full_sectors}

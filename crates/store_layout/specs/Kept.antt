@@ -3,8 +3,8 @@ use Rattle.std.specs.Prelude.{◌≡◌, ◌⊎◌, ◌<◌, ◌≤◌, ◌+◌,
 use Rattle.sector_disk.specs.Trail.{Content, Trail, now}
 use Rattle.event_bytes.specs.declared.event.Event.{Event}
 use Rattle.event_bytes.specs.Spelling.{Begins}
-use Rattle.event_loop_laws.specs.Desktop.{Desktop}
-use Rattle.desk_image.specs.declared.limits.TheConstants.{SECTOR_BYTES}
+use Rattle.desktop_definitions.specs.Desktop.{Desktop}
+use Rattle.sector_disk.specs.declared.disk.TheConstants.{SECTOR_BYTES}
 use Rattle.store_layout.specs.declared.layout.TheConstants.{JOURNAL_EVENTS, AREA_SECTORS, IMAGE_SECTORS}
 use Rattle.store_layout.specs.Layout.{is_open, slot_gate, slot_head, gate, body, image_at, area_at, head, IsGoodHead}
 use Rattle.store_layout.specs.Meaning.{Standing, Stands, desktop_of, HasImage, area_bytes, full_sectors}

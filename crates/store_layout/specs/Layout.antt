@@ -5,7 +5,7 @@ use Rattle.std.specs.List.{starts_with}
 use Rattle.std.specs.Int.{w32, from_be_bytes}
 use Rattle.sector_disk.specs.Trail.{Content}
 use Rattle.desk_image.specs.declared.limits.TheConstants.{IMAGE_BYTES}
-use Rattle.event_loop_laws.specs.Limits.{most_written}
+use Rattle.desktop_definitions.specs.Limits.{most_written}
 use Rattle.store_layout.specs.declared.head.Head.{Head}
 use Rattle.store_layout.specs.declared.layout.TheConstants.{SLOT_GATES, SLOT_HEADS, JOURNALS, JOURNAL_SECTORS}
 use Rattle.store_layout.specs.declared.layout.TheConstants.{IMAGES, IMAGE_SECTORS, AREA, LAYOUT}

@@ -5,10 +5,10 @@ use Rattle.sector_disk.specs.Trail.{Content}
 use Rattle.sector_streams.specs.Stored.{stored}
 use Rattle.event_bytes.specs.declared.event.Event.{Event}
 use Rattle.event_bytes.specs.Spelling.{Begins}
-use Rattle.event_loop_laws.specs.Desktop.{Desktop, KeptDesktop}
-use Rattle.event_loop_laws.specs.Seen.{seen}
-use Rattle.event_loop_laws.specs.Step.{steps}
-use Rattle.desk_image.specs.declared.limits.TheConstants.{SECTOR_BYTES}
+use Rattle.desktop_definitions.specs.Desktop.{Desktop, KeptDesktop}
+use Rattle.desktop_definitions.specs.Seen.{seen}
+use Rattle.desktop_definitions.specs.Step.{steps}
+use Rattle.sector_disk.specs.declared.disk.TheConstants.{SECTOR_BYTES}
 use Rattle.desk_image.specs.Image.{Spells}
 use Rattle.store_layout.specs.declared.head.Head.{Head}
 use Rattle.store_layout.specs.declared.layout.TheConstants.{JOURNAL_EVENTS, LABEL, SLOTS, STORE_SECTORS}

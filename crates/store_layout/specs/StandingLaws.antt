@@ -6,8 +6,8 @@ use Rattle.sector_disk.specs.Trail.{Content}
 use Rattle.sector_streams.specs.Stored.{stored, stored_same}
 use Rattle.event_bytes.specs.declared.event.Event.{Event}
 use Rattle.event_bytes.specs.Spelling.{Begins}
-use Rattle.event_loop_laws.specs.Desktop.{Desktop}
-use Rattle.desk_image.specs.declared.limits.TheConstants.{SECTOR_BYTES}
+use Rattle.desktop_definitions.specs.Desktop.{Desktop}
+use Rattle.sector_disk.specs.declared.disk.TheConstants.{SECTOR_BYTES}
 use Rattle.store_layout.specs.declared.head.Head.{Head}
 use Rattle.store_layout.specs.declared.layout.TheConstants.{JOURNAL_EVENTS, LABEL, SLOTS}
 use Rattle.store_layout.specs.Bits.{true_or_false, clash}

@@ -5,9 +5,9 @@ ghost use Rattle.store_layout.specs.Layout.{head_of, IsGoodHead};
 
 use crate::layout::LAYOUT;
 use byteorder::{BigEndian, ByteOrder};
-use desk_image::{IMAGE_BYTES, SECTOR_BYTES};
-use event_loop_laws::MOST_WRITTEN;
-use sector_disk::Sector;
+use desk_image::IMAGE_BYTES;
+use desktop_definitions::MOST_WRITTEN;
+use sector_disk::{SECTOR_BYTES, Sector};
 
 /// What the head of a slot says, four numbers of four bytes.
 #[derive(Clone, Copy, Debug, PartialEq, Eq)]

@@ -4,9 +4,8 @@ ghost use Rattle.event_bytes.specs.declared.event.Event.{Event};
 ghost use Rattle.event_bytes.specs.Spelling.{Begins};
 ghost use Rattle.store_layout.specs.Layout.{is_open, is_label};
 
-use desk_image::SECTOR_BYTES;
 use event_bytes::Event;
-use sector_disk::Sector;
+use sector_disk::{SECTOR_BYTES, Sector};
 
 /// The label, and then zeros.
 #[tactic(auto, unfolding(crate::specs::Layout::is_label))]

@@ -1,7 +1,7 @@
 use Rattle.std.proofs.Common.{length}
 use Rattle.std.specs.List.{flat_map}
 use Rattle.piece_ring.specs.Flat.{flat}
-use Rattle.event_loop_laws.specs.Looks.{AreLooks}
+use Rattle.desktop_definitions.specs.Looks.{AreLooks}
 use Rattle.desk_image.specs.Image.{pieces_bytes, piece_bytes, AreSome}
 use Rattle.desk_image.proofs.Putting.{IsLeft}
 use Rattle.desk_image.proofs.writing.put_pieces.Given as goal

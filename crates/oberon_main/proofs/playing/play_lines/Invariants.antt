@@ -1,6 +1,6 @@
 use Rattle.std.proofs.Common.{◌≡◌, false}
 use Rattle.desk_journal.specs.View.{IsDurable}
-use Rattle.oberon_main.specs.Reading.{most_lines}
+use Rattle.script_lines.specs.Reading.{most_lines}
 use Rattle.oberon_main.specs.Opened.{session_of}
 use Rattle.oberon_main.proofs.Played.{HasPlayed}
 use Rattle.oberon_main.proofs.Surviving.{AnsweredLines}

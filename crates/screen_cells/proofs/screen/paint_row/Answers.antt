@@ -1,6 +1,6 @@
 use Rattle.std.proofs.Common.{List, ℕ, ap, ◌∙◌, map}
 use Rattle.viewer_tracks.specs.declared.display.Track.TheVariants.{System}
-use Rattle.screen_cells.specs.Picture.{track_cell}
+use Rattle.screen_pictures.specs.Picture.{track_cell}
 use Rattle.screen_cells.specs.Shown.{as_read}
 use Rattle.screen_cells.proofs.Painting.{strips_painted}
 use Rattle.screen_cells.proofs.screen.paint_row.Goals as goal

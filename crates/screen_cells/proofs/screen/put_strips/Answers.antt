@@ -1,6 +1,6 @@
 use Rattle.std.proofs.Common.{◌∙◌, arith}
 use Rattle.viewer_tracks.specs.declared.display.TheConstants.{COLUMNS}
-use Rattle.screen_cells.specs.Picture.{filler}
+use Rattle.screen_pictures.specs.Picture.{filler}
 use Rattle.screen_cells.proofs.Values.{values_is}
 use Rattle.screen_cells.proofs.screen.put_strips.Goals as goal
 

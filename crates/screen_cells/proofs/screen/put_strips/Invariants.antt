@@ -1,5 +1,5 @@
-use Rattle.screen_cells.specs.Picture.{filler}
-use Rattle.screen_cells.specs.Screen.{strips_cell}
+use Rattle.screen_pictures.specs.Picture.{filler}
+use Rattle.screen_cells.specs.Rows.{strips_cell}
 use Rattle.screen_cells.proofs.Painting.{IsDoneTo}
 use Rattle.screen_cells.proofs.screen.put_strips.Given as goal
 

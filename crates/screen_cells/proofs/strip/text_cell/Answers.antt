@@ -1,8 +1,8 @@
 use Rattle.std.proofs.Common.{◌≡◌, ap, ◌∙◌, false, slice_get}
-use Rattle.screen_cells.specs.declared.cell.Mark.TheVariants.{Text as InText}
-use Rattle.screen_cells.specs.Bytes.{space}
-use Rattle.screen_cells.specs.Mark.{mark_of}
-use Rattle.screen_cells.specs.Picture.{cell_with, is_at, is_selected}
+use Rattle.screen_pictures.specs.declared.cell.Mark.TheVariants.{Text as InText}
+use Rattle.screen_pictures.specs.Bytes.{space}
+use Rattle.screen_pictures.specs.Mark.{mark_of}
+use Rattle.screen_pictures.specs.Picture.{cell_with, is_at, is_selected}
 use Rattle.screen_cells.proofs.strip.text_cell.Goals as goal
 
 pub returns : goal.returns

@@ -1,6 +1,6 @@
 use Rattle.std.proofs.Common.{ap, sym, ◌∙◌, ◌==◌, map}
 use Rattle.std.proofs.lemmas.Result.{IfOk-weaker}
-use Rattle.screen_cells.specs.Picture.{Viewer, seen_cell, shown_cell, viewer_cell}
+use Rattle.screen_pictures.specs.Picture.{Viewer, seen_cell, shown_cell, viewer_cell}
 use Rattle.screen_cells.specs.Shown.{as_read}
 use Rattle.screen_cells.proofs.Strips.{found_first, found_none}
 use Rattle.screen_cells.proofs.strip.track_strip.Goals as goal

@@ -1,5 +1,5 @@
 use Rattle.std.proofs.Common.{List, ℕ, ap, ◌∙◌, refl, ◌-◌, ◌+◌, ◌<◌, rules}
-use Rattle.screen_cells.specs.Picture.{caret_at}
+use Rattle.screen_pictures.specs.Picture.{caret_at}
 use Rattle.screen_cells.specs.Shown.{as_read}
 use Rattle.screen_cells.proofs.Strips.{frame_shown}
 use Rattle.screen_cells.proofs.strip.viewer_strip.Goals as goal

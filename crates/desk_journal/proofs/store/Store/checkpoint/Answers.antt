@@ -1,9 +1,9 @@
 use Rattle.std.proofs.Common.{◌≡◌, ◌+◌, ◌-◌, ◌/◌, length, sym, ◌∙◌, subst, refl, arith}
 use Rattle.sector_disk.specs.Trail.{now}
-use Rattle.desk_image.specs.declared.limits.TheConstants.{SECTOR_BYTES}
+use Rattle.sector_disk.specs.declared.disk.TheConstants.{SECTOR_BYTES}
 use Rattle.store_layout.specs.Kept.{IsKept, IsFront}
-use Rattle.desk_journal.specs.Live.{shown}
-use Rattle.desk_journal.proofs.NewSlot.{all_written}
+use Rattle.desk_slots.specs.Live.{shown}
+use Rattle.desk_slots.proofs.NewSlot.{all_written}
 use Rattle.desk_journal.proofs.store.Store.checkpoint.Goals as goal
 
 pub invariant_of-self-2 : goal.invariant_of-self-2

@@ -1,7 +1,7 @@
 use Rattle.std.proofs.Common.{sym, subst, refl}
 use Rattle.store_layout.specs.Kept.{IsKept}
-use Rattle.desk_journal.specs.Live.{shown}
-use Rattle.desk_journal.proofs.Settling.{kept_shows}
+use Rattle.desk_slots.specs.Live.{shown}
+use Rattle.desk_slots.proofs.Settling.{kept_shows}
 use Rattle.desk_journal.proofs.store.Store.open.Goals as goal
 
 pub returns-in-Ok-clause-ok : goal.returns-in-Ok-clause-ok

@@ -1,10 +1,10 @@
 use Rattle.std.proofs.Common.{◌≡◌, ◌<◌, ◌+◌, Ok, ap, sym, subst, refl, arith, false}
 use Rattle.store_layout.specs.declared.layout.TheConstants.{JOURNAL_EVENTS}
 use Rattle.store_layout.specs.Kept.{IsKept}
-use Rattle.desk_journal.specs.Live.{shown}
+use Rattle.desk_slots.specs.Live.{shown}
 use Rattle.desk_journal.specs.Posting.{IsAcknowledged}
 use Rattle.desk_journal.specs.View.{StoreView}
-use Rattle.desk_journal.proofs.Settling.{kept_shows}
+use Rattle.desk_slots.proofs.Settling.{kept_shows}
 use Rattle.desk_journal.proofs.store.Store.put.Goals as goal
 
 pub returns-clause-ok : goal.returns-clause-ok

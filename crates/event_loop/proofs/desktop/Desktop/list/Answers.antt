@@ -1,10 +1,10 @@
 use Rattle.std.proofs.Common.{◌∙◌, ◌++◌, ap}
 use Rattle.viewer_tracks.specs.declared.display.Track.TheVariants.{System}
-use Rattle.event_loop_laws.specs.Desktop.{KeptDesktop}
-use Rattle.event_loop_laws.specs.Seen.{seen}
-use Rattle.event_loop_laws.specs.Listing.{entries_of, track_entries}
-use Rattle.event_loop.specs.Kept.{kept}
-use Rattle.event_loop.proofs.ListLemmas.{list_whole}
+use Rattle.desktop_definitions.specs.Desktop.{KeptDesktop}
+use Rattle.desktop_definitions.specs.Seen.{seen}
+use Rattle.desktop_definitions.specs.Listing.{entries_of, track_entries}
+use Rattle.desk_core.specs.Kept.{kept}
+use Rattle.desk_core.proofs.ListLemmas.{list_whole}
 use Rattle.event_loop.proofs.desktop.Desktop.list.Goals as goal
 
 pub returns-clause-entries : goal.returns-clause-entries

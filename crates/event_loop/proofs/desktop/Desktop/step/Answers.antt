@@ -1,13 +1,13 @@
 use Rattle.std.proofs.Common.{◌∙◌, ap, refl, subst, IfOk, Result}
 use Rattle.std.proofs.lemmas.Result.{IfOk-weaker}
-use Rattle.event_loop_laws.specs.declared.reply.Reply.{Reply}
-use Rattle.event_loop_laws.specs.declared.reply.Reply.TheVariants.{No}
-use Rattle.event_loop_laws.specs.Desktop.{KeptDesktop}
-use Rattle.event_loop_laws.specs.Seen.{seen}
-use Rattle.event_loop_laws.specs.Step.{step, step_in}
-use Rattle.event_loop_laws.specs.Outcome.{IsAnswered, IsUnchanged}
-use Rattle.event_loop.specs.declared.stop.Stop.{Stop}
-use Rattle.event_loop.specs.Kept.{kept}
+use Rattle.desktop_definitions.specs.declared.reply.Reply.{Reply}
+use Rattle.desktop_definitions.specs.declared.reply.Reply.TheVariants.{No}
+use Rattle.desktop_definitions.specs.Desktop.{KeptDesktop}
+use Rattle.desktop_definitions.specs.Seen.{seen}
+use Rattle.desktop_definitions.specs.Step.{step, step_in}
+use Rattle.desktop_definitions.specs.Outcome.{IsAnswered, IsUnchanged}
+use Rattle.desk_core.specs.declared.stop.Stop.{Stop}
+use Rattle.desk_core.specs.Kept.{kept}
 use Rattle.event_loop.proofs.desktop.Desktop.step.Goals as goal
 
 pub returns-clause-done : goal.returns-clause-done
@@ -23,9 +23,9 @@ returns-clause-refusal g c = λ code is.
     let old = g.S.CharSource.characters c.args.source.now in
     let new = g.S.CharSource.characters c.act.new.source in
     let d = kept c.self.inside.desk in
-    let answered : IsAnswered (g.S.CharSource.honest c.args.source.now) old new d (kept c.act.new.self)
+    let answered : IsAnswered (g.S.CharSource.honest c.args.source.now) old new d (kept c.act.new.desk)
     (step (seen old d) c.args.event.now) (No code) =
     subst (λ (r : Result Reply Stop). IfOk r
-    (λ reply. IsAnswered (g.S.CharSource.honest c.args.source.now) old new d (kept c.act.new.self)
+    (λ reply. IsAnswered (g.S.CharSource.honest c.args.source.now) old new d (kept c.act.new.desk)
     (step (seen old d) c.args.event.now) reply)) is c.act.ensures.answered in
-    subst (λ (d : KeptDesktop). IsUnchanged old new d (kept c.act.new.self)) c.self.view_is (answered.refusal code refl)
+    subst (λ (d : KeptDesktop). IsUnchanged old new d (kept c.act.new.desk)) c.self.view_is (answered.refusal code refl)

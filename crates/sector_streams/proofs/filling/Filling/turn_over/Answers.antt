@@ -1,6 +1,6 @@
 use Rattle.std.proofs.Common.{◌≡◌, arith}
 use Rattle.sector_disk.proofs.Confinement.{widened}
-use Rattle.desk_image.specs.declared.limits.TheConstants.{SECTOR_BYTES}
+use Rattle.sector_disk.specs.declared.disk.TheConstants.{SECTOR_BYTES}
 use Rattle.sector_streams.proofs.Filled.{turned, is_within}
 use Rattle.sector_streams.proofs.filling.Filling.turn_over.Goals as goal
 

@@ -1,0 +1,18 @@
+//! Looks for a crash that a store doesn't survive.
+//!
+//! Each round makes stores of its own by random events, from a seed. Calls of a store (events, with the journal full
+//! and not, checkpoints in both directions, and opening) are stopped at the calls of the disk. What a crash may leave
+//! then is tried: all fillings of the pending sectors where they are few, and random ones where they are more. Each
+//! image must open, and show the desktop before the call or the one after it, and the one after it where the call was
+//! acknowledged.
+#![tactic(auto)]
+
+mod fillings;
+mod random;
+mod rounds;
+mod scene;
+mod search;
+mod stores;
+
+pub use rounds::searched;
+pub use search::{Search, Wrong};

@@ -1,0 +1,62 @@
+//! Stores in memory, by the scripts that are played over them.
+
+use oberon_main::{STORE_SECTORS, Store, play, refuse};
+use sector_disk::{Disk, Fuse, MemoryDisk};
+use std::alloc::{AllocError, Global};
+
+/// What a store is asked that must be as it was: its files, its viewers, and its screen.
+const LOOKS: &[u8] = b"list\nshow System.Tool\nshow A.Text\nshow B.Text\nshow C.Text\nscreen\n";
+
+/// Opens the store on a disk and plays a script over it, or says why there is none. The disk, once the store is closed.
+pub fn played<D: Disk + Drop>(alloc: Global, disk: D, script: &[u8], said: &mut Vec<u8>) -> D {
+    match Store::open(alloc, disk) {
+        Err((error, disk)) => {
+            refuse(said, &error);
+            disk
+        }
+        Ok(mut store) => {
+            let mut script = script;
+            play(alloc, &mut script, said, &mut store);
+            store.close()
+        }
+    }
+}
+
+/// A new store, closed.
+pub fn fresh(alloc: Global) -> Result<MemoryDisk, AllocError> {
+    match Store::format(MemoryDisk::new(alloc, STORE_SECTORS)?) {
+        Ok(disk) => Ok(disk),
+        Err(_) => Err(AllocError),
+    }
+}
+
+/// The store after a script.
+pub fn after(alloc: Global, disk: &MemoryDisk, script: &[u8]) -> Result<MemoryDisk, AllocError> {
+    let mut said = Vec::new(alloc);
+    let disk = played(alloc, disk.crash(alloc, &[])?, script, &mut said);
+    disk.crash(alloc, &[])
+}
+
+/// What a store shows; or why there is none.
+pub fn shown(alloc: Global, disk: MemoryDisk) -> Vec<u8> {
+    let mut said = Vec::new(alloc);
+    played(alloc, disk, LOOKS, &mut said);
+    said
+}
+
+/// Whether a disk that fails from that call on is opened.
+fn opens(alloc: Global, disk: &MemoryDisk, calls: u64) -> Result<bool, AllocError> {
+    Ok(Store::open(alloc, Fuse::new(disk.crash(alloc, &[])?, calls)).is_ok())
+}
+
+/// How many calls of its disk opening a store makes.
+pub fn calls_to_open(alloc: Global, disk: &MemoryDisk) -> Result<u64, AllocError> {
+    let mut short: u64 = 0;
+    for step in [2048, 1024, 512, 256, 128, 64, 32, 16, 8, 4, 2, 1] {
+        let calls = short.saturating_add(step);
+        if !opens(alloc, disk, calls)? {
+            short = calls;
+        }
+    }
+    Ok(short.saturating_add(1))
+}

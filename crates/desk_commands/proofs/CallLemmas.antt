@@ -1,0 +1,104 @@
+-- What commands do, by what they take.
+use Rattle.std.specs.Prelude.{◌≡◌, ℕ, ℤ, Bool, List, Option, Some, None, Result, Ok, Err}
+use Rattle.std.specs.Option.{ok_or}
+use Rattle.std.proofs.Common.{refl, sym, ap, ◌∙◌}
+use Rattle.sector_disk.specs.Faults.{OneOf}
+use Rattle.char_file.specs.declared.source.CharSource.{Ghosts}
+use Rattle.readers_scanners.specs.declared.symbol.Symbol.{Symbol}
+use Rattle.command_table.specs.Parameters.{name_in}
+use Rattle.command_table.specs.declared.command.Command.{Command}
+use Rattle.desk_commands.specs.declared.calls.ViewerCommand.{ViewerCommand}
+use Rattle.desktop_definitions.specs.declared.call.Call.{Call}
+use Rattle.desktop_definitions.specs.declared.reply.Reply.TheVariants.{No}
+use Rattle.desktop_definitions.specs.Limits.{first_version, no_command, wrong_symbol, no_viewer}
+use Rattle.desktop_definitions.specs.Needs.{needs, given}
+use Rattle.desktop_definitions.specs.Desktop.{Desktop, KeptDesktop}
+use Rattle.desktop_definitions.specs.Change.{bytes_of}
+use Rattle.desktop_laws.specs.LookedLaws.{font_sets_look, colour_sets_look, offset_sets_look}
+use Rattle.desktop_definitions.specs.Seen.{seen}
+use Rattle.desktop_definitions.specs.Sound.{IsOver}
+use Rattle.desktop_definitions.specs.Outcome.{codes}
+use Rattle.desktop_definitions.specs.Call.{text_called, meant, number_in, value_of, name_of, number_of}
+use Rattle.desktop_definitions.specs.Commands.{command_at, commanded, called}
+use Rattle.desk_commands.specs.Calls.{done_with_name, done_with_number, done_with_viewer}
+use Rattle.desk_core.specs.Row.{Settles}
+use Rattle.desk_commands.proofs.ReadFirst.{Reads, refused_after}
+
+-- a look that is set by a name or a number
+pub ruleset looks_set = (font_sets_look, colour_sets_look, offset_sets_look)
+
+-- ---- what is read after the word
+
+-- no more is done where that is refused
+pub refused_given : {S A : Type 0} (s : Ghosts S) (read : Desktop → Result A ℕ)
+    (follow : Desktop → A → Result Desktop ℕ) (code : ℕ) (old mid : S) (d : KeptDesktop) {found : Result A ℕ}
+    → Reads s old mid → IsOver (s.characters old) d
+    → OneOf codes code → found ≡ Err code → (s.honest old → found ≡ read (seen (s.characters old) d))
+    → Settles s (λ x. given (read x) (follow x)) old mid d d (No code)
+refused_given {A = A} s read follow code old mid d reads over known is exact =
+    refused_after s (λ x. given (read x) (follow x)) code old mid d reads over known
+    (λ h. ap (λ (r : Result A ℕ). given r (follow (seen (s.characters old) d))) (sym (exact h) ∙ is))
+
+same_wanted : {A : Type 0} (o : Option A) → ok_or o wrong_symbol ≡ needs o wrong_symbol (λ a. Ok a)
+same_wanted None = refl
+same_wanted (Some a) = refl
+
+found_by : {A : Type 0} (f : Symbol → Option A) (d : Desktop) (call : Call) (symbol : Symbol)
+    → Ok symbol ≡ value_of d call
+    → ok_or (f symbol) wrong_symbol ≡ given (value_of d call) (λ s. needs (f s) wrong_symbol (λ a. Ok a))
+found_by f d call symbol is =
+    same_wanted (f symbol) ∙ ap (λ (r : Result Symbol ℕ). given r (λ s. needs (f s) wrong_symbol (λ a. Ok a))) is
+
+refused_by : {A : Type 0} (f : Symbol → Option A) (d : Desktop) (call : Call) (code : ℕ) → Err code ≡ value_of d call
+    → Err code ≡ given (value_of d call) (λ s. needs (f s) wrong_symbol (λ a. Ok a))
+refused_by f d call code is =
+    ap (λ (r : Result Symbol ℕ). given r (λ s. needs (f s) wrong_symbol (λ a. Ok a))) is
+
+pub name_found : (d : Desktop) (call : Call) (symbol : Symbol) → Ok symbol ≡ value_of d call
+    → ok_or (name_in symbol) wrong_symbol ≡ name_of d call
+unfolding name_of
+name_found = found_by name_in
+
+pub name_refused : (d : Desktop) (call : Call) (code : ℕ) → Err code ≡ value_of d call → Err code ≡ name_of d call
+unfolding name_of
+name_refused = refused_by name_in
+
+pub number_found : (d : Desktop) (call : Call) (symbol : Symbol) → Ok symbol ≡ value_of d call
+    → ok_or (number_in symbol) wrong_symbol ≡ number_of d call
+unfolding number_of
+number_found = found_by number_in
+
+pub number_refused : (d : Desktop) (call : Call) (code : ℕ) → Err code ≡ value_of d call
+    → Err code ≡ number_of d call
+unfolding number_of
+number_refused = refused_by number_in
+
+-- ---- the viewer that is meant
+
+pub meant_row : (characters : List ℕ) (d : KeptDesktop) (command : ViewerCommand) (call : Call)
+    (found : Option ℕ) (v : ℕ) → found ≡ Some v → found ≡ meant d call
+    → done_with_viewer (seen characters d) command v
+    ≡ needs (meant (seen characters d) call) no_viewer (done_with_viewer (seen characters d) command)
+unfolding seen
+meant_row characters d command call found v is found_is =
+    λ k. needs ((sym is ∙ found_is) k) no_viewer (done_with_viewer (seen characters d) command)
+
+pub meant_none : (characters : List ℕ) (d : KeptDesktop) (command : ViewerCommand) (call : Call) (found : Option ℕ)
+    → found ≡ None → found ≡ meant d call
+    → needs (meant (seen characters d) call) no_viewer (done_with_viewer (seen characters d) command) ≡ Err no_viewer
+unfolding seen
+meant_none characters d command call found is found_is =
+    λ k. needs ((sym found_is ∙ is) k) no_viewer (done_with_viewer (seen characters d) command)
+
+-- ---- the word that is called
+
+-- what a call does, by the command that was found and the position after its word
+abbrev pub called_by : ℕ → Bool → Desktop → Option (Command × ℕ) → Result Desktop ℕ
+called_by v in_menu x found =
+    needs found no_command (λ f. commanded x f.0 (record { viewer = v; in_menu = in_menu; after = f.1 }))
+
+pub called_none : (x : Desktop) (v : ℕ) (in_menu : Bool) (p : ℕ) (found : Option (Command × ℕ)) → found ≡ None
+    → found ≡ command_at first_version (bytes_of (text_called x v in_menu)) p
+    → called first_version x v in_menu p ≡ Err no_command
+unfolding called
+called_none x v in_menu p found is found_is = λ k. called_by v in_menu x ((sym found_is ∙ is) k)

@@ -1,0 +1,5 @@
+pub mod OpeningLemmas
+pub mod ReadFirst
+pub mod StoredLemmas
+pub mod CallLemmas
+pub mod LogLemmas

@@ -1,0 +1,81 @@
+-- A row that reads the source first, and then does the rest: what it owes follows from what the reads leave, and from
+-- what the rest promises over the source in the middle.
+use Rattle.std.proofs.Common.{◌≡◌, ℕ, List, refl, sym, ap, subst, ◌∙◌}
+use Rattle.std.specs.Prelude.{Result, Err, IfOk}
+use Rattle.std.proofs.lemmas.Result.{IfOk-weaker}
+use Rattle.sector_disk.specs.Faults.{OneOf, FailsAs}
+use Rattle.char_file.specs.declared.source.CharSource.{Ghosts}
+use Rattle.char_file.specs.Source.{OnlyReads}
+use Rattle.desktop_definitions.specs.declared.reply.Reply.{Reply}
+use Rattle.desktop_definitions.specs.declared.reply.Reply.TheVariants.{No}
+use Rattle.desktop_definitions.specs.Desktop.{Desktop, KeptDesktop}
+use Rattle.desktop_definitions.specs.Seen.{seen}
+use Rattle.desktop_definitions.specs.Step.{settled}
+use Rattle.desktop_definitions.specs.Sound.{IsOver}
+use Rattle.desktop_definitions.specs.Outcome.{codes}
+use Rattle.desktop_laws.specs.OutcomeLaws.{refused}
+use Rattle.desk_core.specs.declared.stop.Stop.{Stop}
+use Rattle.desk_core.specs.declared.stop.Stop.TheVariants.{Fault}
+use Rattle.desk_core.specs.Stops.{IsStop}
+use Rattle.desk_core.specs.Row.{Settles, Uses}
+use Rattle.desk_core.proofs.ReadLemmas.{over_read, read_first, read_answered, read_then_grows, read_then_source}
+
+module _ {S : Type 0} (s : Ghosts S) where
+  -- what the reads leave
+  abbrev pub Reads : S → S → Type 0
+  Reads old mid = OnlyReads s.characters s.failures s.honest s.same_ground old mid
+
+  -- the desktop is over the source in the middle
+  pub over_after : (old mid : S) (d : KeptDesktop) → Reads old mid → IsOver (s.characters old) d
+      → IsOver (s.characters mid) d
+  over_after old mid d reads over = over_read (s.characters old) (s.characters mid) d reads.as_long over
+
+  -- What the rest does is F of what was read, which is `read` of the desktop as it is seen.
+  pub settles_after : {A : Type 0} (F : Desktop → A → Result Desktop ℕ) (read : Desktop → A) (a : A) (old mid new : S)
+      (d after : KeptDesktop) (result : Result Reply Stop) → Reads old mid
+      → (s.honest old → a ≡ read (seen (s.characters old) d))
+      → IfOk result (Settles s (λ x. F x a) mid new d after)
+      → IfOk result (Settles s (λ x. F x (read x)) old new d after)
+  settles_after F read a old mid new d after result reads is answered =
+      read_first F a (read (seen (s.characters old) d)) (s.honest old) (s.honest mid) (s.characters old)
+      (s.characters mid) (s.characters new) d after result reads.still reads.as_long reads.same is answered
+
+  -- the same of a reply, where the row says F of what was read
+  pub settles_by : {A : Type 0} (F : Desktop → A → Result Desktop ℕ) (read : Desktop → A) (a : A)
+      (row : Desktop → Result Desktop ℕ) (old mid new : S) (d after : KeptDesktop) (result : Result Reply Stop)
+      → Reads old mid → (s.honest old → a ≡ read (seen (s.characters old) d))
+      → ((x : Desktop) → a ≡ read x → F x a ≡ row x)
+      → IfOk result (Settles s (λ x. F x a) mid new d after)
+      → IfOk result (Settles s row old new d after)
+  settles_by F read a row old mid new d after result reads is same answered =
+      IfOk-weaker result (Settles s (λ x. F x a) mid new d after) (Settles s row old new d after)
+      (λ reply done. read_answered (s.honest old) (s.honest mid) (s.characters old) (s.characters mid)
+      (s.characters new) d after _ _ reply reads.still reads.as_long
+      (λ h. (λ k. settled (seen (reads.same h k) d) (F (seen (reads.same h k) d) a))
+      ∙ ap (settled (seen (s.characters old) d)) (same (seen (s.characters old) d) (is h))) done) answered
+
+  -- a refusal after the reads
+  pub refused_after : (row : Desktop → Result Desktop ℕ) (code : ℕ) (old mid : S) (d : KeptDesktop) → Reads old mid
+      → IsOver (s.characters old) d → OneOf codes code
+      → (s.honest old → row (seen (s.characters old) d) ≡ Err code)
+      → Settles s row old mid d d (No code)
+  unfolding settled
+  refused_after row code old mid d reads over known is =
+      read_answered (s.honest old) (s.honest mid) (s.characters old) (s.characters mid) (s.characters mid) d d
+      (settled (seen (s.characters old) d) (row (seen (s.characters old) d))) (seen (s.characters mid) d, No code)
+      (No code) reads.still reads.as_long
+      (λ h. ap (λ (l : List ℕ). (seen l d, No code)) (reads.same h)
+      ∙ sym (ap (settled (seen (s.characters old) d)) (is h)))
+      (refused (s.honest mid) (s.characters mid) d (seen (s.characters mid) d, No code) code
+      (over_after old mid d reads over) known (λ h. refl))
+
+  module _ (ground_through : (a b c : S) → s.same_ground a b → s.same_ground b c → s.same_ground a c) where
+    -- what the source is left with
+    pub uses_after : {T : Type 0} (old mid new : S) (result : Result T Stop) → Reads old mid
+        → s.failures mid ≡ s.failures old → Uses s result mid new → Uses s result old new
+    uses_after old mid new result reads calm uses = record {
+      grows = read_then_grows s.characters s.failures s.honest s.same_ground old mid new reads uses.grows;
+      source = read_then_source s.characters s.failures s.honest s.same_ground ground_through old mid new reads
+          uses.source;
+      faults = subst (λ n. FailsAs Fault IsStop result n (s.failures new)) calm uses.faults;
+    }

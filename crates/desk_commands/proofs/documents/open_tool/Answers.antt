@@ -1,0 +1,39 @@
+use Rattle.std.proofs.Common.{sym, ◌∙◌}
+use Rattle.std.specs.Prelude.{codes}
+use Rattle.std.proofs.lemmas.Result.{IfOk-weaker}
+use Rattle.event_bytes.specs.Bytes.{is_letter, is_digit, is_name_byte}
+use Rattle.desktop_definitions.specs.Limits.{no_file}
+use Rattle.desktop_definitions.specs.Seen.{seen}
+use Rattle.desktop_laws.specs.RowLaws.{known_no_file}
+use Rattle.desktop_laws.specs.KeyLaws.{refusal_answered, row_as}
+use Rattle.desktop_laws.specs.OpeningOnLaws.{tool_missing, tool_row}
+use Rattle.desk_core.specs.Kept.{kept}
+use Rattle.desk_commands.proofs.OpeningLemmas.{no_name, same_name}
+use Rattle.desk_commands.proofs.documents.open_tool.Goals as goal
+
+pub unreachable-requires : goal.unreachable-requires
+unfolding is_letter is_digit is_name_byte
+unreachable-requires g c = no_name (codes "System.Tool") (sym c.in_default.is ∙ c.new.ensures)
+
+pub returns-then-not-contains_key-clause-answered : goal.returns-then-not-contains_key-clause-answered
+unfolding is_letter is_digit is_name_byte
+returns-then-not-contains_key-clause-answered g c =
+    let old = g.S.CharSource.characters c.args.source.now in
+    let d = kept c.args.desk.now in
+    let name = c.in-Some.name in
+    refusal_answered _ old d _ no_file c.requires.over known_no_file
+    (tool_missing old d name c.args.x c.args.y
+    (same_name name (codes "System.Tool") (sym c.in-Some.is ∙ c.new.ensures))
+    (sym c.contains_key.ensures ∙ c.if-not-contains_key.true))
+
+pub returns-clause-answered : goal.returns-clause-answered
+unfolding is_letter is_digit is_name_byte
+returns-clause-answered g c =
+    let old = g.S.CharSource.characters c.args.source.now in
+    let d = kept c.args.desk.now in
+    let name = c.in-Some.name in
+    IfOk-weaker c.open_named.result _ _ (λ reply answered. row_as (seen old d) _ answered
+    (tool_row old d name c.args.x c.args.y
+    (same_name name (codes "System.Tool") (sym c.in-Some.is ∙ c.new.ensures))
+    (sym c.contains_key.ensures ∙ c.if-not-contains_key.false)))
+    c.open_named.ensures.answered

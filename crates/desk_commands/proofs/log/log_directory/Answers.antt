@@ -1,0 +1,48 @@
+use Rattle.std.proofs.Common.{◌∙◌, List, [], ℕ, refl, length, ap, sym, arith}
+use Rattle.std.proofs.lemmas.List.{length-map}
+use Rattle.arrayvec.specs.ArrayVec.{ArrayVec}
+use Rattle.desktop_definitions.specs.Seen.{seen}
+use Rattle.desktop_laws.specs.RowLaws.{has_space, space_written}
+use Rattle.desktop_laws.specs.LogLaws.{line_bytes_map, directory_full, directory_answered, directory_few}
+use Rattle.desk_core.specs.Kept.{kept}
+use Rattle.desk_commands.specs.Lines.{bytes_of_lines, total}
+use Rattle.desk_commands.proofs.log.log_directory.Goals as goal
+
+pub total-count-requires : goal.total-count-requires
+total-count-requires g c =
+    let s = g.S.CharSource in
+    let old = s.characters c.args.source.now in
+    let few = directory_few (s.honest c.args.source.now) old (kept c.args.desk.now) c.requires.over
+    (bytes_of_lines c.in_ok-made.made.items) _ (c.in_ok-made.ensures old) refl in
+    let long = length-map {B = List ℕ} c.in_ok-made.made.items (λ (l : ArrayVec ℕ). l.items) in
+    let same = ap length c.as_slice-lines.ensures.value in
+    omega (arith, few, long, same)
+
+pub returns-then-not-fits_more-clause-answered : goal.returns-then-not-fits_more-clause-answered
+returns-then-not-fits_more-clause-answered g c =
+    let old = g.S.CharSource.characters c.args.source.now in
+    directory_full _ old (kept c.args.desk.now) c.requires.over
+    (bytes_of_lines c.as_slice-lines.result.now) c.total-count.result
+    (ap bytes_of_lines c.as_slice-lines.ensures.value ∙ c.in_ok-made.ensures old)
+    (c.total-count.ensures.value ∙ sym (line_bytes_map (λ (l : ArrayVec ℕ). l.items) c.as_slice-lines.result.now))
+    (sym (c.fits_more.ensures old) ∙ c.if-not-fits_more.true)
+
+pub log_lines-requires-clause-room : goal.log_lines-requires-clause-room
+unfolding seen
+log_lines-requires-clause-room g c =
+    let low = space_written (seen [] (kept c.args.desk.now)) c.total-count.result c.total-count.result 0
+    (sym (c.fits_more.ensures []) ∙ c.if-not-fits_more.false) in
+    omega (arith, low, c.total-count.ensures.value)
+
+pub returns-clause-answered : goal.returns-clause-answered
+returns-clause-answered g c =
+    let s = g.S.CharSource in
+    let old = s.characters c.args.source.now in
+    let d = kept c.args.desk.now in
+    let lines = c.as_slice-lines.result.now in
+    directory_answered (s.honest c.args.source.now) old d c.requires.over (bytes_of_lines lines) (total lines)
+    (ap bytes_of_lines c.as_slice-lines.ensures.value ∙ c.in_ok-made.ensures old)
+    (sym (line_bytes_map (λ (l : ArrayVec ℕ). l.items) lines)) (s.characters c.log_lines.new.source)
+    (kept c.log_lines.new.desk) c.in_ok-log_lines.ensures.logged
+    (λ all. ap (λ n. has_space (seen all d) n n 0) (sym c.total-count.ensures.value) ∙ sym (c.fits_more.ensures all)
+    ∙ c.if-not-fits_more.false)

@@ -1,0 +1,488 @@
+//! Calls of commands: the word that is called, and what stands after it.
+ghost use Rattle.std.specs.Prelude.{◌≡◌, ◌≤◌, length, IfOk, IfErr, IfSome, MatchResult, option_map};
+ghost use Rattle.sector_disk.specs.Trail.{CountsFault};
+ghost use Rattle.sector_disk.specs.Faults.{OneOf};
+ghost use Rattle.char_file.specs.Source.{OnlyReads};
+ghost use Rattle.piece_ring.specs.Flat.{flat};
+ghost use Rattle.readers_scanners.specs.Symbol.{IsShaped};
+ghost use Rattle.viewer_tracks.specs.Columns.{IsPlaced};
+ghost use Rattle.command_table.specs.Parameters.{place_of, text_of, listed};
+ghost use Rattle.desktop_definitions.specs.Limits.{first_version, no_viewer};
+ghost use Rattle.desktop_definitions.specs.Needs.{needs, given};
+ghost use Rattle.desktop_definitions.specs.Call.{text_called, seen_at_marker, meant, number_in};
+ghost use Rattle.desktop_definitions.specs.Call.{value_of, name_of, number_of, names_of};
+ghost use Rattle.desktop_laws.specs.CallLaws.{kept_place, kept_menu};
+ghost use Rattle.desktop_definitions.specs.Commands.{commanded, called};
+ghost use Rattle.desktop_definitions.specs.Effects.{files_deleted};
+ghost use Rattle.desktop_definitions.specs.Seen.{seen};
+ghost use Rattle.desktop_definitions.specs.Sound.{IsKeptWhole, IsOver};
+ghost use Rattle.desktop_definitions.specs.Outcome.{codes as known_codes};
+ghost use Rattle.desk_core.specs.Kept.{kept};
+ghost use Rattle.desk_core.specs.Row.{Settles, Uses};
+ghost use Rattle.desk_commands.specs.Calls.{IsCall, done_with_name, done_with_number, done_with_viewer};
+
+use crate::closings::{close_viewer, recall_viewer};
+use crate::documents::{copy_viewer, open_document, open_file, open_log};
+use crate::log::{clear_log, log_directory};
+use crate::looks::{change_look, colour_set, font_set, offset_set, set_look};
+use crate::searches::{recall_deleted, search};
+use crate::stores::{delete_files, store};
+use arrayvec::ArrayVec;
+use char_file::{CharSource, Fault};
+use command_table::{Command, MOST_NAMES, called, name_in, names, params};
+use desk_core::desk::Desk;
+use desk_core::stop::Stop;
+use desk_core::viewers::viewer_or_none;
+use desk_core::views::text_there;
+use desktop_definitions::{Call, Reply, codes};
+use event_bytes::Name;
+use readers_scanners::Symbol;
+use std::alloc::Global;
+use text_core::Text;
+
+/// A command that takes a name.
+#[derive(Clone, Copy, Debug, PartialEq, Eq)]
+pub enum NameCommand {
+    /// Opens a copy of a file, or an empty text, in the user track.
+    OpenDocument,
+    /// Opens a copy of a file in the system track.
+    OpenFile,
+    /// Sets the font of what is typed.
+    SetFont,
+    /// Gives the newest selection a font.
+    ChangeFont,
+}
+
+/// A command that takes a number.
+#[derive(Clone, Copy, Debug, PartialEq, Eq)]
+pub enum NumberCommand {
+    /// Sets the colour of what is typed.
+    SetColor,
+    /// Sets the vertical offset of what is typed.
+    SetOffset,
+    /// Gives the newest selection a colour.
+    ChangeColor,
+    /// Gives the newest selection a vertical offset.
+    ChangeOffset,
+}
+
+/// A command that takes a viewer.
+#[derive(Clone, Copy, Debug, PartialEq, Eq)]
+pub enum ViewerCommand {
+    /// Closes it; it is kept.
+    Close,
+    /// Opens a second one on its text.
+    Copy,
+    /// Stores its text as the file that its menu names.
+    Store,
+    /// Finds the next place of the pattern in its text.
+    Search,
+}
+
+/// The number that a symbol is. None where it is another symbol.
+fn number_in(symbol: &Symbol) -> Option<i32>
+    ensures { result ≡ number_in symbol.now }
+{
+    match symbol {
+        Symbol::Int(number) => Some(*number),
+        _ => None,
+    }
+}
+
+/// The word at `pos` of a viewer's menu or main text is called. Refused where it is no command's.
+pub fn call<S: CharSource>(
+    desk: &mut Desk,
+    alloc: Global,
+    id: u8,
+    in_menu: bool,
+    pos: u32,
+    source: &mut S,
+) -> Result<Reply, Stop>
+    requires placed { IsPlaced id (kept desk.old).columns }
+    requires place { pos ≤ length (flat (text_called (kept desk.old) id in_menu)) }
+    requires over { IsOver (S.characters source.old) (kept desk.old) }
+    ensures answered { IfOk result (Settles S.CharSource (λ d. called first_version d id in_menu pos)
+        source.old source.new (kept desk.old) (kept desk.new)) }
+    ensures uses { Uses S.CharSource result source.old source.new }
+{
+    let found = called(desk.text_called(id, in_menu), pos, source)?;
+    let Some((command, after)) = found else {
+        return Ok(Reply::No(codes::NO_COMMAND));
+    };
+    let call = Call {
+        viewer: id,
+        in_menu,
+        after,
+    };
+    do_command(desk, alloc, command, call, source)
+}
+
+/// Does what a command does.
+#[tactic(auto, unfolding(desktop_definitions::specs::Commands::commanded, crate::specs::Calls::done_with_name, crate::specs::Calls::done_with_number, crate::specs::Calls::done_with_viewer))]
+fn do_command<S: CharSource>(
+    desk: &mut Desk,
+    alloc: Global,
+    command: Command,
+    call: Call,
+    source: &mut S,
+) -> Result<Reply, Stop>
+    requires call { IsCall (kept desk.old) call }
+    requires over { IsOver (S.characters source.old) (kept desk.old) }
+    ensures answered { IfOk result (Settles S.CharSource (λ d. commanded d command call)
+        source.old source.new (kept desk.old) (kept desk.new)) }
+    ensures uses { Uses S.CharSource result source.old source.new }
+{
+    match command {
+        Command::EditOpen => command_with_name(
+            desk,
+            alloc,
+            NameCommand::OpenDocument,
+            call,
+            source,
+        ),
+        Command::SystemOpen => command_with_name(desk, alloc, NameCommand::OpenFile, call, source),
+        Command::SystemSetFont => command_with_name(
+            desk,
+            alloc,
+            NameCommand::SetFont,
+            call,
+            source,
+        ),
+        Command::EditChangeFont => command_with_name(
+            desk,
+            alloc,
+            NameCommand::ChangeFont,
+            call,
+            source,
+        ),
+        Command::SystemSetColor => command_with_number(
+            desk,
+            alloc,
+            NumberCommand::SetColor,
+            call,
+            source,
+        ),
+        Command::SystemSetOffset => command_with_number(
+            desk,
+            alloc,
+            NumberCommand::SetOffset,
+            call,
+            source,
+        ),
+        Command::EditChangeColor => command_with_number(
+            desk,
+            alloc,
+            NumberCommand::ChangeColor,
+            call,
+            source,
+        ),
+        Command::EditChangeOffset => command_with_number(
+            desk,
+            alloc,
+            NumberCommand::ChangeOffset,
+            call,
+            source,
+        ),
+        Command::SystemClose => command_with_viewer(
+            desk,
+            alloc,
+            ViewerCommand::Close,
+            call,
+            source,
+        ),
+        Command::SystemCopy => command_with_viewer(desk, alloc, ViewerCommand::Copy, call, source),
+        Command::EditStore => command_with_viewer(desk, alloc, ViewerCommand::Store, call, source),
+        Command::EditSearch => command_with_viewer(
+            desk,
+            alloc,
+            ViewerCommand::Search,
+            call,
+            source,
+        ),
+        Command::SystemDeleteFiles => delete_named_files(desk, alloc, call, source),
+        Command::SystemOpenLog => open_log(desk, alloc, source),
+        Command::SystemRecall => recall_viewer(desk, source),
+        Command::SystemClear => clear_log(desk, alloc, source),
+        Command::SystemDirectory => log_directory(desk, alloc, source),
+        Command::EditRecall => recall_deleted(desk, alloc, source),
+    }
+}
+
+/// With the name after the word. Refused where there is none.
+fn command_with_name<S: CharSource>(
+    desk: &mut Desk,
+    alloc: Global,
+    command: NameCommand,
+    call: Call,
+    source: &mut S,
+) -> Result<Reply, Stop>
+    requires call { IsCall (kept desk.old) call }
+    requires over { IsOver (S.characters source.old) (kept desk.old) }
+    ensures answered { IfOk result (Settles S.CharSource (λ d. given (name_of d call) (done_with_name d command))
+        source.old source.new (kept desk.old) (kept desk.new)) }
+    ensures uses { Uses S.CharSource result source.old source.new }
+{
+    match name_of(desk, call, source)? {
+        Ok(name) => do_with_name(desk, alloc, command, &name, source),
+        Err(code) => Ok(Reply::No(code)),
+    }
+}
+
+/// What a command does with a name.
+#[tactic(auto, unfolding(crate::specs::Calls::done_with_name), using(crate::proofs::CallLemmas::looks_set))]
+fn do_with_name<S: CharSource>(
+    desk: &mut Desk,
+    alloc: Global,
+    command: NameCommand,
+    name: &Name,
+    source: &mut S,
+) -> Result<Reply, Stop>
+    requires over { IsOver (S.characters source.old) (kept desk.old) }
+    ensures answered { IfOk result (Settles S.CharSource (λ d. done_with_name d command name.now)
+        source.old source.new (kept desk.old) (kept desk.new)) }
+    ensures uses { Uses S.CharSource result source.old source.new }
+{
+    match command {
+        NameCommand::OpenDocument => open_document(desk, alloc, name, source),
+        NameCommand::OpenFile => open_file(desk, alloc, name, source),
+        NameCommand::SetFont => set_look(desk, font_set(name), source),
+        NameCommand::ChangeFont => change_look(desk, alloc, font_set(name), source),
+    }
+}
+
+/// With the number after the word. Refused where there is none.
+fn command_with_number<S: CharSource>(
+    desk: &mut Desk,
+    alloc: Global,
+    command: NumberCommand,
+    call: Call,
+    source: &mut S,
+) -> Result<Reply, Stop>
+    requires call { IsCall (kept desk.old) call }
+    requires over { IsOver (S.characters source.old) (kept desk.old) }
+    ensures answered { IfOk result (Settles S.CharSource
+        (λ d. given (number_of d call) (done_with_number d command))
+        source.old source.new (kept desk.old) (kept desk.new)) }
+    ensures uses { Uses S.CharSource result source.old source.new }
+{
+    match number_of(desk, call, source)? {
+        Ok(number) => do_with_number(desk, alloc, command, number, source),
+        Err(code) => Ok(Reply::No(code)),
+    }
+}
+
+/// What a command does with a number.
+#[tactic(auto, unfolding(crate::specs::Calls::done_with_number), using(crate::proofs::CallLemmas::looks_set))]
+fn do_with_number<S: CharSource>(
+    desk: &mut Desk,
+    alloc: Global,
+    command: NumberCommand,
+    number: i32,
+    source: &mut S,
+) -> Result<Reply, Stop>
+    requires over { IsOver (S.characters source.old) (kept desk.old) }
+    ensures answered { IfOk result (Settles S.CharSource (λ d. done_with_number d command number)
+        source.old source.new (kept desk.old) (kept desk.new)) }
+    ensures uses { Uses S.CharSource result source.old source.new }
+{
+    match command {
+        NumberCommand::SetColor => set_look(desk, colour_set(number), source),
+        NumberCommand::SetOffset => set_look(desk, offset_set(number), source),
+        NumberCommand::ChangeColor => change_look(desk, alloc, colour_set(number), source),
+        NumberCommand::ChangeOffset => change_look(desk, alloc, offset_set(number), source),
+    }
+}
+
+/// With the viewer that is meant. Refused where there is none.
+fn command_with_viewer<S: CharSource>(
+    desk: &mut Desk,
+    alloc: Global,
+    command: ViewerCommand,
+    call: Call,
+    source: &mut S,
+) -> Result<Reply, Stop>
+    requires call { IsCall (kept desk.old) call }
+    requires over { IsOver (S.characters source.old) (kept desk.old) }
+    ensures answered { IfOk result (Settles S.CharSource
+        (λ d. needs (meant d call) no_viewer (done_with_viewer d command))
+        source.old source.new (kept desk.old) (kept desk.new)) }
+    ensures uses { Uses S.CharSource result source.old source.new }
+{
+    let Some(id) = meant(desk, call) else {
+        return Ok(Reply::No(codes::NO_VIEWER));
+    };
+    do_with_viewer(desk, alloc, command, id, source)
+}
+
+/// What a command does with a viewer.
+#[tactic(auto, unfolding(crate::specs::Calls::done_with_viewer))]
+fn do_with_viewer<S: CharSource>(
+    desk: &mut Desk,
+    alloc: Global,
+    command: ViewerCommand,
+    id: u8,
+    source: &mut S,
+) -> Result<Reply, Stop>
+    requires placed { IsPlaced id (kept desk.old).columns }
+    requires over { IsOver (S.characters source.old) (kept desk.old) }
+    ensures answered { IfOk result (Settles S.CharSource (λ d. done_with_viewer d command id)
+        source.old source.new (kept desk.old) (kept desk.new)) }
+    ensures uses { Uses S.CharSource result source.old source.new }
+{
+    match command {
+        ViewerCommand::Close => close_viewer(desk, id, source),
+        ViewerCommand::Copy => copy_viewer(desk, alloc, id, source),
+        ViewerCommand::Store => store(desk, alloc, id, source),
+        ViewerCommand::Search => search(desk, id, source),
+    }
+}
+
+/// The files of the list after the word go. Refused where there is no list, and where a name of it is no file's or
+/// stands there twice.
+fn delete_named_files<S: CharSource>(
+    desk: &mut Desk,
+    alloc: Global,
+    call: Call,
+    source: &mut S,
+) -> Result<Reply, Stop>
+    requires call { IsCall (kept desk.old) call }
+    requires over { IsOver (S.characters source.old) (kept desk.old) }
+    ensures answered { IfOk result (Settles S.CharSource (λ d. given (names_of d call) (files_deleted d))
+        source.old source.new (kept desk.old) (kept desk.new)) }
+    ensures uses { Uses S.CharSource result source.old source.new }
+{
+    match names_of(desk, call, source)? {
+        Ok(names) => delete_files(desk, alloc, names.as_slice(), source),
+        Err(code) => Ok(Reply::No(code)),
+    }
+}
+
+// ---- what stands after the word
+
+/// The viewer that is seen at the marker. None where there is none.
+fn at_marker(desk: &Desk) -> Option<u8>
+    requires { IsKeptWhole (kept desk.now) }
+    ensures viewer { result ≡ seen_at_marker (kept desk.now) }
+    ensures placed { IfSome result (λ v. IsPlaced v (kept desk.now).columns) }
+{
+    let (x, y) = desk.marker?;
+    let viewer = desk.tracks.at(x, y)?;
+    Some(viewer.0)
+}
+
+/// The viewer in whose menu the word stands, or else the one at the marker. None where there is none.
+fn meant(desk: &Desk, call: Call) -> Option<u8>
+    requires whole { IsKeptWhole (kept desk.now) }
+    requires call { IsCall (kept desk.now) call }
+    ensures viewer { result ≡ meant (kept desk.now) call }
+    ensures placed { IfSome result (λ v. IsPlaced v (kept desk.now).columns) }
+{
+    if call.in_menu {
+        Some(call.viewer)
+    } else {
+        at_marker(desk)
+    }
+}
+
+/// The text of the newest selection, and where that begins. None without a selection.
+fn selection_place(desk: &Desk) -> Option<(&Text, u32)>
+    requires { IsKeptWhole (kept desk.now) }
+    ensures { option_map place_of result ≡ kept_place (kept desk.now) }
+{
+    let selection = desk.newest()?;
+    let viewer = viewer_or_none(&desk.viewers, selection.viewer);
+    Some((text_there(&desk.texts, viewer.main), selection.beg))
+}
+
+/// The menu at the marker. None where no viewer is there.
+fn menu_at_marker(desk: &Desk) -> Option<&Text>
+    requires { IsKeptWhole (kept desk.now) }
+    ensures { option_map text_of result ≡ kept_menu (kept desk.now) }
+{
+    let id = at_marker(desk)?;
+    let viewer = viewer_or_none(&desk.viewers, id);
+    Some(text_there(&desk.texts, viewer.menu))
+}
+
+/// The value after the word, or the code of a refusal. Fault: the source failed in this call.
+fn value_of<S: CharSource>(
+    desk: &Desk,
+    call: Call,
+    source: &mut S,
+) -> Result<Result<Symbol, u8>, Fault>
+    requires call { IsCall (kept desk.now) call }
+    requires over { IsOver (S.characters source.old) (kept desk.now) }
+    ensures exact { IfOk result (λ value. S.honest source.old
+        → value ≡ value_of (seen (S.characters source.old) (kept desk.now)) call) }
+    ensures kind { IfOk result (λ value. MatchResult value IsShaped (OneOf known_codes)) }
+    ensures reads { OnlyReads S.characters S.failures S.honest S.same_ground source.old source.new }
+    ensures cause { CountsFault result (S.failures source.old) (S.failures source.new) }
+{
+    let text = desk.text_called(call.viewer, call.in_menu);
+    params(
+        text,
+        call.after,
+        selection_place(desk),
+        menu_at_marker(desk),
+        source,
+    )
+}
+
+/// The value after the word where it is a name, or the code of a refusal. Fault: the source failed in this call.
+fn name_of<S: CharSource>(
+    desk: &Desk,
+    call: Call,
+    source: &mut S,
+) -> Result<Result<Name, u8>, Fault>
+    requires call { IsCall (kept desk.now) call }
+    requires over { IsOver (S.characters source.old) (kept desk.now) }
+    ensures exact { IfOk result (λ name. S.honest source.old
+        → name ≡ name_of (seen (S.characters source.old) (kept desk.now)) call) }
+    ensures codes { IfOk result (λ name. IfErr name (OneOf known_codes)) }
+    ensures reads { OnlyReads S.characters S.failures S.honest S.same_ground source.old source.new }
+    ensures cause { CountsFault result (S.failures source.old) (S.failures source.new) }
+{
+    match value_of(desk, call, source)? {
+        Ok(symbol) => Ok(name_in(&symbol).ok_or(codes::WRONG_SYMBOL)),
+        Err(code) => Ok(Err(code)),
+    }
+}
+
+/// The value after the word where it is a number, or the code of a refusal. Fault: the source failed in this call.
+fn number_of<S: CharSource>(
+    desk: &Desk,
+    call: Call,
+    source: &mut S,
+) -> Result<Result<i32, u8>, Fault>
+    requires call { IsCall (kept desk.now) call }
+    requires over { IsOver (S.characters source.old) (kept desk.now) }
+    ensures exact { IfOk result (λ number. S.honest source.old
+        → number ≡ number_of (seen (S.characters source.old) (kept desk.now)) call) }
+    ensures codes { IfOk result (λ number. IfErr number (OneOf known_codes)) }
+    ensures reads { OnlyReads S.characters S.failures S.honest S.same_ground source.old source.new }
+    ensures cause { CountsFault result (S.failures source.old) (S.failures source.new) }
+{
+    match value_of(desk, call, source)? {
+        Ok(symbol) => Ok(number_in(&symbol).ok_or(codes::WRONG_SYMBOL)),
+        Err(code) => Ok(Err(code)),
+    }
+}
+
+/// The names of the list after the word, at most 257, or the code of a refusal. Fault: the source failed in this
+/// call.
+fn names_of<S: CharSource>(
+    desk: &Desk,
+    call: Call,
+    source: &mut S,
+) -> Result<Result<ArrayVec<Name, MOST_NAMES>, u8>, Fault>
+    requires call { IsCall (kept desk.now) call }
+    requires over { IsOver (S.characters source.old) (kept desk.now) }
+    ensures exact { IfOk result (λ names. S.honest source.old
+        → listed names ≡ names_of (seen (S.characters source.old) (kept desk.now)) call) }
+    ensures codes { IfOk result (λ names. IfErr names (OneOf known_codes)) }
+    ensures reads { OnlyReads S.characters S.failures S.honest S.same_ground source.old source.new }
+    ensures cause { CountsFault result (S.failures source.old) (S.failures source.new) }
+{
+    let text = desk.text_called(call.viewer, call.in_menu);
+    names(text, call.after, selection_place(desk), source)
+}

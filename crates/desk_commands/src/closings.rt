@@ -1,0 +1,89 @@
+//! Viewers close, and the one that was closed last opens again.
+ghost use Rattle.std.specs.Prelude.{◌≡◌, IfOk, Ok, option_map};
+ghost use Rattle.viewer_tracks.specs.declared.display.Track.{Track as ATrack};
+ghost use Rattle.viewer_tracks.specs.Columns.{IsPlaced};
+ghost use Rattle.viewer_tracks.specs.Display.{left_of};
+ghost use Rattle.viewer_tracks.specs.Viewers.{number_of};
+ghost use Rattle.desktop_definitions.specs.Limits.{no_viewer};
+ghost use Rattle.desktop_definitions.specs.Needs.{needs};
+ghost use Rattle.desktop_definitions.specs.Effects.{put_away, brought_back};
+ghost use Rattle.desktop_definitions.specs.Sound.{IsKeptPlace, IsOver};
+ghost use Rattle.desktop_laws.specs.ClosingLaws.{place_kept};
+ghost use Rattle.desk_core.specs.Kept.{kept};
+ghost use Rattle.desk_core.specs.Row.{Settles, Uses};
+
+use char_file::CharSource;
+use desk_core::desk::Desk;
+use desk_core::stop::Stop;
+use desktop_definitions::{Kept, Reply, codes};
+use viewer_tracks::{SYSTEM_LEFT, Track, ViewerId, edits_keep_columns, edits_place_viewers};
+
+/// The track whose leftmost column this is.
+fn track_from(left: u8) -> Track
+    ensures { (track : ATrack) → left ≡ left_of track → result ≡ track }
+{
+    if left == SYSTEM_LEFT {
+        Track::System
+    } else {
+        Track::User
+    }
+}
+
+/// The viewer that is kept, where one is.
+fn viewer_kept(kept: Option<Kept>) -> Option<ViewerId>
+    ensures { number_of result ≡ option_map (λ k. k.viewer) kept }
+{
+    kept.map(|kept| ViewerId(kept.viewer))
+}
+
+/// A viewer goes from the display with what is marked in it, and is kept with its place. The one that was kept
+/// before is gone, with the texts that nobody else shows.
+pub fn close_viewer<S: CharSource>(desk: &mut Desk, id: u8, source: &mut S) -> Result<Reply, Stop>
+    requires placed { IsPlaced id (kept desk.old).columns }
+    requires over { IsOver (S.characters source.old) (kept desk.old) }
+    ensures answered { IfOk result (Settles S.CharSource (λ d. Ok (put_away d id))
+        source.old source.new (kept desk.old) (kept desk.new)) }
+    ensures uses { Uses S.CharSource result source.old source.new }
+{
+    edits_keep_columns();
+    edits_place_viewers();
+    let gone = viewer_kept(desk.kept);
+    desk.kept = Some(place_kept(desk, id));
+    desk.tracks.close(ViewerId(id));
+    desk.unmark_viewer(id);
+    desk.let_go(gone);
+    Ok(Reply::Done)
+}
+
+/// A viewer of the display with its place, as it is kept once it is closed.
+fn place_kept(desk: &Desk, id: u8) -> Kept
+    requires { IsPlaced id (kept desk.now).columns }
+    ensures value { result ≡ place_kept (kept desk.now).columns id }
+    ensures place { IsKeptPlace result }
+{
+    let place = desk.tracks.place_of(ViewerId(id));
+    Kept {
+        viewer: id,
+        track: track_from(place.x),
+        top: place.top,
+    }
+}
+
+/// The viewer that is kept opens in its track, up to the row where it ended. One whose whole place it takes is
+/// gone, with the texts that nobody else shows. Refused where none is kept.
+pub fn recall_viewer<S: CharSource>(desk: &mut Desk, source: &mut S) -> Result<Reply, Stop>
+    requires over { IsOver (S.characters source.old) (kept desk.old) }
+    ensures answered { IfOk result (Settles S.CharSource
+        (λ d. needs d.kept no_viewer λ k. Ok (brought_back d k))
+        source.old source.new (kept desk.old) (kept desk.new)) }
+    ensures uses { Uses S.CharSource result source.old source.new }
+{
+    let Some(viewer) = desk.kept else {
+        return Ok(Reply::No(codes::NO_VIEWER));
+    };
+    edits_keep_columns();
+    edits_place_viewers();
+    desk.kept = None;
+    desk.open_at(viewer.viewer, viewer.track.left(), viewer.top);
+    Ok(Reply::Done)
+}

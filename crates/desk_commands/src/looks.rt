@@ -1,0 +1,117 @@
+//! What commands set in looks: a selector (bit 0 the font, bit 1 the colour, bit 2 the vertical offset), and a look of
+//! which it takes a field.
+ghost use Rattle.std.specs.Prelude.{◌≡◌, IfOk, Ok};
+ghost use Rattle.desktop_definitions.specs.Limits.{bad_value};
+ghost use Rattle.desktop_definitions.specs.Needs.{needs};
+ghost use Rattle.desktop_definitions.specs.Looks.{font_set, colour_set, offset_set, SetsLook};
+ghost use Rattle.desktop_definitions.specs.Effects.{look_set, selection_set};
+ghost use Rattle.desktop_definitions.specs.Sound.{IsOver};
+ghost use Rattle.desk_core.specs.Kept.{kept};
+ghost use Rattle.desk_core.specs.Row.{Settles, Uses};
+
+use char_file::CharSource;
+use desk_core::desk::Desk;
+use desk_core::stop::Stop;
+use desktop_definitions::{COLOURS, FONTS, GREATEST_OFFSET, LEAST_OFFSET, Reply, codes};
+use event_bytes::Name;
+use piece_ring::{DEFAULT_LOOK, Look};
+use std::alloc::Global;
+
+/// The names of the fonts, by their numbers.
+const FONT_NAMES: [&[u8]; FONTS as usize] = [
+    b"Oberon10.Scn.Fnt",
+    b"Oberon10i.Scn.Fnt",
+    b"Oberon10b.Scn.Fnt",
+    b"Oberon8.Scn.Fnt",
+    b"Oberon12.Scn.Fnt",
+];
+
+/// The font of a name. None where there is no such font.
+pub fn font_set(name: &Name) -> Option<(u8, Look)>
+    ensures { result ≡ font_set name.now }
+{
+    let name = name.as_bytes();
+    let font = FONT_NAMES.iter().position(|font| name == *font)? as u8;
+    Some((
+        1,
+        Look {
+            font,
+            ..DEFAULT_LOOK
+        },
+    ))
+}
+
+/// The colour of a number. None where there is no such colour.
+pub fn colour_set(number: i32) -> Option<(u8, Look)>
+    ensures { result ≡ colour_set number }
+{
+    if number < 0 || number >= i32::from(COLOURS) {
+        return None;
+    }
+    Some((
+        2,
+        Look {
+            colour: number as u8,
+            ..DEFAULT_LOOK
+        },
+    ))
+}
+
+/// That vertical offset. None where it is out of range.
+pub fn offset_set(number: i32) -> Option<(u8, Look)>
+    ensures { result ≡ offset_set number }
+{
+    if number < i32::from(LEAST_OFFSET) || number > i32::from(GREATEST_OFFSET) {
+        return None;
+    }
+    Some((
+        4,
+        Look {
+            voff: number as i8,
+            ..DEFAULT_LOOK
+        },
+    ))
+}
+
+/// What is typed gets a look, in the fields that are set. Refused where none are.
+pub fn set_look<S: CharSource>(
+    desk: &mut Desk,
+    new: Option<(u8, Look)>,
+    source: &mut S,
+) -> Result<Reply, Stop>
+    requires sets { SetsLook new }
+    requires over { IsOver (S.characters source.old) (kept desk.old) }
+    ensures answered { IfOk result (Settles S.CharSource (λ d. needs new bad_value λ set. Ok (look_set d set))
+        source.old source.new (kept desk.old) (kept desk.new)) }
+    ensures uses { Uses S.CharSource result source.old source.new }
+{
+    let Some((selector, look)) = new else {
+        return Ok(Reply::No(codes::BAD_VALUE));
+    };
+    desk.look = desk.look.relooked(selector, look);
+    Ok(Reply::Done)
+}
+
+/// The newest selection gets a look, in the fields that are set, and is the newest then too. Refused where none
+/// are, and without a selection. NoMemory where an allocation is refused.
+pub fn change_look<S: CharSource>(
+    desk: &mut Desk,
+    alloc: Global,
+    new: Option<(u8, Look)>,
+    source: &mut S,
+) -> Result<Reply, Stop>
+    requires sets { SetsLook new }
+    requires over { IsOver (S.characters source.old) (kept desk.old) }
+    ensures answered { IfOk result (Settles S.CharSource (λ d. needs new bad_value (selection_set d))
+        source.old source.new (kept desk.old) (kept desk.new)) }
+    ensures uses { Uses S.CharSource result source.old source.new }
+{
+    let Some((selector, look)) = new else {
+        return Ok(Reply::No(codes::BAD_VALUE));
+    };
+    let Some(selection) = desk.selection() else {
+        return Ok(Reply::No(codes::NO_SELECTION));
+    };
+    desk.set_looks(alloc, selection, selector, look)?;
+    Ok(Reply::Done)
+}

@@ -1,0 +1,206 @@
+//! Viewers open: new texts and new viewers, and the limits before them.
+ghost use Rattle.std.specs.Prelude.{◌≡◌, ◌+◌, ◌<◌, ◌≤◌, ◌^◌, ◌==◌, ◌||◌, ◌&&◌, ◌⊎◌, ℕ, List, [], length, if◌then◌else◌};
+ghost use Rattle.std.specs.Prelude.{IfOk, OnOk, IsTrue, None, nat_lt};
+ghost use Rattle.std.specs.List.{position_or_len};
+ghost use Rattle.std.specs.Map.{keys_of};
+ghost use Rattle.std.specs.Ordering.{nat_cmp};
+ghost use Rattle.std.specs.BTreeMap.{insert_entry};
+ghost use Rattle.piece_ring.specs.Flat.{flat};
+ghost use Rattle.piece_ring.specs.Text.{Text as AText};
+ghost use Rattle.viewer_tracks.specs.declared.display.TheConstants.{COLUMNS};
+ghost use Rattle.viewer_tracks.specs.Viewers.{number_of};
+ghost use Rattle.viewer_tracks.specs.Columns.{replaced_at, times_meant};
+ghost use Rattle.desktop_definitions.specs.Limits.{most_written, most_held};
+ghost use Rattle.desktop_definitions.specs.Tables.{lengths};
+ghost use Rattle.desktop_definitions.specs.Desktop.{held};
+ghost use Rattle.desktop_definitions.specs.Viewers.{viewer_in, without_viewer};
+ghost use Rattle.desktop_definitions.specs.Change.{more_written};
+ghost use Rattle.desktop_definitions.specs.Opening.{least_unused, with_new, opening, opening_on, dropped};
+ghost use Rattle.desktop_definitions.specs.Seen.{seen, seen_table};
+ghost use Rattle.desktop_definitions.specs.Step.{fits};
+ghost use Rattle.desktop_definitions.specs.Sound.{IsKeptWhole};
+ghost use Rattle.desktop_laws.specs.OpenedLaws.{new_id};
+ghost use Rattle.desktop_laws.specs.OpeningDone.{CanOpen};
+ghost use Rattle.desktop_laws.specs.LeftLaws.{is_taken, still_shown, kept_left};
+ghost use Rattle.desk_core.specs.Kept.{kept};
+
+use desk_core::desk::Desk;
+use desk_core::held::{lengths, within_limits};
+use desk_core::stop::NoMemory;
+use desk_core::tables::{unused_id, unused_number};
+use desk_core::viewers::{Texts, Viewers};
+use desktop_definitions::Viewer;
+use std::alloc::Global;
+use std::collections::BTreeMap;
+use text_core::{Buffer, Text};
+use viewer_tracks::{ViewerId, edits_place_viewers};
+
+/// A copy of a text. NoMemory where an allocation is refused.
+pub fn copy_of(alloc: Global, text: &Text) -> Result<Text, NoMemory>
+    ensures { IfOk result (λ copy. flat copy ≡ flat text.now) }
+{
+    let mut buffer = Buffer::new(alloc)?;
+    text.save(alloc, 0, text.len(), &mut buffer)?;
+    let mut copy = Text::new(alloc)?;
+    copy.append(alloc, &mut buffer)?;
+    Ok(copy)
+}
+
+/// Whether a viewer is the one that goes.
+fn is_taken(gone: Option<ViewerId>, id: u8) -> bool
+    ensures { result ≡ is_taken (number_of gone) id }
+{
+    match gone {
+        Some(gone) => gone.0 == id,
+        None => false,
+    }
+}
+
+/// Whether a viewer but the one that goes shows the text of that number.
+fn is_still_shown(viewers: &Viewers, gone: Option<ViewerId>, number: u16) -> bool
+    ensures { result ≡ still_shown (number_of gone) viewers.now.items number }
+{
+    viewers.iter().any(|entry| !is_taken(gone, entry.0)
+        && (entry.1.menu == number || entry.1.main == number))
+}
+
+/// How many characters of a text stay once a viewer is gone: all, or none where nobody else shows it.
+fn length_left(viewers: &Viewers, gone: Option<ViewerId>, number: u16, text: &Text) -> usize
+    ensures { result ≡ (if (number == 0) || still_shown (number_of gone) viewers.now.items number
+        then length (flat text.now) else 0) }
+{
+    if number == 0 || is_still_shown(viewers, gone, number) {
+        text.len() as usize
+    } else {
+        0
+    }
+}
+
+/// How many characters the texts have that stay once a viewer is gone.
+fn lengths_left(texts: &BTreeMap<u16, Text>, viewers: &Viewers, gone: Option<ViewerId>) -> usize
+    requires { lengths (seen_table [] texts.now.entries) ≤ most_held }
+    ensures { result ≡ kept_left (λ n. (n == 0) || still_shown (number_of gone) viewers.now.items n) texts.now.entries }
+{
+    let mut sum = 0;
+    for (number, text) in texts {
+        sum += length_left(viewers, gone, *number, text);
+    }
+    sum
+}
+
+/// The place of the first viewer of a greater id, or the number of viewers.
+fn place_above(viewers: &[(u8, Viewer)], id: u8) -> usize
+    ensures value { result ≡ position_or_len (λ e. nat_lt id e.0) viewers.now }
+    ensures within { result ≤ length viewers.now }
+{
+    viewers
+        .iter()
+        .position(|entry| id < entry.0)
+        .unwrap_or(viewers.len())
+}
+
+/// A text more, of the least number that no text has; returns that number. NoMemory where an allocation is refused.
+pub fn add_text(texts: &mut Texts, text: Text) -> Result<u16, NoMemory>
+    requires { length texts.old.entries < 2 ^ 16 }
+    ensures texts { OnOk result (texts.new.entries ≡ with_new texts.old.entries text) }
+    ensures number { IfOk result (λ n. n ≡ least_unused (keys_of texts.old.entries)) }
+{
+    let number = unused_number(texts);
+    texts.insert(number, text)?;
+    Ok(number)
+}
+
+/// A viewer of a new id comes into the table. NoMemory where an allocation is refused.
+fn add_viewer(viewers: &mut Viewers, id: u8, viewer: Viewer) -> Result<(), NoMemory>
+    requires { viewer_in viewers.old.items id ≡ None }
+    ensures { OnOk result (viewers.new.items ≡ insert_entry nat_cmp viewers.old.items id viewer) }
+{
+    let at = place_above(viewers.as_slice(), id);
+    viewers.insert(at, (id, viewer))?;
+    Ok(())
+}
+
+/// How many characters the desktop holds without that viewer and without the texts that nobody shows then.
+fn held_without(desk: &Desk, gone: Option<ViewerId>) -> usize
+    requires { IsKeptWhole (kept desk.now) }
+    ensures held { (characters : List ℕ)
+        → result ≡ held (dropped (without_viewer (seen characters (kept desk.now)) (number_of gone))) }
+    ensures few { result ≤ most_held }
+{
+    let texts = lengths_left(&desk.texts, &desk.viewers, gone);
+    texts + lengths(&desk.files) + desk.copied.len() as usize + desk.deleted.len() as usize
+}
+
+/// How many characters the desktop holds without the viewer that one replaces which opens at a cell. That isn't the
+/// new one.
+fn held_before(desk: &Desk, x: u8, y: u8) -> usize
+    requires whole { IsKeptWhole (kept desk.now) }
+    requires column { x < COLUMNS }
+    ensures held { (characters : List ℕ) → result ≡ held (dropped
+        (without_viewer (seen characters (kept desk.now)) (replaced_at (kept desk.now).columns x y))) }
+    ensures few { result ≤ most_held }
+    ensures apart { times_meant (new_id (kept desk.now)) (replaced_at (kept desk.now).columns x y) ≡ 0 }
+{
+    edits_place_viewers();
+    held_without(desk, desk.tracks.replaced(x, y))
+}
+
+/// Whether the limits on characters hold once a viewer opens at a cell, with a menu that is written anew and a main
+/// text of so many characters.
+pub fn opening_fits(desk: &Desk, menu: usize, main: u32, x: u8, y: u8) -> bool
+    requires whole { IsKeptWhole (kept desk.now) }
+    requires short { menu < 2 ^ 32 }
+    requires column { x < COLUMNS }
+    ensures room { IsTrue result → desk.now.written + menu ≤ most_written }
+    ensures fits { (characters : List ℕ) (menu_text main_text : AText ℕ) → length menu_text ≡ menu
+        → length main_text ≡ main
+        → result ≡ fits (dropped (more_written
+        (opening (seen characters (kept desk.now)) menu_text main_text (x, y)) menu)) }
+{
+    within_limits(
+        desk.written as usize + menu,
+        held_before(desk, x, y) + main as usize + menu,
+    )
+}
+
+/// Whether the limits on characters hold once a viewer opens at a cell on a text that is there and stays, with a
+/// menu of so many characters, of which `made` are written anew.
+pub fn opening_on_fits(desk: &Desk, made: usize, menu: usize, x: u8, y: u8) -> bool
+    requires whole { IsKeptWhole (kept desk.now) }
+    requires made { made < 2 ^ 32 }
+    requires menu { menu < 2 ^ 32 }
+    requires column { x < COLUMNS }
+    ensures room { IsTrue result → desk.now.written + made ≤ most_written }
+    ensures fits { (characters : List ℕ) (menu_text : AText ℕ) (main org : ℕ) → length menu_text ≡ menu
+        → (main ≡ 0) ⊎ (replaced_at (kept desk.now).columns x y ≡ None)
+        → result ≡ fits (dropped (more_written
+        (opening_on (seen characters (kept desk.now)) menu_text main org (x, y)) made)) }
+{
+    within_limits(desk.written as usize + made, held_before(desk, x, y) + menu)
+}
+
+/// A viewer of a new menu and of the text of a number opens in the track of column `x`, up to row `y`. One whose
+/// whole place it takes is gone, with the texts that nobody else shows. NoMemory where an allocation is refused.
+pub fn open_on(
+    desk: &mut Desk,
+    menu: Text,
+    main: u16,
+    org: u32,
+    x: u8,
+    y: u8,
+) -> Result<(), NoMemory>
+    requires can { CanOpen (kept desk.old) }
+    requires column { x < COLUMNS }
+    ensures { OnOk result (kept desk.new ≡ dropped (opening_on (kept desk.old) menu main org (x, y))) }
+{
+    let number = add_text(&mut desk.texts, menu)?;
+    let id = unused_id(desk.viewers.as_slice());
+    let viewer = Viewer {
+        menu: number,
+        main,
+        org,
+    };
+    add_viewer(&mut desk.viewers, id, viewer)?;
+    desk.open_at(id, x, y);
+    Ok(())
+}

@@ -1,0 +1,166 @@
+//! A text is searched, and what was deleted or copied last is put in.
+ghost use Rattle.std.specs.Prelude.{◌≡◌, ◌+◌, ◌<◌, ◌≤◌, length, take, slice_range, IfOk, IfSome, Ok};
+ghost use Rattle.std.specs.Prelude.{if◌then◌else◌};
+ghost use Rattle.sector_disk.specs.Trail.{CountsFault};
+ghost use Rattle.char_file.specs.Source.{OnlyReads};
+ghost use Rattle.piece_ring.specs.Flat.{flat};
+ghost use Rattle.piece_ring.specs.Offsets.{AreWithin};
+ghost use Rattle.readers_scanners.specs.Reading.{bytes};
+ghost use Rattle.viewer_tracks.specs.Columns.{IsPlaced};
+ghost use Rattle.desktop_definitions.specs.Limits.{no_caret, most_pattern};
+ghost use Rattle.desktop_definitions.specs.Needs.{needs};
+ghost use Rattle.desktop_definitions.specs.Change.{put_at_caret};
+ghost use Rattle.desktop_definitions.specs.Effects.{found_at, pattern_after, searched};
+ghost use Rattle.desktop_laws.specs.SearchLaws.{start_in};
+ghost use Rattle.desktop_definitions.specs.Seen.{seen};
+ghost use Rattle.desktop_definitions.specs.Sound.{IsOver};
+ghost use Rattle.desk_core.specs.Kept.{kept};
+ghost use Rattle.desk_core.specs.Row.{Settles, Uses};
+
+use arrayvec::ArrayVec;
+use char_file::{CharSource, Fault};
+use desk_core::desk::{Desk, PATTERN};
+use desk_core::stop::Stop;
+use desk_core::views::position_in;
+use desktop_definitions::{Reply, codes};
+use readers_scanners::Reader;
+use std::alloc::Global;
+use text_core::Text;
+
+/// The bytes for which a text is searched.
+type Pattern = ArrayVec<u8, PATTERN>;
+
+/// The first bytes of a stretch of a text, 31 at most. Fault: the source failed in this call.
+fn first_bytes<S: CharSource>(
+    text: &Text,
+    beg: u32,
+    end: u32,
+    source: &mut S,
+) -> Result<Pattern, Fault>
+    requires order { beg ≤ end }
+    requires within { end ≤ length (flat text.now) }
+    requires offsets { AreWithin (length (S.characters source.old)) (flat text.now) }
+    ensures bytes { IfOk result (λ pattern. S.honest source.old → pattern.items
+        ≡ take most_pattern (slice_range (bytes (S.characters source.old) (flat text.now)) beg end)) }
+    ensures few { IfOk result (λ pattern. length pattern.items ≤ most_pattern) }
+    ensures reads { OnlyReads S.characters S.failures S.honest S.same_ground source.old source.new }
+    ensures cause { CountsFault result (S.failures source.old) (S.failures source.new) }
+{
+    let mut pattern = Pattern::new();
+    let mut reader = Reader::open(text, beg);
+    for _ in 0..(end - beg).min(PATTERN as u32) {
+        pattern.push(reader.next_byte(source)?);
+    }
+    Ok(pattern)
+}
+
+/// The least position from `pos` on at which the pattern stands. None where it stands nowhere from there on. Fault: the
+/// source failed in this call.
+///
+/// It reads each character once. The window holds those from `place` on that were read, as many as the pattern has at
+/// most.
+fn found_at<S: CharSource>(
+    text: &Text,
+    pattern: &[u8],
+    pos: u32,
+    source: &mut S,
+) -> Result<Option<u32>, Fault>
+    requires some { 0 < length pattern.now }
+    requires few { length pattern.now ≤ most_pattern }
+    requires place { pos ≤ length (flat text.now) }
+    requires offsets { AreWithin (length (S.characters source.old)) (flat text.now) }
+    ensures found { IfOk result (λ found. S.honest source.old
+        → found ≡ found_at (bytes (S.characters source.old) (flat text.now)) pattern.now pos) }
+    ensures within { IfOk result (λ found. IfSome found
+        (λ p. p + length pattern.now ≤ length (flat text.now))) }
+    ensures reads { OnlyReads S.characters S.failures S.honest S.same_ground source.old source.new }
+    ensures cause { CountsFault result (S.failures source.old) (S.failures source.new) }
+{
+    let mut window = Pattern::new();
+    let mut place = pos;
+    let mut reader = Reader::open(text, pos);
+    for _ in pos..text.len() {
+        window.push(reader.next_byte(source)?);
+        if window.len() == pattern.len() {
+            if pattern == window.as_slice() {
+                return Ok(Some(place));
+            }
+            window.remove(0);
+            place += 1;
+        }
+    }
+    Ok(None)
+}
+
+/// A copy of a pattern.
+fn copied(bytes: &[u8]) -> Pattern
+    requires { length bytes.now ≤ most_pattern }
+    ensures { result.items ≡ bytes.now }
+{
+    let mut pattern = Pattern::new();
+    pattern.try_extend_from_slice(bytes).unwrap();
+    pattern
+}
+
+/// The first bytes of the newest selection, 31 at most, and without one those of the last search. Fault: the source
+/// failed in this call.
+fn pattern_after<S: CharSource>(desk: &Desk, source: &mut S) -> Result<Pattern, Fault>
+    requires over { IsOver (S.characters source.old) (kept desk.now) }
+    ensures exact { IfOk result (λ pattern. S.honest source.old
+        → pattern.items ≡ pattern_after (seen (S.characters source.old) (kept desk.now))) }
+    ensures few { IfOk result (λ pattern. length pattern.items ≤ most_pattern) }
+    ensures reads { OnlyReads S.characters S.failures S.honest S.same_ground source.old source.new }
+    ensures cause { CountsFault result (S.failures source.old) (S.failures source.new) }
+{
+    let Some(selection) = desk.newest() else {
+        return Ok(copied(desk.pattern.as_slice()));
+    };
+    let text = desk.main_text(selection.viewer);
+    first_bytes(text, selection.beg, selection.end, source)
+}
+
+/// The caret goes after the first place with the pattern in a viewer's main text, from where it stands there or
+/// else from the beginning, and is shown. Refused without a pattern, and where it isn't found; the old pattern then
+/// stays.
+pub fn search<S: CharSource>(desk: &mut Desk, id: u8, source: &mut S) -> Result<Reply, Stop>
+    requires placed { IsPlaced id (kept desk.old).columns }
+    requires over { IsOver (S.characters source.old) (kept desk.old) }
+    ensures answered { IfOk result (Settles S.CharSource (λ d. searched d id)
+        source.old source.new (kept desk.old) (kept desk.new)) }
+    ensures uses { Uses S.CharSource result source.old source.new }
+{
+    let pattern = pattern_after(desk, source)?;
+    if pattern.is_empty() {
+        return Ok(Reply::No(codes::NO_SELECTION));
+    }
+    let start = start_in(desk, id);
+    let text = desk.main_text(id);
+    let Some(pos) = found_at(text, pattern.as_slice(), start, source)? else {
+        return Ok(Reply::No(codes::NOT_FOUND));
+    };
+    desk.show_caret(id, pos + pattern.len() as u32, source)?;
+    desk.pattern = pattern;
+    Ok(Reply::Done)
+}
+
+/// Where a search starts in a viewer's main text: at the caret, and where that isn't there at the beginning.
+fn start_in(desk: &Desk, id: u8) -> u32
+    ensures { result ≡ start_in id (kept desk.now).caret }
+{
+    position_in(id, desk.caret).unwrap_or(0)
+}
+
+/// What was deleted last is put in at the caret. Refused without a caret.
+pub fn recall_deleted<S: CharSource>(
+    desk: &mut Desk,
+    alloc: Global,
+    source: &mut S,
+) -> Result<Reply, Stop>
+    requires over { IsOver (S.characters source.old) (kept desk.old) }
+    ensures answered { IfOk result (Settles S.CharSource
+        (λ d. needs d.caret no_caret λ c. Ok (put_at_caret d d.deleted c))
+        source.old source.new (kept desk.old) (kept desk.new)) }
+    ensures uses { Uses S.CharSource result source.old source.new }
+{
+    desk.put_buffer(alloc, true, source)
+}

@@ -1,0 +1,185 @@
+//! Files are stored and deleted, each with a line of the log.
+ghost use Rattle.std.specs.Prelude.{◌≡◌, ◌+◌, ◌≤◌, ℕ, List, [], length, fold, map, IsTrue, IfOk, Ok};
+ghost use Rattle.sector_disk.specs.Trail.{CountsFault};
+ghost use Rattle.char_file.specs.Source.{OnlyReads};
+ghost use Rattle.viewer_tracks.specs.Columns.{IsPlaced};
+ghost use Rattle.command_table.specs.Deciding.{is_among, can_be_deleted};
+ghost use Rattle.desktop_laws.specs.StoreLaws.{can_go};
+ghost use Rattle.desktop_definitions.specs.Effects.{menu_name, stored, stored_as, files_deleted, without_file};
+ghost use Rattle.desktop_definitions.specs.Effects.{deleting_line};
+ghost use Rattle.desktop_definitions.specs.Limits.{most_held, too_many_files};
+ghost use Rattle.desktop_definitions.specs.Needs.{unless};
+ghost use Rattle.desktop_definitions.specs.Tables.{has_room, lengths};
+ghost use Rattle.desktop_definitions.specs.Viewers.{main_of};
+ghost use Rattle.desktop_definitions.specs.Seen.{seen, seen_table};
+ghost use Rattle.desktop_definitions.specs.Sound.{IsOver};
+ghost use Rattle.std.specs.Map.{keys_of};
+ghost use Rattle.desk_core.specs.Kept.{kept};
+ghost use Rattle.desk_core.specs.Row.{Settles, Uses};
+ghost use Rattle.desk_commands.specs.Lines.{bytes_of_lines};
+
+use crate::log::{Line, deleting_line, log_line, log_lines, storing_line, total};
+use crate::openings::copy_of;
+use char_file::{CharSource, Fault};
+use command_table::{name_in, symbol_at};
+use desk_core::desk::Desk;
+use desk_core::files::{Files, has_room, length_of, put, size_of};
+use desk_core::stop::{NoMemory, Stop};
+use desktop_definitions::{Reply, codes};
+use event_bytes::Name;
+use std::alloc::Global;
+use std::vec::Vec;
+
+/// Whether a name is among these.
+fn is_among(names: &[Name], name: &Name) -> bool
+    ensures { result ≡ is_among names.now name.now }
+{
+    names.iter().any(|other| *name == *other)
+}
+
+/// Whether a name is a file's, and isn't among the others.
+fn can_go(files: &Files, name: &Name, others: &[Name]) -> bool
+    ensures { result ≡ can_go (keys_of files.now.entries) name.now others.now }
+{
+    files.contains_key(name) && !is_among(others, name)
+}
+
+/// Whether each name is a file's, and none stands there twice.
+fn can_be_deleted(files: &Files, names: &[Name]) -> bool
+    ensures { result ≡ can_be_deleted (keys_of files.now.entries) names.now }
+{
+    for at in 0..names.len() {
+        if !can_go(files, &names[at], &names[at + 1..]) {
+            return false;
+        }
+    }
+    true
+}
+
+/// The files of these names go.
+fn remove(files: &mut Files, names: &[Name])
+    ensures { files.new.entries ≡ fold without_file files.old.entries names.now }
+{
+    for name in names {
+        files.remove(name);
+    }
+}
+
+/// How many characters the files of these names have.
+fn lengths_of(files: &Files, names: &[Name]) -> usize
+    requires files { lengths (seen_table [] files.now.entries) ≤ most_held }
+    requires distinct { IsTrue (can_be_deleted (keys_of files.now.entries) names.now) }
+    ensures sum { (characters : List ℕ)
+        → lengths (fold without_file (seen_table characters files.now.entries) names.now) + result
+        ≡ lengths (seen_table characters files.now.entries) }
+    ensures few { result ≤ most_held }
+{
+    let mut sum = 0;
+    for name in names {
+        sum += size_of(files, name);
+    }
+    sum
+}
+
+/// A line for each name. NoMemory where an allocation is refused.
+fn deleting_lines(alloc: Global, names: &[Name]) -> Result<Vec<Line>, NoMemory>
+    ensures { IfOk result (λ lines. bytes_of_lines lines.items ≡ map deleting_line names.now) }
+{
+    let mut lines = Vec::new(alloc);
+    for name in names {
+        lines.push(deleting_line(name))?;
+    }
+    Ok(lines)
+}
+
+/// The files of these names go, each with a line of the log. Refused where a name is no file's, or stands there
+/// twice.
+pub fn delete_files<S: CharSource>(
+    desk: &mut Desk,
+    alloc: Global,
+    names: &[Name],
+    source: &mut S,
+) -> Result<Reply, Stop>
+    requires few { length names.now ≤ 257 }
+    requires over { IsOver (S.characters source.old) (kept desk.old) }
+    ensures answered { IfOk result (Settles S.CharSource (λ d. files_deleted d names.now)
+        source.old source.new (kept desk.old) (kept desk.new)) }
+    ensures uses { Uses S.CharSource result source.old source.new }
+{
+    if !can_be_deleted(&desk.files, names) {
+        return Ok(Reply::No(codes::NO_FILE));
+    }
+    let made = deleting_lines(alloc, names)?;
+    let lines = made.as_slice();
+    let count = total(lines);
+    if !desk.fits_more(count, count, lengths_of(&desk.files, names)) {
+        return Ok(Reply::No(codes::FULL));
+    }
+    remove(&mut desk.files, names);
+    log_lines(desk, alloc, lines, source)?;
+    Ok(Reply::Done)
+}
+
+/// A viewer's main text becomes the file that the first symbol of its menu names, with a line of the log. Refused
+/// where that symbol is no name, and where there is no room for one more file.
+pub fn store<S: CharSource>(
+    desk: &mut Desk,
+    alloc: Global,
+    id: u8,
+    source: &mut S,
+) -> Result<Reply, Stop>
+    requires placed { IsPlaced id (kept desk.old).columns }
+    requires over { IsOver (S.characters source.old) (kept desk.old) }
+    ensures answered { IfOk result (Settles S.CharSource (λ d. stored d id)
+        source.old source.new (kept desk.old) (kept desk.new)) }
+    ensures uses { Uses S.CharSource result source.old source.new }
+{
+    match menu_name(desk, id, source)? {
+        Some(name) => store_as(desk, alloc, id, &name, source),
+        None => Ok(Reply::No(codes::WRONG_SYMBOL)),
+    }
+}
+
+/// The first symbol of a viewer's menu. None where it is no name. Fault: the source failed in this call.
+fn menu_name<S: CharSource>(desk: &Desk, id: u8, source: &mut S) -> Result<Option<Name>, Fault>
+    requires placed { IsPlaced id (kept desk.now).columns }
+    requires over { IsOver (S.characters source.old) (kept desk.now) }
+    ensures exact { IfOk result (λ name. S.honest source.old
+        → name ≡ menu_name (seen (S.characters source.old) (kept desk.now)) id) }
+    ensures reads { OnlyReads S.characters S.failures S.honest S.same_ground source.old source.new }
+    ensures cause { CountsFault result (S.failures source.old) (S.failures source.new) }
+{
+    let symbol = symbol_at(desk.text_called(id, true), 0, source)?;
+    Ok(name_in(&symbol))
+}
+
+/// A viewer's main text becomes the file of that name, with a line of the log. Refused where there is no room for
+/// one more file.
+fn store_as<S: CharSource>(
+    desk: &mut Desk,
+    alloc: Global,
+    id: u8,
+    name: &Name,
+    source: &mut S,
+) -> Result<Reply, Stop>
+    requires placed { IsPlaced id (kept desk.old).columns }
+    requires over { IsOver (S.characters source.old) (kept desk.old) }
+    ensures answered { IfOk result (Settles S.CharSource
+        (λ d. unless (has_room d.files name.now) too_many_files (Ok (stored_as d name.now (main_of d id))))
+        source.old source.new (kept desk.old) (kept desk.new)) }
+    ensures uses { Uses S.CharSource result source.old source.new }
+{
+    if !has_room(&desk.files, name) {
+        return Ok(Reply::No(codes::TOO_MANY_FILES));
+    }
+    let text = desk.main_text(id);
+    let line = storing_line(name, text.len());
+    let more = text.len() as usize + line.len();
+    if !desk.fits_more(line.len(), more, length_of(&desk.files, name)) {
+        return Ok(Reply::No(codes::FULL));
+    }
+    let copy = copy_of(alloc, text)?;
+    put(&mut desk.files, name, copy)?;
+    log_line(desk, alloc, line.as_slice(), source)?;
+    Ok(Reply::Done)
+}

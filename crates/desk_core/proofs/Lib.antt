@@ -1,0 +1,12 @@
+pub mod HeldLemmas
+pub mod EmptyLemmas
+pub mod GoneLemmas
+pub mod ListLemmas
+pub mod ViewerLemmas
+pub mod TextLemmas
+pub mod ViewLemmas
+pub mod PositionLemmas
+pub mod MarkLemmas
+pub mod StretchLemmas
+pub mod ReadLemmas
+pub mod ArmLemmas

@@ -1,0 +1,8 @@
+use Rattle.desk_core.specs.Kept.{kept}
+use Rattle.desk_core.proofs.PositionLemmas.{never_none}
+use Rattle.desk_core.proofs.desk.Desk.main_text.Goals as goal
+
+pub unreachable-requires : goal.unreachable-requires
+unreachable-requires c =
+    never_none (kept c.args.self.now) c.args.id c.viewer_or_none-viewer.result c.requires.whole c.requires.placed
+    c.viewer_or_none-viewer.ensures c.in-None.ensures.value

@@ -1,0 +1,6 @@
+pub mod Kept
+pub mod Positions
+pub mod Stops
+pub mod Movable
+pub mod Row
+pub mod Mouse

@@ -1,0 +1,14 @@
+-- Which frames can be moved.
+use Rattle.std.specs.Prelude.{◌≤◌, ℕ, List, length, IsSome}
+use Rattle.piece_ring.specs.Flat.{flat}
+use Rattle.piece_ring.specs.Offsets.{AreWithin}
+use Rattle.piece_ring.specs.declared.piece.Piece.{Piece}
+use Rattle.desktop_definitions.specs.declared.viewer.Viewer.{Viewer}
+use Rattle.desktop_definitions.specs.Tables.{Texts, numbered}
+use Rattle.desktop_definitions.specs.Viewers.{text_in}
+
+-- the frame of a viewer's main text can be moved where there are n characters
+pub record IsMovable (n : ℕ) (texts : Texts (List Piece)) (viewer : Viewer) : Type 0 where
+  pub there : IsSome (numbered texts viewer.main)
+  pub org : viewer.org ≤ length (flat (text_in texts viewer.main))
+  pub offsets : AreWithin n (flat (text_in texts viewer.main))

@@ -1,0 +1,29 @@
+-- What a method promises that does an event, or the rest of one.
+use Rattle.std.specs.Prelude.{ℕ, Result}
+use Rattle.sector_disk.specs.Faults.{FailsAs}
+use Rattle.char_file.specs.declared.source.CharSource.{Ghosts}
+use Rattle.desktop_definitions.specs.declared.reply.Reply.{Reply}
+use Rattle.desktop_definitions.specs.Desktop.{Desktop, KeptDesktop}
+use Rattle.desktop_definitions.specs.Seen.{seen}
+use Rattle.desktop_definitions.specs.Step.{settled}
+use Rattle.desktop_definitions.specs.Sound.{Grows}
+use Rattle.desktop_definitions.specs.Outcome.{IsAnswered, IsSameSource}
+use Rattle.desk_core.specs.declared.stop.Stop.{Stop}
+use Rattle.desk_core.specs.declared.stop.Stop.TheVariants.{Fault}
+use Rattle.desk_core.specs.Stops.{IsStop}
+
+module _ {S : Type 0} (s : Ghosts S) where
+  -- The reply, and the desktop that is kept after it, are what is settled of the row, where that says what becomes of a
+  -- desktop as it is seen.
+  abbrev pub Settles : (Desktop → Result Desktop ℕ) → S → S → KeptDesktop → KeptDesktop → Reply → Type 0
+  Settles row old new before after reply =
+      IsAnswered (s.honest old) (s.characters old) (s.characters new) before after
+      (settled (seen (s.characters old) before) (row (seen (s.characters old) before))) reply
+
+  -- Of the source of characters, whatever is returned.
+  pub record Uses {T : Type 0} (result : Result T Stop) (old new : S) : Type 0 where
+    -- an honest one has the same characters as before, and more at most
+    pub grows : s.honest old → Grows (s.characters old) (s.characters new)
+    pub source : IsSameSource s.failures s.honest s.same_ground old new
+    -- which errors there are, and that it failed exactly where the call says so
+    pub faults : FailsAs Fault IsStop result (s.failures old) (s.failures new)

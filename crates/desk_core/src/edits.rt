@@ -1,0 +1,251 @@
+//! Edits that several rows have: what is put in or taken out, with the caret where it was, and copies of stretches.
+ghost use Rattle.std.specs.Prelude.{◌≡◌, ◌+◌, ◌-◌, ◌<◌, ◌≤◌, ◌^◌, ◌&&◌, ℕ, List, length, nat_le};
+ghost use Rattle.std.specs.Prelude.{IfOk, IfSome, IsSome, OnOk};
+ghost use Rattle.sector_disk.specs.Faults.{FailsAs};
+ghost use Rattle.readers_scanners.specs.Words.{OnlyReads, flat};
+ghost use Rattle.piece_ring.specs.Text.{stretch};
+ghost use Rattle.desktop_definitions.specs.Limits.{most_written, most_held};
+ghost use Rattle.desktop_definitions.specs.Tables.{numbered};
+ghost use Rattle.desktop_definitions.specs.Viewers.{viewer_or_none, newest};
+ghost use Rattle.desktop_definitions.specs.Change.{put_in, put_at_caret, cut_out};
+ghost use Rattle.desktop_definitions.specs.Seen.{seen, seen_text};
+ghost use Rattle.desktop_definitions.specs.Sound.{IsKeptWhole, IsBuilt, IsOver};
+ghost use Rattle.desktop_definitions.specs.Changed.{IsChanged};
+ghost use Rattle.desktop_laws.specs.RowLaws.{has_space};
+ghost use Rattle.desktop_laws.specs.RowPartLaws.{kept_main};
+ghost use Rattle.desk_core.specs.Kept.{kept};
+ghost use Rattle.desk_core.specs.Positions.{IsPosition, CanGo};
+ghost use Rattle.desk_core.specs.Stops.{IsStop};
+ghost use Rattle.piece_ring.specs.Flat.{flat, run};
+ghost use Rattle.std.specs.Prelude.{Ok};
+ghost use Rattle.std.specs.Prelude.{if◌then◌else◌};
+ghost use Rattle.desktop_definitions.specs.Limits.{no_caret};
+ghost use Rattle.desktop_definitions.specs.Needs.{needs};
+ghost use Rattle.desk_core.specs.Row.{Settles, Uses};
+
+use crate::desk::Desk;
+use crate::stop::{NoMemory, Stop};
+use crate::viewers::viewer_of;
+use char_file::CharSource;
+use desktop_definitions::{Caret, MOST_HELD, MOST_WRITTEN, Reply, Selection, codes};
+use piece_ring::{Look, Piece};
+use std::alloc::Global;
+use text_core::Buffer;
+
+impl Desk {
+    /// Whether the limits on characters hold once `made` more are written, and `more` more and `fewer` fewer held.
+    pub fn fits_more(&self, made: usize, more: usize, fewer: usize) -> bool
+        requires whole { IsKeptWhole (kept self.now) }
+        requires made { made < 2 ^ 32 }
+        requires more { more < 2 ^ 32 }
+        requires fewer { fewer < 2 ^ 32 }
+        ensures { (characters : List ℕ) → result ≡ has_space (seen characters (kept self.now)) made more fewer }
+    {
+        let held = self.held();
+        is_space(self.written as usize + made, held + more, fewer)
+    }
+
+    /// The selection that was made last, if there is one.
+    pub fn newest(&self) -> Option<Selection>
+        ensures { result ≡ newest (kept self.now) }
+    {
+        self.selections.last().copied()
+    }
+
+    /// The selection that was made last, if there is one: a stretch that stands there.
+    pub fn selection(&self) -> Option<Selection>
+        requires { IsKeptWhole (kept self.now) }
+        ensures is { result ≡ newest (kept self.now) }
+        ensures some { IfSome result (λ s. s.beg < s.end) }
+        ensures stands { IfSome result (λ s. IsPosition (kept self.now) s.viewer s.end) }
+        ensures there { IfSome result (λ s. IsSome (numbered (kept self.now).texts
+            (viewer_or_none (kept self.now).viewers s.viewer).main)) }
+    {
+        self.newest()
+    }
+
+    /// Where the caret stands, if there is one.
+    pub fn caret_place(&self) -> Option<Caret>
+        requires { IsKeptWhole (kept self.now) }
+        ensures is { result ≡ (kept self.now).caret }
+        ensures stands { IfSome result (λ c. IsPosition (kept self.now) c.viewer c.position) }
+    {
+        self.caret
+    }
+
+    /// The number of a viewer's main text.
+    pub fn main_of(&self, id: u8) -> u16
+        ensures { result ≡ (viewer_or_none (kept self.now).viewers id).main }
+    {
+        match viewer_of(&self.viewers, id) {
+            Some(viewer) => viewer.main,
+            None => 0,
+        }
+    }
+
+    /// The characters of a stretch of a viewer's main text.
+    fn characters_of(&self, alloc: Global, selection: Selection) -> Result<Buffer, NoMemory>
+        requires order { selection.beg ≤ selection.end }
+        requires within { selection.end ≤ length (flat (kept_main (kept self.now) selection.viewer)) }
+        ensures { IfOk result (λ copy. flat copy
+            ≡ stretch selection.beg selection.end (flat (kept_main (kept self.now) selection.viewer))) }
+    {
+        let mut copy = Buffer::new(alloc)?;
+        let number = self.main_of(selection.viewer);
+        if let Some(text) = self.texts.get(&number) {
+            text.save(alloc, selection.beg, selection.end, &mut copy)?;
+        }
+        Ok(copy)
+    }
+
+    /// A copy of a stretch of a viewer's main text, which can go into any viewer's.
+    pub fn copy_of(&self, alloc: Global, selection: Selection) -> Result<Buffer, NoMemory>
+        requires order { selection.beg ≤ selection.end }
+        requires within { selection.end ≤ length (flat (kept_main (kept self.now) selection.viewer)) }
+        ensures is { IfOk result (λ copy. flat copy
+            ≡ stretch selection.beg selection.end (flat (kept_main (kept self.now) selection.viewer))) }
+        ensures goes { IfOk result (λ copy. (characters : List ℕ) (v : ℕ) → IsOver characters (kept self.now)
+            → CanGo (length characters) (kept self.now) v copy) }
+    {
+        let copy = self.characters_of(alloc, selection)?;
+        Ok(copy)
+    }
+
+    /// Puts the buffer's characters into a viewer's main text at `pos`, and the caret after them, where it is shown.
+    pub fn put_in<S: CharSource>(
+        &mut self,
+        alloc: Global,
+        id: u8,
+        pos: u32,
+        buffer: &mut Buffer,
+        source: &mut S,
+    ) -> Result<(), Stop>
+        requires built { IsBuilt (length (S.characters source.old)) (kept self.old) }
+        requires at { IsPosition (kept self.old) id pos }
+        requires goes { CanGo (length (S.characters source.old)) (kept self.old) id buffer.old }
+        ensures changed { OnOk result (IsChanged (S.honest source.old) (S.characters source.old) (kept self.old)
+            (kept self.new) (put_in (seen (S.characters source.old) (kept self.old)) id pos
+            (seen_text (S.characters source.old) buffer.old)) (length (flat buffer.old)) 0) }
+        ensures reads { OnlyReads S.characters S.failures S.honest S.same_ground source.old source.new }
+        ensures faults { FailsAs Stop.Fault IsStop result (S.failures source.old) (S.failures source.new) }
+    {
+        let number = self.main_of(id);
+        let len = buffer.len();
+        self.insert(alloc, number, pos, buffer, source)?;
+        self.show_caret(id, pos + len, source)?;
+        Ok(())
+    }
+
+    /// Puts the buffer's characters in at the caret, and the caret after them, where it is shown. Where there are none
+    /// nothing changes.
+    pub fn put_at_caret<S: CharSource>(
+        &mut self,
+        alloc: Global,
+        caret: Caret,
+        buffer: &mut Buffer,
+        source: &mut S,
+    ) -> Result<(), Stop>
+        requires built { IsBuilt (length (S.characters source.old)) (kept self.old) }
+        requires at { IsPosition (kept self.old) caret.viewer caret.position }
+        requires goes { CanGo (length (S.characters source.old)) (kept self.old) caret.viewer buffer.old }
+        ensures changed { OnOk result (IsChanged (S.honest source.old) (S.characters source.old) (kept self.old)
+            (kept self.new) (put_at_caret (seen (S.characters source.old) (kept self.old))
+            (seen_text (S.characters source.old) buffer.old) caret) (length (flat buffer.old)) 0) }
+        ensures reads { OnlyReads S.characters S.failures S.honest S.same_ground source.old source.new }
+        ensures faults { FailsAs Stop.Fault IsStop result (S.failures source.old) (S.failures source.new) }
+    {
+        if buffer.len() == 0 {
+            return Ok(());
+        }
+        self.put_in(alloc, caret.viewer, caret.position, buffer, source)?;
+        Ok(())
+    }
+
+    /// Takes a viewer's stretch out, and puts the caret where it was, which is shown; the buffer has exactly these
+    /// characters then.
+    pub fn cut_out<S: CharSource>(
+        &mut self,
+        alloc: Global,
+        selection: Selection,
+        buffer: &mut Buffer,
+        source: &mut S,
+    ) -> Result<(), Stop>
+        requires built { IsBuilt (length (S.characters source.old)) (kept self.old) }
+        requires some { selection.beg < selection.end }
+        requires at { IsPosition (kept self.old) selection.viewer selection.end }
+        ensures changed { OnOk result (IsChanged (S.honest source.old) (S.characters source.old) (kept self.old)
+            (kept self.new) (cut_out (seen (S.characters source.old) (kept self.old)) selection)
+            0 (selection.end - selection.beg)) }
+        ensures taken { OnOk result (flat buffer.new
+            ≡ stretch selection.beg selection.end (flat (kept_main (kept self.old) selection.viewer))) }
+        ensures reads { OnlyReads S.characters S.failures S.honest S.same_ground source.old source.new }
+        ensures faults { FailsAs Stop.Fault IsStop result (S.failures source.old) (S.failures source.new) }
+    {
+        let number = self.main_of(selection.viewer);
+        self.delete(alloc, number, selection.beg, selection.end, buffer, source)?;
+        self.show_caret(selection.viewer, selection.beg, source)?;
+        Ok(())
+    }
+}
+
+/// Whether so many characters written, and so many held with `fewer` to go, are within the limits.
+fn is_space(written: usize, held: usize, fewer: usize) -> bool
+    requires { fewer < 2 ^ 32 }
+    ensures { result ≡ (nat_le written most_written && nat_le held (most_held + fewer)) }
+{
+    written <= MOST_WRITTEN as usize && held <= MOST_HELD as usize + fewer
+}
+
+/// A buffer of `count` characters in one look, which stand together from the offset `first` on.
+pub fn buffer_of_run(alloc: Global, first: u32, count: u32, look: Look) -> Result<Buffer, NoMemory>
+    requires some { 0 < count }
+    requires offsets { first + count < 2 ^ 32 }
+    ensures { IfOk result (λ buffer. flat buffer ≡ run first count look) }
+{
+    let mut buffer = Buffer::new(alloc)?;
+    let piece = Piece {
+        off: first,
+        len: count,
+        look,
+    };
+    buffer.add(alloc, piece)?;
+    Ok(buffer)
+}
+
+impl Desk {
+    /// A copy of what was deleted last, or else of what was copied last, is put in at the caret. Refused without a
+    /// caret.
+    pub fn put_buffer<S: CharSource>(
+        &mut self,
+        alloc: Global,
+        deleted: bool,
+        source: &mut S,
+    ) -> Result<Reply, Stop>
+        requires over { IsOver (S.characters source.old) (kept self.old) }
+        ensures answered { IfOk result (Settles S.CharSource (λ d. needs d.caret no_caret λ c.
+            Ok (put_at_caret d (if deleted then d.deleted else d.copied) c))
+            source.old source.new (kept self.old) (kept self.new)) }
+        ensures uses { Uses S.CharSource result source.old source.new }
+    {
+        let Some(caret) = self.caret_place() else {
+            return Ok(Reply::No(codes::NO_CARET));
+        };
+        let buffer = self.buffer(deleted);
+        if !self.fits_more(0, buffer.len() as usize, 0) {
+            return Ok(Reply::No(codes::FULL));
+        }
+        let mut copy = Buffer::new(alloc)?;
+        buffer.copy_to(alloc, &mut copy)?;
+        self.put_at_caret(alloc, caret, &mut copy, source)?;
+        Ok(Reply::Done)
+    }
+}
+
+impl Desk {
+    /// What was deleted last, or else what was copied last.
+    fn buffer(&self, deleted: bool) -> &Buffer
+        ensures { result.now ≡ (if deleted then (kept self.now).deleted else (kept self.now).copied) }
+    {
+        if deleted { &self.deleted } else { &self.copied }
+    }
+}

@@ -1,0 +1,67 @@
+//! What the mouse does in a menu: viewers move and change their height.
+ghost use Rattle.std.specs.Prelude.{◌≡◌, ◌<◌, ◌+◌, IfOk, Ok};
+ghost use Rattle.viewer_tracks.specs.Columns.{IsPlaced};
+ghost use Rattle.desktop_definitions.specs.Viewers.{opened_at};
+ghost use Rattle.desktop_definitions.specs.Opening.{dropped};
+ghost use Rattle.desktop_definitions.specs.Sound.{IsOver};
+ghost use Rattle.desk_core.specs.Kept.{kept};
+ghost use Rattle.desk_core.specs.Row.{Settles, Uses};
+ghost use Rattle.viewer_tracks.specs.declared.display.TheConstants.{ROWS, COLUMNS};
+ghost use Rattle.desktop_definitions.specs.Gesture.{resized, carried};
+
+use crate::desk::Desk;
+use crate::stop::Stop;
+use char_file::CharSource;
+use desktop_definitions::Reply;
+use viewer_tracks::{ViewerId, edits_keep_columns, edits_place_viewers};
+
+impl Desk {
+    /// The top of a viewer goes to row `y`, or as near to it as the display and the viewer above let it.
+    pub fn resize<S: CharSource>(&mut self, id: u8, y: u8, source: &mut S) -> Result<Reply, Stop>
+        requires placed { IsPlaced id (kept self.old).columns }
+        requires row { y < ROWS }
+        requires over { IsOver (S.characters source.old) (kept self.old) }
+        ensures answered { IfOk result (Settles S.CharSource (λ d. Ok (resized d id y))
+            source.old source.new (kept self.old) (kept self.new)) }
+        ensures uses { Uses S.CharSource result source.old source.new }
+    {
+        edits_place_viewers();
+        self.tracks.change(ViewerId(id), y + 1);
+        Ok(Reply::Done)
+    }
+
+    /// A viewer is closed and opened at the cell above (`x`, `y`), with what is marked in it. A viewer whose whole
+    /// place it takes is gone, with the texts that nobody else shows.
+    pub fn carry<S: CharSource>(
+        &mut self,
+        id: u8,
+        x: u8,
+        y: u8,
+        source: &mut S,
+    ) -> Result<Reply, Stop>
+        requires placed { IsPlaced id (kept self.old).columns }
+        requires column { x < COLUMNS }
+        requires row { y < ROWS }
+        requires over { IsOver (S.characters source.old) (kept self.old) }
+        ensures answered { IfOk result (Settles S.CharSource (λ d. Ok (carried d id x y))
+            source.old source.new (kept self.old) (kept self.new)) }
+        ensures uses { Uses S.CharSource result source.old source.new }
+    {
+        edits_keep_columns();
+        edits_place_viewers();
+        self.tracks.close(ViewerId(id));
+        self.open_at(id, x, y + 1);
+        Ok(Reply::Done)
+    }
+
+    /// A viewer that stands nowhere opens in the track of column `x`, up to row `y`. One whose whole place it takes is
+    /// gone, with the texts that nobody else shows.
+    pub fn open_at(&mut self, id: u8, x: u8, y: u8)
+        requires fresh { ¬ IsPlaced id (kept self.old).columns }
+        requires column { x < COLUMNS }
+        ensures { kept self.new ≡ dropped (opened_at (kept self.old) id (x, y)) }
+    {
+        let gone = self.tracks.open(ViewerId(id), x, y);
+        self.let_go(gone);
+    }
+}

@@ -1,0 +1,302 @@
+//! Changes of texts, which the frames that show them follow.
+//!
+//! Each method says in one word (`IsChanged`) what it makes of the desktop: what the definition says, where the
+//! characters were told truly, and what holds whatever was told.
+ghost use Rattle.std.specs.Prelude.{◌≡◌, ◌+◌, ◌-◌, ◌<◌, ◌≤◌, ◌^◌, ◌⊎◌, ℕ, List, length, All};
+ghost use Rattle.std.specs.Prelude.{IsSome, OnOk, ⊤};
+ghost use Rattle.sector_disk.specs.Faults.{FailsAs};
+ghost use Rattle.piece_ring.specs.Text.{stretch, inserted, deleted, looks_changed};
+ghost use Rattle.viewer_tracks.specs.Columns.{IsPlaced};
+ghost use Rattle.readers_scanners.specs.Words.{CountsFault, OnlyReads, flat, AreWithin, bytes};
+ghost use Rattle.desktop_definitions.specs.Tables.{numbered, with_values};
+ghost use Rattle.desktop_definitions.specs.Looks.{IsLook, AreLooks};
+ghost use Rattle.desktop_definitions.specs.Viewers.{text_in, viewer_or_none, unmarked, shows, rows_of};
+ghost use Rattle.desktop_definitions.specs.Change.{followed, insertion, deletion, looks_set, showing, caret_shown};
+ghost use Rattle.desktop_laws.specs.ShapeLaws.{CanFollow, AreMoved};
+ghost use Rattle.desktop_laws.specs.EditLaws.{IsSet};
+ghost use Rattle.desktop_definitions.specs.Seen.{seen, seen_text};
+ghost use Rattle.desktop_definitions.specs.Sound.{IsBuilt};
+ghost use Rattle.desktop_definitions.specs.Changed.{IsChanged};
+ghost use Rattle.desk_core.specs.Kept.{kept};
+ghost use Rattle.desk_core.specs.Stops.{IsStop};
+
+use crate::desk::Desk;
+use crate::stop::{NoMemory, Stop};
+use crate::viewers::{
+    Texts, caret_outside, follow_text, org_in, select, set_org, unselect, viewer_or_none,
+};
+use char_file::{CharSource, Fault};
+use desktop_definitions::{Caret, Selection};
+use piece_ring::Look;
+use std::alloc::Global;
+use text_core::Buffer;
+use viewer_tracks::ViewerId;
+
+/// Puts the buffer's characters into the text of that number at `pos`, and leaves the buffer empty.
+fn put_in(
+    texts: &mut Texts,
+    alloc: Global,
+    number: u16,
+    pos: u32,
+    buffer: &mut Buffer,
+) -> Result<(), NoMemory>
+    requires there { IsSome (numbered texts.old.entries number) }
+    requires place { pos ≤ length (flat (text_in texts.old.entries number)) }
+    requires short { length (flat (text_in texts.old.entries number)) + length (flat buffer.old) < 2 ^ 32 }
+    ensures { OnOk result (IsSet texts.old.entries texts.new.entries number
+        (inserted pos (flat buffer.old) (flat (text_in texts.old.entries number)))) }
+{
+    match texts.get_mut(&number) {
+        Some(text) => {
+            text.insert(alloc, pos, buffer)?;
+            Ok(())
+        }
+        None => unreachable!(),
+    }
+}
+
+/// Takes the characters from `beg` up to before `end` out of the text of that number, into the buffer.
+fn take_out(
+    texts: &mut Texts,
+    alloc: Global,
+    number: u16,
+    beg: u32,
+    end: u32,
+    buffer: &mut Buffer,
+) -> Result<(), NoMemory>
+    requires there { IsSome (numbered texts.old.entries number) }
+    requires some { beg < end }
+    requires place { end ≤ length (flat (text_in texts.old.entries number)) }
+    ensures text { OnOk result (IsSet texts.old.entries texts.new.entries number
+        (deleted beg end (flat (text_in texts.old.entries number)))) }
+    ensures taken { OnOk result (flat buffer.new ≡ stretch beg end (flat (text_in texts.old.entries number))) }
+{
+    match texts.get_mut(&number) {
+        Some(text) => {
+            text.delete(alloc, beg, end, buffer)?;
+            Ok(())
+        }
+        None => unreachable!(),
+    }
+}
+
+/// The selected characters of the text of that number get the looks that `selector` takes of this one.
+fn relook(
+    texts: &mut Texts,
+    alloc: Global,
+    number: u16,
+    selection: Selection,
+    selector: u8,
+    look: Look,
+) -> Result<(), NoMemory>
+    requires there { IsSome (numbered texts.old.entries number) }
+    requires some { selection.beg < selection.end }
+    requires place { selection.end ≤ length (flat (text_in texts.old.entries number)) }
+    ensures { OnOk result (IsSet texts.old.entries texts.new.entries number
+        (looks_changed selection.beg selection.end selector look (flat (text_in texts.old.entries number)))) }
+{
+    match texts.get_mut(&number) {
+        Some(text) => {
+            text.change_looks(alloc, selection.beg, selection.end, selector, look)?;
+            Ok(())
+        }
+        None => unreachable!(),
+    }
+}
+
+impl Desk {
+    /// Neither the caret nor a selection stands any more in a viewer that shows the text of that number.
+    fn unmark(&mut self, number: u16)
+        ensures { kept self.new ≡ unmarked (shows (kept self.old) number) (kept self.old) }
+    {
+        self.caret = caret_outside(&self.viewers, number, self.caret);
+        unselect(&self.viewers, number, &mut self.selections);
+    }
+
+    /// Each frame of the text of that number, which has changed, loses caret and selection and follows its first
+    /// character. `Fault`: the source failed in this call.
+    fn follow<S: CharSource>(
+        &mut self,
+        number: u16,
+        pos: u32,
+        more: u32,
+        fewer: u32,
+        source: &mut S,
+    ) -> Result<(), Fault>
+        requires there { IsSome (numbered (kept self.old).texts number) }
+        requires one { (more ≡ 0) ⊎ (fewer ≡ 0) }
+        requires some { 0 < more + fewer }
+        requires place { pos + more ≤ length (flat (text_in (kept self.old).texts number)) }
+        requires orgs { All (CanFollow number more fewer (length (flat (text_in (kept self.old).texts number))))
+            (kept self.old).viewers }
+        requires offsets { AreWithin (length (S.characters source.old))
+            (flat (text_in (kept self.old).texts number)) }
+        ensures rest { OnOk result (kept self.new ≡ record (unmarked (shows (kept self.old) number) (kept self.old)) {
+          viewers = (kept self.new).viewers;
+        }) }
+        ensures exact { OnOk result (S.honest source.old → (kept self.new).viewers ≡ with_values
+            (followed number (bytes (S.characters source.old) (flat (text_in (kept self.old).texts number)))
+            pos more fewer) (kept self.old).viewers) }
+        ensures moved { OnOk result (AreMoved number (length (flat (text_in (kept self.old).texts number)))
+            (kept self.old).viewers (kept self.new).viewers) }
+        ensures reads { OnlyReads S.characters S.failures S.honest S.same_ground source.old source.new }
+        ensures cause { CountsFault result (S.failures source.old) (S.failures source.new) }
+    {
+        self.unmark(number);
+        follow_text(
+            &self.texts,
+            &mut self.viewers,
+            number,
+            pos,
+            more,
+            fewer,
+            source,
+        )?;
+        Ok(())
+    }
+
+    /// How many rows a viewer's main frame has.
+    pub fn rows_of(&self, id: u8) -> u8
+        requires { IsPlaced id (kept self.now).columns }
+        ensures rows { result ≡ rows_of (kept self.now) id }
+        ensures few { result ≤ 31 }
+    {
+        let place = self.tracks.place_of(ViewerId(id));
+        place.top - place.bottom - 1
+    }
+
+    /// Puts the buffer's characters into the text of that number at `pos`, and leaves the buffer empty. Each frame of
+    /// the text loses caret and selection and follows its first character. Where the buffer is empty nothing changes.
+    pub fn insert<S: CharSource>(
+        &mut self,
+        alloc: Global,
+        number: u16,
+        pos: u32,
+        buffer: &mut Buffer,
+        source: &mut S,
+    ) -> Result<(), Stop>
+        requires built { IsBuilt (length (S.characters source.old)) (kept self.old) }
+        requires there { IsSome (numbered (kept self.old).texts number) }
+        requires place { pos ≤ length (flat (text_in (kept self.old).texts number)) }
+        requires short { length (flat (text_in (kept self.old).texts number)) + length (flat buffer.old) < 2 ^ 32 }
+        requires within { AreWithin (length (S.characters source.old)) (flat buffer.old) }
+        requires looks { AreLooks (flat buffer.old) }
+        ensures changed { OnOk result (IsChanged (S.honest source.old) (S.characters source.old) (kept self.old)
+            (kept self.new) (insertion (seen (S.characters source.old) (kept self.old)) number pos
+            (seen_text (S.characters source.old) buffer.old)) (length (flat buffer.old)) 0) }
+        ensures longer { OnOk result (length (flat (text_in (kept self.new).texts number))
+            ≡ length (flat (text_in (kept self.old).texts number)) + length (flat buffer.old)) }
+        ensures columns { OnOk result ((kept self.new).columns ≡ (kept self.old).columns) }
+        ensures reads { OnlyReads S.characters S.failures S.honest S.same_ground source.old source.new }
+        ensures faults { FailsAs Stop.Fault IsStop result (S.failures source.old) (S.failures source.new) }
+    {
+        let count = buffer.len();
+        if count == 0 {
+            return Ok(());
+        }
+        put_in(&mut self.texts, alloc, number, pos, buffer)?;
+        self.follow(number, pos, count, 0, source)?;
+        Ok(())
+    }
+
+    /// Takes the characters from `beg` up to before `end` out of the text of that number; the buffer has exactly these
+    /// then. Each frame of the text loses caret and selection and follows its first character.
+    pub fn delete<S: CharSource>(
+        &mut self,
+        alloc: Global,
+        number: u16,
+        beg: u32,
+        end: u32,
+        buffer: &mut Buffer,
+        source: &mut S,
+    ) -> Result<(), Stop>
+        requires built { IsBuilt (length (S.characters source.old)) (kept self.old) }
+        requires there { IsSome (numbered (kept self.old).texts number) }
+        requires some { beg < end }
+        requires place { end ≤ length (flat (text_in (kept self.old).texts number)) }
+        ensures changed { OnOk result (IsChanged (S.honest source.old) (S.characters source.old) (kept self.old)
+            (kept self.new) (deletion (seen (S.characters source.old) (kept self.old)) number beg end) 0 (end - beg)) }
+        ensures taken { OnOk result (flat buffer.new ≡ stretch beg end (flat (text_in (kept self.old).texts number))) }
+        ensures shorter { OnOk result (length (flat (text_in (kept self.new).texts number)) + (end - beg)
+            ≡ length (flat (text_in (kept self.old).texts number))) }
+        ensures columns { OnOk result ((kept self.new).columns ≡ (kept self.old).columns) }
+        ensures reads { OnlyReads S.characters S.failures S.honest S.same_ground source.old source.new }
+        ensures faults { FailsAs Stop.Fault IsStop result (S.failures source.old) (S.failures source.new) }
+    {
+        take_out(&mut self.texts, alloc, number, beg, end, buffer)?;
+        self.follow(number, beg, 0, end - beg, source)?;
+        Ok(())
+    }
+
+    /// A selection gets the looks that `selector` takes of this one (bit 0 the font, bit 1 the colour, bit 2 the
+    /// offset). The frames of its text lose caret and selection, and then it is selected again, as the newest.
+    pub fn set_looks(
+        &mut self,
+        alloc: Global,
+        selection: Selection,
+        selector: u8,
+        look: Look,
+    ) -> Result<(), NoMemory>
+        requires placed { IsPlaced selection.viewer (kept self.old).columns }
+        requires there { IsSome (numbered (kept self.old).texts
+            (viewer_or_none (kept self.old).viewers selection.viewer).main) }
+        requires some { selection.beg < selection.end }
+        requires look { IsLook look }
+        requires within { selection.end ≤ length (flat (text_in (kept self.old).texts
+            (viewer_or_none (kept self.old).viewers selection.viewer).main)) }
+        ensures changed { OnOk result ((characters : List ℕ) → IsBuilt (length characters) (kept self.old)
+            → IsChanged ⊤ characters (kept self.old) (kept self.new)
+            (looks_set (seen characters (kept self.old)) selection selector look) 0 0) }
+        ensures columns { OnOk result ((kept self.new).columns ≡ (kept self.old).columns) }
+    {
+        let number = viewer_or_none(&self.viewers, selection.viewer).main;
+        relook(&mut self.texts, alloc, number, selection, selector, look)?;
+        self.unmark(number);
+        select(&mut self.selections, selection)?;
+        Ok(())
+    }
+
+    /// A viewer shows a position of its main text. Fault: the source failed in this call.
+    pub fn show<S: CharSource>(&mut self, id: u8, pos: u32, source: &mut S) -> Result<(), Stop>
+        requires built { IsBuilt (length (S.characters source.old)) (kept self.old) }
+        requires placed { IsPlaced id (kept self.old).columns }
+        requires place { pos ≤ length (flat (text_in (kept self.old).texts
+            (viewer_or_none (kept self.old).viewers id).main)) }
+        ensures changed { OnOk result (IsChanged (S.honest source.old) (S.characters source.old) (kept self.old)
+            (kept self.new) (showing (seen (S.characters source.old) (kept self.old)) id pos) 0 0) }
+        ensures reads { OnlyReads S.characters S.failures S.honest S.same_ground source.old source.new }
+        ensures faults { FailsAs Stop.Fault IsStop result (S.failures source.old) (S.failures source.new) }
+    {
+        let rows = self.rows_of(id);
+        let first = org_in(&self.texts, &self.viewers, id, rows, pos, source)?;
+        set_org(&mut self.viewers, id, first);
+        Ok(())
+    }
+
+    /// The caret comes to stand at `pos` in a viewer, which shows that position.
+    pub fn show_caret<S: CharSource>(
+        &mut self,
+        id: u8,
+        pos: u32,
+        source: &mut S,
+    ) -> Result<(), Stop>
+        requires built { IsBuilt (length (S.characters source.old)) (kept self.old) }
+        requires placed { IsPlaced id (kept self.old).columns }
+        requires place { pos ≤ length (flat (text_in (kept self.old).texts
+            (viewer_or_none (kept self.old).viewers id).main)) }
+        ensures changed { OnOk result (IsChanged (S.honest source.old) (S.characters source.old) (kept self.old)
+            (kept self.new) (caret_shown (seen (S.characters source.old) (kept self.old)) id pos) 0 0) }
+        ensures columns { OnOk result ((kept self.new).columns ≡ (kept self.old).columns) }
+        ensures reads { OnlyReads S.characters S.failures S.honest S.same_ground source.old source.new }
+        ensures faults { FailsAs Stop.Fault IsStop result (S.failures source.old) (S.failures source.new) }
+    {
+        let rows = self.rows_of(id);
+        let org = org_in(&self.texts, &self.viewers, id, rows, pos, source)?;
+        self.caret = Some(Caret {
+            viewer: id,
+            position: pos,
+        });
+        set_org(&mut self.viewers, id, org);
+        Ok(())
+    }
+}

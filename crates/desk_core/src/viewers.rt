@@ -1,0 +1,292 @@
+//! The table of viewers by their ids, and what a change of a text does to them.
+ghost use Rattle.std.specs.Prelude.{◌≡◌, ◌⊎◌, ◌∷◌, [], ◌++◌, ◌+◌, ◌<◌, ◌≤◌, ◌==◌, length, IfOk, OnOk};
+ghost use Rattle.std.specs.Prelude.{All, IsSome};
+ghost use Rattle.std.specs.Map.{set_value};
+ghost use Rattle.std.specs.Ordering.{nat_cmp};
+ghost use Rattle.std.specs.BTreeMap.{is_at};
+ghost use Rattle.sector_disk.specs.Trail.{CountsFault};
+ghost use Rattle.char_file.specs.Source.{OnlyReads};
+ghost use Rattle.piece_ring.specs.Flat.{flat};
+ghost use Rattle.piece_ring.specs.Offsets.{AreWithin};
+ghost use Rattle.readers_scanners.specs.Reading.{bytes};
+ghost use Rattle.text_frames.specs.Rules.{changed_org, shown_org};
+ghost use Rattle.desktop_definitions.specs.Tables.{numbered, with_values};
+ghost use Rattle.desktop_definitions.specs.Viewers.{viewer_in, viewer_or_none, text_in, caret_outside};
+ghost use Rattle.desktop_definitions.specs.Viewers.{selections_outside};
+ghost use Rattle.desktop_definitions.specs.Change.{followed};
+ghost use Rattle.desktop_laws.specs.ShapeLaws.{IsMoved, AreMoved, CanFollow};
+ghost use Rattle.desk_core.specs.Movable.{IsMovable};
+
+use crate::stop::NoMemory;
+use char_file::{CharSource, Fault};
+use desktop_definitions::{Caret, Selection, Viewer};
+use std::collections::BTreeMap;
+use std::vec::Vec;
+use text_core::Text;
+use text_frames::Frame;
+
+/// Viewers by rising ids.
+pub type Viewers = Vec<(u8, Viewer)>;
+
+/// Texts by number.
+pub type Texts = BTreeMap<u16, Text>;
+
+/// The viewer of that id. None where there is none.
+pub fn viewer_of(viewers: &Viewers, id: u8) -> Option<Viewer>
+    ensures { result ≡ viewer_in viewers.now.items id }
+{
+    for (number, viewer) in viewers {
+        if *number == id {
+            return Some(*viewer);
+        }
+    }
+    None
+}
+
+/// The viewer of that id shows its main text from that position on. Where there is no such viewer nothing changes.
+pub fn set_org(viewers: &mut Viewers, id: u8, org: u32)
+    ensures { viewers.new.items ≡ set_value (is_at (nat_cmp id)) viewers.old.items
+        (record (viewer_or_none viewers.old.items id) { org = org }) }
+{
+    for at in 0..viewers.len() {
+        if viewers[at].0 == id {
+            viewers[at].1.org = org;
+            return;
+        }
+    }
+}
+
+/// The viewer of that id, and where there is none one of no texts.
+pub fn viewer_or_none(viewers: &Viewers, id: u8) -> Viewer
+    ensures { result ≡ viewer_or_none viewers.now.items id }
+{
+    match viewer_of(viewers, id) {
+        None => Viewer {
+            menu: 0,
+            main: 0,
+            org: 0,
+        },
+        Some(viewer) => viewer,
+    }
+}
+
+/// Whether the viewer of that id shows the text of a number as its main one.
+fn shows(viewers: &Viewers, number: u16, id: u8) -> bool
+    ensures { result ≡ ((viewer_or_none viewers.now.items id).main == number) }
+{
+    viewer_or_none(viewers, id).main == number
+}
+
+/// The caret, unless it stands in a viewer that shows the text of that number.
+pub fn caret_outside(viewers: &Viewers, number: u16, caret: Option<Caret>) -> Option<Caret>
+    ensures { result ≡ caret_outside (λ v. (viewer_or_none viewers.now.items v).main == number) caret }
+{
+    match caret {
+        None => None,
+        Some(caret) => {
+            if shows(viewers, number, caret.viewer) {
+                None
+            } else {
+                Some(caret)
+            }
+        }
+    }
+}
+
+/// No selection stands in a viewer any more that shows the text of that number.
+pub fn unselect(viewers: &Viewers, number: u16, selections: &mut Vec<Selection>)
+    ensures { selections.new.items
+        ≡ selections_outside (λ v. (viewer_or_none viewers.now.items v).main == number) selections.old.items }
+{
+    selections.retain(|s| !shows(viewers, number, s.viewer));
+}
+
+/// The selection is the newest one, and no other stands in its viewer.
+pub fn select(selections: &mut Vec<Selection>, newest: Selection) -> Result<(), NoMemory>
+    ensures { OnOk result (selections.new.items
+        ≡ selections_outside (λ w. w == newest.viewer) selections.old.items ++ newest ∷ []) }
+{
+    let id = newest.viewer;
+    selections.retain(|s| s.viewer != id);
+    selections.push(newest)?;
+    Ok(())
+}
+
+/// Where a frame that began at `org` begins after a change of its text. `Fault`: the source failed in this call.
+fn org_after<S: CharSource>(
+    org: u32,
+    text: &Text,
+    pos: u32,
+    more: u32,
+    fewer: u32,
+    source: &mut S,
+) -> Result<u32, Fault>
+    requires one { (more ≡ 0) ⊎ (fewer ≡ 0) }
+    requires some { 0 < more + fewer }
+    requires place { pos + more ≤ length (flat text.now) }
+    requires org { org + more ≤ length (flat text.now) + fewer }
+    requires offsets { AreWithin (length (S.characters source.old)) (flat text.now) }
+    ensures exact { IfOk result (λ new. S.honest source.old
+        → new ≡ changed_org (bytes (S.characters source.old) (flat text.now)) pos more fewer org) }
+    ensures within { IfOk result (λ new. new ≤ length (flat text.now)) }
+    ensures reads { OnlyReads S.characters S.failures S.honest S.same_ground source.old source.new }
+    ensures cause { CountsFault result (S.failures source.old) (S.failures source.new) }
+{
+    let mut frame = Frame {
+        text: 0,
+        org,
+        caret: None,
+        selection: None,
+    };
+    frame.update(text, pos, more, fewer, source)?;
+    Ok(frame.org)
+}
+
+/// Where a frame of `rows` rows that began at `org` begins so that a position is shown. `Fault`: the source failed in
+/// this call.
+fn org_to_show<S: CharSource>(
+    org: u32,
+    text: &Text,
+    rows: u8,
+    pos: u32,
+    source: &mut S,
+) -> Result<u32, Fault>
+    requires rows { rows ≤ 31 }
+    requires place { pos ≤ length (flat text.now) }
+    requires org { org ≤ length (flat text.now) }
+    requires offsets { AreWithin (length (S.characters source.old)) (flat text.now) }
+    ensures exact { IfOk result (λ new. S.honest source.old
+        → new ≡ shown_org (bytes (S.characters source.old) (flat text.now)) rows pos org) }
+    ensures within { IfOk result (λ new. new ≤ length (flat text.now)) }
+    ensures reads { OnlyReads S.characters S.failures S.honest S.same_ground source.old source.new }
+    ensures cause { CountsFault result (S.failures source.old) (S.failures source.new) }
+{
+    let mut frame = Frame {
+        text: 0,
+        org,
+        caret: None,
+        selection: None,
+    };
+    frame.show(text, rows, pos, source)?;
+    Ok(frame.org)
+}
+
+/// The change rule at one viewer: where its main frame shows the text of that number, it follows its first character.
+/// `Fault`: the source failed in this call.
+fn follow<S: CharSource>(
+    entry: &mut (u8, Viewer),
+    text: &Text,
+    number: u16,
+    pos: u32,
+    more: u32,
+    fewer: u32,
+    source: &mut S,
+) -> Result<(), Fault>
+    requires one { (more ≡ 0) ⊎ (fewer ≡ 0) }
+    requires some { 0 < more + fewer }
+    requires place { pos + more ≤ length (flat text.now) }
+    requires org { CanFollow number more fewer (length (flat text.now)) entry.old }
+    requires offsets { AreWithin (length (S.characters source.old)) (flat text.now) }
+    ensures exact { OnOk result (S.honest source.old → entry.new ≡ (
+      entry.old.0,
+      followed number (bytes (S.characters source.old) (flat text.now)) pos more fewer entry.old.1,
+    )) }
+    ensures moved { OnOk result (IsMoved number (length (flat text.now)) entry.old entry.new) }
+    ensures reads { OnlyReads S.characters S.failures S.honest S.same_ground source.old source.new }
+    ensures cause { CountsFault result (S.failures source.old) (S.failures source.new) }
+{
+    let viewer = entry.1;
+    if viewer.main == number {
+        let org = org_after(viewer.org, text, pos, more, fewer, source)?;
+        entry.1.org = org;
+    }
+    Ok(())
+}
+
+/// The change rule at all viewers. `Fault`: the source failed in this call.
+fn follow_all<S: CharSource>(
+    viewers: &mut Viewers,
+    text: &Text,
+    number: u16,
+    pos: u32,
+    more: u32,
+    fewer: u32,
+    source: &mut S,
+) -> Result<(), Fault>
+    requires one { (more ≡ 0) ⊎ (fewer ≡ 0) }
+    requires some { 0 < more + fewer }
+    requires place { pos + more ≤ length (flat text.now) }
+    requires orgs { All (CanFollow number more fewer (length (flat text.now))) viewers.old.items }
+    requires offsets { AreWithin (length (S.characters source.old)) (flat text.now) }
+    ensures exact { OnOk result (S.honest source.old → viewers.new.items ≡ with_values
+        (followed number (bytes (S.characters source.old) (flat text.now)) pos more fewer) viewers.old.items) }
+    ensures moved { OnOk result (AreMoved number (length (flat text.now)) viewers.old.items viewers.new.items) }
+    ensures reads { OnlyReads S.characters S.failures S.honest S.same_ground source.old source.new }
+    ensures cause { CountsFault result (S.failures source.old) (S.failures source.new) }
+{
+    for at in 0..viewers.len() {
+        let entry = &mut viewers[at];
+        follow(entry, text, number, pos, more, fewer, source)?;
+    }
+    Ok(())
+}
+
+/// The same for the text of that number, as it is after the change.
+pub fn follow_text<S: CharSource>(
+    texts: &Texts,
+    viewers: &mut Viewers,
+    number: u16,
+    pos: u32,
+    more: u32,
+    fewer: u32,
+    source: &mut S,
+) -> Result<(), Fault>
+    requires there { IsSome (numbered texts.now.entries number) }
+    requires one { (more ≡ 0) ⊎ (fewer ≡ 0) }
+    requires some { 0 < more + fewer }
+    requires place { pos + more ≤ length (flat (text_in texts.now.entries number)) }
+    requires orgs { All (CanFollow number more fewer (length (flat (text_in texts.now.entries number))))
+        viewers.old.items }
+    requires offsets { AreWithin (length (S.characters source.old)) (flat (text_in texts.now.entries number)) }
+    ensures exact { OnOk result (S.honest source.old → viewers.new.items ≡ with_values
+        (followed number (bytes (S.characters source.old) (flat (text_in texts.now.entries number))) pos more fewer)
+        viewers.old.items) }
+    ensures moved { OnOk result (AreMoved number (length (flat (text_in texts.now.entries number)))
+        viewers.old.items viewers.new.items) }
+    ensures reads { OnlyReads S.characters S.failures S.honest S.same_ground source.old source.new }
+    ensures cause { CountsFault result (S.failures source.old) (S.failures source.new) }
+{
+    match texts.get(&number) {
+        Some(text) => follow_all(viewers, text, number, pos, more, fewer, source),
+        None => unreachable!(),
+    }
+}
+
+/// Where the main frame of a viewer, of so many rows, begins so that a position is shown. `Fault`: the source failed in
+/// this call.
+pub fn org_in<S: CharSource>(
+    texts: &Texts,
+    viewers: &Viewers,
+    id: u8,
+    rows: u8,
+    pos: u32,
+    source: &mut S,
+) -> Result<u32, Fault>
+    requires movable { IsMovable (length (S.characters source.old)) texts.now.entries
+        (viewer_or_none viewers.now.items id) }
+    requires rows { rows ≤ 31 }
+    requires place { pos ≤ length (flat (text_in texts.now.entries (viewer_or_none viewers.now.items id).main)) }
+    ensures exact { IfOk result (λ new. S.honest source.old → new ≡ shown_org (bytes (S.characters source.old)
+        (flat (text_in texts.now.entries (viewer_or_none viewers.now.items id).main)))
+        rows pos (viewer_or_none viewers.now.items id).org) }
+    ensures within { IfOk result (λ new. new
+        ≤ length (flat (text_in texts.now.entries (viewer_or_none viewers.now.items id).main))) }
+    ensures reads { OnlyReads S.characters S.failures S.honest S.same_ground source.old source.new }
+    ensures cause { CountsFault result (S.failures source.old) (S.failures source.new) }
+{
+    let viewer = viewer_or_none(viewers, id);
+    match texts.get(&viewer.main) {
+        Some(text) => org_to_show(viewer.org, text, rows, pos, source),
+        None => unreachable!(),
+    }
+}

@@ -1,0 +1,85 @@
+//! The texts and frames of viewers.
+ghost use Rattle.std.specs.Prelude.{◌≡◌, IsSome};
+ghost use Rattle.viewer_tracks.specs.Columns.{IsPlaced};
+ghost use Rattle.desktop_definitions.specs.Tables.{numbered};
+ghost use Rattle.desktop_definitions.specs.Viewers.{text_in};
+ghost use Rattle.desktop_definitions.specs.Shown.{position_in};
+ghost use Rattle.desk_core.specs.Kept.{kept};
+ghost use Rattle.desktop_definitions.specs.Call.{text_called};
+ghost use Rattle.desktop_definitions.specs.Sound.{IsKeptWhole};
+ghost use Rattle.desktop_definitions.specs.Viewers.{viewer_or_none};
+
+use crate::desk::Desk;
+use crate::viewers::{Texts, viewer_or_none};
+use desktop_definitions::Caret;
+use text_core::Text;
+use text_frames::Frame;
+
+/// The text of that number, which is there.
+pub fn text_there(texts: &Texts, number: u16) -> &Text
+    requires { IsSome (numbered texts.now.entries number) }
+    ensures { result.now ≡ text_in texts.now.entries number }
+{
+    match texts.get(&number) {
+        Some(text) => text,
+        None => unreachable!(),
+    }
+}
+
+/// The position of the caret, where it stands in that viewer.
+pub fn position_in(id: u8, caret: Option<Caret>) -> Option<u32>
+    ensures { result ≡ position_in id caret }
+{
+    match caret {
+        None => None,
+        Some(caret) => {
+            if caret.viewer == id {
+                Some(caret.position)
+            } else {
+                None
+            }
+        }
+    }
+}
+
+impl Desk {
+    /// The text in which a word stands that is called.
+    pub fn text_called(&self, id: u8, in_menu: bool) -> &Text
+        requires whole { IsKeptWhole (kept self.now) }
+        requires placed { IsPlaced id (kept self.now).columns }
+        ensures { result.now ≡ text_called (kept self.now) id in_menu }
+    {
+        let viewer = viewer_or_none(&self.viewers, id);
+        if in_menu {
+            text_there(&self.texts, viewer.menu)
+        } else {
+            text_there(&self.texts, viewer.main)
+        }
+    }
+
+    /// The main text of a viewer.
+    pub fn main_text(&self, id: u8) -> &Text
+        requires whole { IsKeptWhole (kept self.now) }
+        requires placed { IsPlaced id (kept self.now).columns }
+        ensures { result.now ≡ text_in (kept self.now).texts (viewer_or_none (kept self.now).viewers id).main }
+    {
+        let viewer = viewer_or_none(&self.viewers, id);
+        match self.texts.get(&viewer.main) {
+            Some(text) => text,
+            None => unreachable!(),
+        }
+    }
+
+    /// The frame in which a viewer shows it, without what is marked there.
+    pub fn main_frame(&self, id: u8) -> Frame
+        ensures { result.org ≡ (viewer_or_none (kept self.now).viewers id).org }
+    {
+        let viewer = viewer_or_none(&self.viewers, id);
+        Frame {
+            text: viewer.main,
+            org: viewer.org,
+            caret: None,
+            selection: None,
+        }
+    }
+}

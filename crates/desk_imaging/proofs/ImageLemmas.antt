@@ -1,0 +1,126 @@
+-- Going over the parts of a desktop that stand in its image.
+use Rattle.std.proofs.Common.{◌≡◌, ℕ, ◌+◌, ◌<◌, ◌≤◌, ◌^◌, List, [], ◌∷◌, length, drop, Some, ap, ◌∙◌, add-one, arith}
+use Rattle.std.proofs.Common.{slice_index_or, ◌++◌, map, refl}
+use Rattle.std.proofs.lemmas.List.{append_assoc}
+use Rattle.event_bytes.specs.Parts.{byte, word, counted}
+use Rattle.viewer_tracks.specs.declared.display.Track.TheVariants.{User, System}
+use Rattle.viewer_tracks.specs.Columns.{shown}
+use Rattle.std.specs.Prelude.{slice_get, All}
+use Rattle.std.specs.Map.{values_of}
+use Rattle.std.proofs.Math.Seq.{drop-cons}
+use Rattle.std.proofs.lemmas.Option.{slice_get_within, get_or_from_slice_get}
+use Rattle.desktop_definitions.specs.Looks.{IsLook, AreLooks}
+use Rattle.desktop_definitions.specs.Desktop.{KeptDesktop}
+use Rattle.desktop_definitions.specs.Seen.{seen, seen_text, seen_table}
+use Rattle.desktop_definitions.specs.Sound.{IsKeptWhole, HasLooks}
+use Rattle.desktop_laws.specs.FewLaws.{few_texts}
+use Rattle.desktop_laws.specs.OpeningDone.{kept_viewers}
+use Rattle.desktop_laws.specs.TableLaws.{length_seen}
+use Rattle.desk_image.specs.declared.limits.TheConstants.{IMAGE_BYTES}
+use Rattle.desk_image.specs.Image.{look_bytes, cell_bytes, optional, listed, text_bytes, file_bytes, pieces_bytes}
+use Rattle.desk_image.specs.Image.{viewer_bytes, entry_bytes, kept_bytes, picture_of, image_of, image_bytes}
+use Rattle.desk_image.specs.Image.{IsSpellable}
+use Rattle.desk_image.specs.Laws.{RoomLaw}
+use Rattle.desk_imaging.specs.Images.{settings_long, tables_long, display_long}
+use Rattle.desk_image.proofs.Counting.{long_image}
+
+-- ---- one element after another
+
+pub from_here : {X : Type 0} (xs : List X) (i : ℕ) (d : X) → i < length xs
+    → drop i xs ≡ slice_index_or xs i d ∷ drop (i + 1) xs
+from_here xs i d low = rw add-one (drop-cons xs i d low)
+
+pub from_there : {X : Type 0} (xs : List X) (i : ℕ) (x : X) → slice_get xs i ≡ Some x → drop i xs ≡ x ∷ drop (i + 1) xs
+from_there {X} xs i x is =
+    from_here xs i x (slice_get_within xs i x is)
+    ∙ ap (λ (y : X). y ∷ drop (i + 1) xs) (get_or_from_slice_get xs i x x is)
+
+-- ---- what of a desktop's parts their writers ask for
+
+module _ (d : KeptDesktop) (whole : IsKeptWhole d) where
+  looked : HasLooks (seen [] d)
+  looked = (whole.sound []).shaped.looks
+
+  pub own_look : IsLook d.look
+  unfolding seen
+  own_look = looked.look
+
+  pub texts_look : All AreLooks (values_of (seen_table [] d.texts))
+  unfolding seen
+  texts_look = looked.texts
+
+  pub files_look : All AreLooks (values_of (seen_table [] d.files))
+  unfolding seen
+  files_look = looked.files
+
+  pub copied_look : AreLooks (seen_text [] d.copied)
+  unfolding seen
+  copied_look = looked.copied
+
+  pub deleted_look : AreLooks (seen_text [] d.deleted)
+  unfolding seen
+  deleted_look = looked.deleted
+
+  pub short_pattern : length d.pattern < 2 ^ 8
+  unfolding seen
+  short_pattern = let short : length d.pattern ≤ 31 = (whole.sound []).shaped.pattern in omega (arith, short)
+
+  pub some_viewers : length d.viewers ≤ 255
+  some_viewers = let few = kept_viewers d whole in omega (arith, few)
+
+  pub some_texts : length d.texts < 2 ^ 16
+  unfolding seen
+  some_texts =
+      let few = few_texts (seen [] d) (whole.sound []).shaped.viewers.numbers (whole.sound []).shown in
+      let same = length_seen (seen_text []) d.texts in
+      let viewers = kept_viewers d whole in
+      omega (arith, few, same, viewers)
+
+  pub some_files : length d.files < 2 ^ 16
+  unfolding seen
+  some_files =
+      let few : length (seen_table [] d.files) ≤ 256 = (whole.sound []).shaped.files.few in
+      let same = length_seen (seen_text []) d.files in
+      omega (arith, few, same)
+
+-- ---- the whole image, in three groups
+
+abbrev pub settings_bytes : KeptDesktop → List ℕ
+settings_bytes d = look_bytes d.look ++ (counted byte d.pattern ++ optional cell_bytes d.marker)
+
+abbrev pub tables_bytes : KeptDesktop → List ℕ
+tables_bytes d = listed word text_bytes d.texts ++ (listed word file_bytes d.files
+    ++ (pieces_bytes d.copied ++ pieces_bytes d.deleted))
+
+abbrev pub display_bytes : KeptDesktop → List ℕ
+display_bytes d = listed byte viewer_bytes (map (picture_of d.caret d.selections) d.viewers)
+    ++ (listed byte entry_bytes (shown d.columns User)
+    ++ (listed byte entry_bytes (shown d.columns System) ++ optional kept_bytes d.kept))
+
+grouped : (a b c d e f g h k l m : List ℕ)
+    → (a ++ (b ++ c)) ++ ((d ++ (e ++ (f ++ g))) ++ (h ++ (k ++ (l ++ m))))
+    ≡ a ++ (b ++ (c ++ (d ++ (e ++ (f ++ (g ++ (h ++ (k ++ (l ++ m)))))))))
+grouped a b c d e f g h k l m = simp append_assoc
+
+pub image_in_three : (d : KeptDesktop)
+    → settings_bytes d ++ (tables_bytes d ++ display_bytes d) ≡ image_bytes (image_of d)
+unfolding image_bytes image_of
+image_in_three d =
+    grouped (look_bytes d.look) (counted byte d.pattern) (optional cell_bytes d.marker)
+    (listed word text_bytes d.texts) (listed word file_bytes d.files) (pieces_bytes d.copied) (pieces_bytes d.deleted)
+    (listed byte viewer_bytes (map (picture_of d.caret d.selections) d.viewers))
+    (listed byte entry_bytes (shown d.columns User)) (listed byte entry_bytes (shown d.columns System))
+    (optional kept_bytes d.kept)
+
+-- how long it is, as its parts are counted
+pub image_long : (d : KeptDesktop)
+    → length (image_bytes (image_of d)) ≡ settings_long d + (tables_long d + display_long d)
+unfolding image_of
+image_long d = let long = long_image (image_of d) in omega (arith, long)
+
+pub has_room : (d : KeptDesktop) → IsKeptWhole d → IsSpellable d → RoomLaw
+    → length (image_bytes (image_of d)) ≤ IMAGE_BYTES
+has_room d whole parts room =
+    let low = room d.written (image_bytes (image_of d)) d
+    (record { count = refl; whole = whole; parts = parts; exact = refl }) in
+    omega (arith, low)

@@ -1,0 +1,198 @@
+-- Which desktop has the parts that an image says, and when these make one: what a part has to do with the others.
+use Rattle.std.specs.Prelude.{◌≡◌, ℕ, ◌+◌, ◌==◌, ◌&&◌, ◌||◌, not, Bool, true, false, if◌then◌else◌, nat_lt, nat_le}
+use Rattle.std.specs.Prelude.{List, [], ◌∷◌, length, map, Option, Some, None, is_some, option_map}
+use Rattle.std.specs.Option.{option_or}
+use Rattle.std.specs.List.{list_all, list_any, filter_map, range_with_len}
+use Rattle.std.specs.Map.{keys_of}
+use Rattle.piece_ring.specs.declared.piece.Piece.{Piece}
+use Rattle.piece_ring.specs.Flat.{flat}
+use Rattle.event_bytes.specs.Parts.{byte, word, counted}
+use Rattle.viewer_tracks.specs.Viewers.{Entry, times_in}
+use Rattle.viewer_tracks.specs.declared.display.Track.TheVariants.{User, System}
+use Rattle.viewer_tracks.specs.Columns.{times_meant, shown}
+use Rattle.desktop_definitions.specs.declared.viewer.Viewer.{Viewer}
+use Rattle.desktop_definitions.specs.declared.viewer.Caret.{Caret}
+use Rattle.desktop_definitions.specs.declared.viewer.Selection.{Selection}
+use Rattle.desktop_definitions.specs.declared.viewer.Kept.{Kept}
+use Rattle.desktop_definitions.specs.Limits.{most_written}
+use Rattle.desktop_definitions.specs.Tables.{Texts, numbered}
+use Rattle.desktop_definitions.specs.Desktop.{KeptDesktop}
+use Rattle.desktop_definitions.specs.Viewers.{text_in, viewer_or_none}
+use Rattle.desktop_definitions.specs.Sound.{IsKeptWhole}
+use Rattle.desk_image.specs.declared.picture.Ranked.{Ranked}
+use Rattle.desk_image.specs.declared.picture.ViewerPicture.{ViewerPicture}
+use Rattle.desk_image.specs.Image.{Image, caret_in, ranked_in, image_of, picture_of, listed, optional}
+use Rattle.desk_image.specs.Image.{look_bytes, cell_bytes, kept_bytes, text_bytes, file_bytes, pieces_bytes}
+use Rattle.desk_image.specs.Image.{viewer_bytes, entry_bytes}
+
+-- ---- how many bytes an image has, in three groups of its parts
+
+abbrev pub settings_long : KeptDesktop → ℕ
+settings_long d = length (look_bytes d.look) + (length (counted byte d.pattern) + length (optional cell_bytes d.marker))
+
+abbrev pub tables_long : KeptDesktop → ℕ
+tables_long d = length (listed word text_bytes d.texts) + (length (listed word file_bytes d.files)
+    + (length (pieces_bytes d.copied) + length (pieces_bytes d.deleted)))
+
+abbrev pub display_long : KeptDesktop → ℕ
+display_long d = length (listed byte viewer_bytes (map (picture_of d.caret d.selections) d.viewers))
+    + (length (listed byte entry_bytes (shown d.columns User))
+    + (length (listed byte entry_bytes (shown d.columns System)) + length (optional kept_bytes d.kept)))
+
+-- ---- the desktop that has the parts of an image
+
+abbrev pub viewer_entry : ViewerPicture → ℕ × Viewer
+viewer_entry p = (p.id, p.viewer)
+
+abbrev pub viewers_of : List ViewerPicture → List (ℕ × Viewer)
+viewers_of pictures = map viewer_entry pictures
+
+-- what f gives first
+abbrev pub first_some : {A B : Type 0} → (A → Option B) → List A → Option B
+first_some f [] = None
+first_some f (x ∷ xs) = option_or (f x) (first_some f xs)
+
+abbrev pub caret_at : ViewerPicture → Option Caret
+caret_at p = option_map (λ n. record { viewer = p.id; position = n }) p.caret
+
+-- the caret of the first viewer that has one
+unfoldable pub caret_of : List ViewerPicture → Option Caret
+caret_of pictures = first_some caret_at pictures
+
+-- a viewer's selection, where it has that rank
+abbrev pub with_rank : ℕ → ViewerPicture → Option Ranked → Option Selection
+with_rank rank p None = None
+with_rank rank p (Some s) =
+    if s.rank == rank then Some (record { viewer = p.id; beg = s.beg; end = s.end }) else None
+
+abbrev pub selected_at : ℕ → ViewerPicture → Option Selection
+selected_at rank p = with_rank rank p p.selection
+
+-- the selection of the first viewer that has one of that rank
+unfoldable pub selected_as : List ViewerPicture → ℕ → Option Selection
+selected_as pictures rank = first_some (selected_at rank) pictures
+
+-- the selections by their ranks, of which there are no more than viewers
+unfoldable pub selections_of : List ViewerPicture → List Selection
+selections_of pictures = filter_map (selected_as pictures) (range_with_len 1 (length pictures))
+
+abbrev pub drafted : ℕ → Image → KeptDesktop
+drafted written i = record {
+  texts = i.texts;
+  viewers = viewers_of i.viewers;
+  columns = record { user = i.user ∷ []; system = i.system ∷ [] };
+  caret = caret_of i.viewers;
+  selections = selections_of i.viewers;
+  marker = i.marker;
+  kept = i.kept;
+  files = i.files;
+  copied = i.copied;
+  deleted = i.deleted;
+  pattern = i.pattern;
+  look = i.look;
+  written = written;
+}
+
+-- ---- texts and the viewers that show them
+
+-- how many characters the text of a number has
+abbrev pub size_of : Texts (List Piece) → ℕ → ℕ
+size_of texts n = length (flat (text_in texts n))
+
+-- a viewer leaves the menu of another to that one
+abbrev pub leaves_menu : ℕ × Viewer → ℕ × Viewer → Bool
+leaves_menu e other = not (other.1.main == e.1.menu) && (not (other.1.menu == e.1.menu) || (other.0 == e.0))
+
+-- both texts of a viewer are there, and its menu is its own
+unfoldable pub is_framed : Texts (List Piece) → List (ℕ × Viewer) → ℕ × Viewer → Bool
+is_framed texts viewers e =
+    is_some (numbered texts e.1.menu) && (is_some (numbered texts e.1.main)
+    && (nat_le e.1.org (size_of texts e.1.main)
+    && (not (e.1.menu == 0) && list_all (leaves_menu e) viewers)))
+
+-- a text is the log, or shown by a viewer
+abbrev pub is_in_use : List (ℕ × Viewer) → ℕ → Bool
+is_in_use viewers n = (n == 0) || list_any (λ e. (e.1.menu == n) || (e.1.main == n)) viewers
+
+unfoldable pub are_texts : Texts (List Piece) → List (ℕ × Viewer) → Bool
+are_texts texts viewers =
+    is_some (numbered texts 0) && (list_all (is_framed texts viewers) viewers
+    && list_all (is_in_use viewers) (keys_of texts))
+
+-- ---- places
+
+abbrev pub times_tracked : List Entry → List Entry → ℕ → ℕ
+times_tracked user system v = times_in v user + times_in v system
+
+abbrev pub has_id : List (ℕ × Viewer) → ℕ → Bool
+has_id viewers v = list_any (λ e. e.0 == v) viewers
+
+abbrev pub is_kept_known : List (ℕ × Viewer) → Option Kept → Bool
+is_kept_known viewers None = true
+is_kept_known viewers (Some k) = has_id viewers k.viewer
+
+abbrev pub stands_once : List Entry → List Entry → Option Kept → ℕ × Viewer → Bool
+stands_once user system kept e =
+    times_tracked user system e.0 + times_meant e.0 (option_map (λ k. k.viewer) kept) == 1
+
+-- each viewer stands in one place, in a track or as the kept one, and nothing else does
+unfoldable pub are_placed : List Entry → List Entry → Option Kept → List (ℕ × Viewer) → Bool
+are_placed user system kept viewers =
+    list_all (stands_once user system kept) viewers && (list_all (λ e. has_id viewers e.viewer) user
+    && (list_all (λ e. has_id viewers e.viewer) system && is_kept_known viewers kept))
+
+-- ---- what is marked
+
+abbrev pub is_tracked : List Entry → List Entry → ℕ → Bool
+is_tracked user system v = nat_lt 0 (times_tracked user system v)
+
+-- how many characters the main text of a viewer has
+abbrev pub main_size : Texts (List Piece) → List (ℕ × Viewer) → ℕ → ℕ
+main_size texts viewers v = size_of texts (viewer_or_none viewers v).main
+
+module _ (texts : Texts (List Piece)) (viewers : List (ℕ × Viewer)) (user system : List Entry) where
+  -- a caret stands in a viewer of a track, within its text
+  unfoldable pub is_caret : Option Caret → Bool
+  is_caret None = true
+  is_caret (Some c) = is_tracked user system c.viewer && nat_le c.position (main_size texts viewers c.viewer)
+
+  -- a selection has some character, of a viewer of a track
+  unfoldable pub is_selection : Selection → Bool
+  is_selection s =
+      is_tracked user system s.viewer
+      && (nat_lt s.beg s.end && nat_le s.end (main_size texts viewers s.viewer))
+
+-- ---- a viewer's caret and selection are those that the desktop has there
+
+abbrev pub same_position : Option ℕ → Option ℕ → Bool
+same_position None None = true
+same_position None (Some n) = false
+same_position (Some m) None = false
+same_position (Some m) (Some n) = m == n
+
+abbrev pub same_ranked : Option Ranked → Option Ranked → Bool
+same_ranked None None = true
+same_ranked None (Some s) = false
+same_ranked (Some r) None = false
+same_ranked (Some r) (Some s) = (r.rank == s.rank) && ((r.beg == s.beg) && (r.end == s.end))
+
+unfoldable pub is_pictured : Option Caret → List Selection → ViewerPicture → Bool
+is_pictured caret selections p =
+    same_position (caret_in caret p.id) p.caret && same_ranked (ranked_in 1 selections p.id) p.selection
+
+-- ---- together
+
+-- the parts of an image make a desktop for which so many characters were written
+unfoldable pub is_desktop : ℕ → Image → Bool
+is_desktop written i =
+    nat_le written most_written && (are_placed i.user i.system i.kept (viewers_of i.viewers)
+    && (are_texts i.texts (viewers_of i.viewers)
+    && (is_caret i.texts (viewers_of i.viewers) i.user i.system (caret_of i.viewers)
+    && (list_all (is_selection i.texts (viewers_of i.viewers) i.user i.system) (selections_of i.viewers)
+    && list_all (is_pictured (caret_of i.viewers) (selections_of i.viewers)) i.viewers))))
+
+-- A desktop that holds together has these parts, and so many characters were written for it.
+pub record IsDesktopOf (written : ℕ) (i : Image) (d : KeptDesktop) : Type 0 where
+  pub count : d.written ≡ written
+  pub whole : IsKeptWhole d
+  pub image : image_of d ≡ i

@@ -1,0 +1,161 @@
+//! How many bytes the image of a desktop has.
+ghost use Rattle.std.specs.Prelude.{◌≡◌, ◌<◌, ◌≤◌, ◌^◌, ◌+◌, length, map};
+ghost use Rattle.event_bytes.specs.Parts.{byte, word};
+ghost use Rattle.viewer_tracks.specs.declared.display.Track.TheVariants.{User, System};
+ghost use Rattle.viewer_tracks.specs.Columns.{shown};
+ghost use Rattle.desktop_definitions.specs.Sound.{IsKeptWhole};
+ghost use Rattle.desk_image.specs.Image.{picture_of, image_of, listed, text_bytes, file_bytes, viewer_bytes};
+ghost use Rattle.desk_image.specs.Image.{pieces_bytes, entry_bytes};
+ghost use Rattle.desk_image.specs.Image.{image_bytes, IsSpellable};
+ghost use Rattle.desk_image.specs.declared.limits.TheConstants.{IMAGE_BYTES};
+ghost use Rattle.desk_imaging.specs.Images.{settings_long, tables_long, display_long};
+ghost use Rattle.desk_core.specs.Kept.{kept};
+
+use crate::imaging::picture_of;
+use desk_core::desk::Desk;
+use desk_core::files::Files;
+use desk_core::viewers::Texts;
+use desk_image::{
+    LOOK_BYTES, cell_len, entries_len, images_have_room, kept_len, pieces_len, viewer_len,
+};
+use desktop_definitions::{Caret, Selection, Viewer};
+use event_bytes::Name;
+use text_core::{Buffer, Text};
+use viewer_tracks::Track;
+
+/// How many bytes the pieces of a text have, after how many there are.
+fn text_pieces_len(text: &Text) -> usize
+    ensures value { result ≡ length (pieces_bytes text.now) }
+    ensures few { result < 2 ^ 36 }
+{
+    pieces_len(text.pieces())
+}
+
+/// How many bytes a buffer has.
+fn buffer_len(buffer: &Buffer) -> usize
+    ensures value { result ≡ length (pieces_bytes buffer.now) }
+    ensures few { result < 2 ^ 36 }
+{
+    pieces_len(buffer.pieces())
+}
+
+/// How many bytes a text has with its number.
+fn text_len(number: u16, text: &Text) -> usize
+    ensures { result ≡ length (text_bytes (number, text.now)) }
+{
+    number.to_be_bytes().len() + text_pieces_len(text)
+}
+
+/// How many bytes texts have, after how many there are.
+fn texts_len(texts: &Texts) -> usize
+    requires { length (listed word text_bytes texts.now.entries) < 2 ^ 32 }
+    ensures { result ≡ length (listed word text_bytes texts.now.entries) }
+{
+    let mut sum = 2;
+    for (number, text) in texts {
+        sum += text_len(*number, text);
+    }
+    sum
+}
+
+/// How many bytes a file has.
+fn file_len(name: &Name, text: &Text) -> usize
+    ensures { result ≡ length (file_bytes (name.now, text.now)) }
+{
+    1 + name.as_bytes().len() + text_pieces_len(text)
+}
+
+/// How many bytes files have, after how many there are.
+fn files_len(files: &Files) -> usize
+    requires { length (listed word file_bytes files.now.entries) < 2 ^ 32 }
+    ensures { result ≡ length (listed word file_bytes files.now.entries) }
+{
+    let mut sum = 2;
+    for (name, text) in files {
+        sum += file_len(name, text);
+    }
+    sum
+}
+
+/// How many bytes viewers have with what is marked in them, after how many there are.
+fn viewers_len(viewers: &[(u8, Viewer)], caret: Option<Caret>, selections: &[Selection]) -> usize
+    requires marks { length selections.now ≤ 255 }
+    requires few { length (listed byte viewer_bytes (map (picture_of caret selections.now) viewers.now)) < 2 ^ 32 }
+    ensures { result ≡ length (listed byte viewer_bytes (map (picture_of caret selections.now) viewers.now)) }
+{
+    let mut sum = 1;
+    for place in 0..viewers.len() {
+        let (id, viewer) = viewers[place];
+        let picture = picture_of(id, viewer, caret, selections);
+        sum += viewer_len(picture);
+    }
+    sum
+}
+
+/// How many bytes the look in which characters are typed, the pattern and the marker have.
+fn settings_len(desk: &Desk) -> usize
+    requires { length (kept desk.now).pattern < 2 ^ 8 }
+    ensures { result ≡ settings_long (kept desk.now) }
+{
+    LOOK_BYTES + (1 + desk.pattern.len() + cell_len(desk.marker))
+}
+
+/// How many bytes the texts, files and buffers have.
+fn tables_len(desk: &Desk) -> usize
+    requires { tables_long (kept desk.now) < 2 ^ 32 }
+    ensures { result ≡ tables_long (kept desk.now) }
+{
+    let buffers = buffer_len(&desk.copied) + buffer_len(&desk.deleted);
+    texts_len(&desk.texts) + (files_len(&desk.files) + buffers)
+}
+
+/// How many bytes the viewers have with what is marked in them.
+fn pictures_len(desk: &Desk) -> usize
+    requires marks { length (kept desk.now).selections ≤ 255 }
+    requires few { length (listed byte viewer_bytes
+        (map (picture_of (kept desk.now).caret (kept desk.now).selections) (kept desk.now).viewers)) < 2 ^ 32 }
+    ensures { result ≡ length (listed byte viewer_bytes
+        (map (picture_of (kept desk.now).caret (kept desk.now).selections) (kept desk.now).viewers)) }
+{
+    viewers_len(&desk.viewers, desk.caret, &desk.selections)
+}
+
+/// How many bytes the viewers of a track have.
+fn track_len(desk: &Desk, track: Track) -> usize
+    ensures value { result ≡ length (listed byte entry_bytes (shown (kept desk.now).columns track)) }
+    ensures few { result ≤ 511 }
+{
+    entries_len(desk.tracks.count(track))
+}
+
+/// How many bytes the viewers, the tracks and the viewer that was closed last have.
+fn display_len(desk: &Desk) -> usize
+    requires marks { length (kept desk.now).selections ≤ 255 }
+    requires few { length (listed byte viewer_bytes
+        (map (picture_of (kept desk.now).caret (kept desk.now).selections) (kept desk.now).viewers)) < 2 ^ 32 }
+    ensures { result ≡ display_long (kept desk.now) }
+{
+    let system = track_len(desk, Track::System) + kept_len(desk.kept);
+    pictures_len(desk) + (track_len(desk, Track::User) + system)
+}
+
+/// The image of the desktop has room, and has as many bytes as its parts.
+fn image_has_room(desk: &Desk)
+    requires whole { IsKeptWhole (kept desk.now) }
+    requires spellable { IsSpellable (kept desk.now) }
+    ensures room { length (image_bytes (image_of (kept desk.now))) ≤ IMAGE_BYTES }
+    ensures parts { length (image_bytes (image_of (kept desk.now)))
+        ≡ settings_long (kept desk.now) + (tables_long (kept desk.now) + display_long (kept desk.now)) }
+{
+    images_have_room();
+}
+
+/// How many bytes the image of the desktop has.
+pub fn image_len(desk: &Desk) -> u32
+    requires whole { IsKeptWhole (kept desk.now) }
+    requires spellable { IsSpellable (kept desk.now) }
+    ensures { result ≡ length (image_bytes (image_of (kept desk.now))) }
+{
+    image_has_room(desk);
+    (settings_len(desk) + (tables_len(desk) + display_len(desk))) as u32
+}

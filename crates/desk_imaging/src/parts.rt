@@ -1,0 +1,291 @@
+//! What the parts of an image have to do with each other: tests of lengths and numbers.
+ghost use Rattle.std.specs.Prelude.{◌≡◌, ◌+◌, ◌==◌, ◌<◌, ◌≤◌, ◌^◌, length, map, option_map};
+ghost use Rattle.std.specs.List.{list_all};
+ghost use Rattle.std.specs.Map.{keys_of};
+ghost use Rattle.viewer_tracks.specs.Viewers.{times_in};
+ghost use Rattle.viewer_tracks.specs.Columns.{times_meant};
+ghost use Rattle.desk_image.specs.Pictures.{entry_of};
+ghost use Rattle.desk_imaging.specs.Images.{size_of, leaves_menu, is_framed, is_in_use, are_texts, has_id};
+ghost use Rattle.desk_imaging.specs.Images.{is_kept_known};
+ghost use Rattle.desk_imaging.specs.Images.{stands_once, are_placed, is_tracked, main_size, is_caret, is_selection};
+ghost use Rattle.desk_imaging.specs.Images.{same_position, same_ranked, is_pictured};
+
+use crate::imaging::ranked_in;
+use desk_core::tables::{has_id, is_in_sight};
+use desk_core::viewers::{Texts, Viewers, viewer_or_none};
+use desk_core::views::position_in;
+use desk_image::{Ranked, Stretch, ViewerPicture};
+use desktop_definitions::{Caret, Kept, Selection, Viewer};
+
+// ---- texts and the viewers that show them
+
+/// How many characters the text of that number has.
+fn size_of(texts: &Texts, number: u16) -> u32
+    ensures { result ≡ size_of texts.now.entries number }
+{
+    match texts.get(&number) {
+        Some(text) => text.len(),
+        None => 0,
+    }
+}
+
+/// Whether another viewer leaves its menu to a viewer.
+fn leaves_menu(entry: (u8, Viewer), other: (u8, Viewer)) -> bool
+    ensures { result ≡ leaves_menu entry other }
+{
+    other.1.main != entry.1.menu && (other.1.menu != entry.1.menu || other.0 == entry.0)
+}
+
+/// Whether all viewers do.
+fn all_leave_menu(viewers: &Viewers, entry: (u8, Viewer)) -> bool
+    ensures { result ≡ list_all (leaves_menu entry) viewers.now.items }
+{
+    viewers.iter().all(|other| leaves_menu(entry, *other))
+}
+
+/// Whether both texts of a viewer are there, and its menu is its own.
+#[tactic(auto, unfolding(crate::specs::Images::is_framed))]
+fn is_framed(texts: &Texts, viewers: &Viewers, entry: (u8, Viewer)) -> bool
+    ensures { result ≡ is_framed texts.now.entries viewers.now.items entry }
+{
+    let viewer = entry.1;
+    texts.contains_key(&viewer.menu)
+        && texts.contains_key(&viewer.main)
+        && viewer.org <= size_of(texts, viewer.main)
+        && viewer.menu != 0
+        && all_leave_menu(viewers, entry)
+}
+
+/// Whether that holds of all viewers.
+fn are_framed(texts: &Texts, viewers: &Viewers) -> bool
+    ensures { result ≡ list_all (is_framed texts.now.entries viewers.now.items) viewers.now.items }
+{
+    viewers
+        .iter()
+        .all(|entry| is_framed(texts, viewers, *entry))
+}
+
+/// Whether each text is the log or shown by a viewer.
+fn are_in_use(texts: &Texts, viewers: &Viewers) -> bool
+    ensures { result ≡ list_all (is_in_use viewers.now.items) (keys_of texts.now.entries) }
+{
+    for number in texts.keys() {
+        if *number != 0 && !is_in_sight(viewers, *number) {
+            return false;
+        }
+    }
+    true
+}
+
+/// Whether the texts are just those of the viewers, and the log.
+#[tactic(auto, unfolding(crate::specs::Images::are_texts))]
+pub fn are_texts(texts: &Texts, viewers: &Viewers) -> bool
+    ensures { result ≡ are_texts texts.now.entries viewers.now.items }
+{
+    texts.contains_key(&0) && are_framed(texts, viewers) && are_in_use(texts, viewers)
+}
+
+// ---- places
+
+#[tactic(auto, using(crate::proofs::DraftLemmas::times_are))]
+/// How often a viewer stands in a track.
+fn times_in(stretches: &[Stretch], id: u8) -> usize
+    ensures { result ≡ times_in id (map entry_of stretches.now) }
+{
+    let mut times = 0;
+    for stretch in stretches {
+        if stretch.viewer == id {
+            times += 1;
+        }
+    }
+    times
+}
+
+/// Once where that viewer is the kept one.
+fn times_kept(kept: Option<Kept>, id: u8) -> usize
+    ensures value { result ≡ times_meant id (option_map (λ k. k.viewer) kept) }
+    ensures few { result ≤ 1 }
+{
+    match kept {
+        None => 0,
+        Some(kept) => { if kept.viewer == id { 1 } else { 0 } }
+    }
+}
+
+/// Whether all of a track are viewers.
+fn are_known(viewers: &Viewers, stretches: &[Stretch]) -> bool
+    ensures { result ≡ list_all (λ e. has_id viewers.now.items e.viewer) (map entry_of stretches.now) }
+{
+    stretches
+        .iter()
+        .all(|stretch| has_id(viewers.as_slice(), stretch.viewer))
+}
+
+/// Whether the kept one is a viewer, where there is one.
+fn is_kept_known(viewers: &Viewers, kept: Option<Kept>) -> bool
+    ensures { result ≡ is_kept_known viewers.now.items kept }
+{
+    match kept {
+        None => true,
+        Some(kept) => has_id(viewers.as_slice(), kept.viewer),
+    }
+}
+
+/// Whether a viewer stands in one place.
+fn stands_once(user: &[Stretch], system: &[Stretch], kept: Option<Kept>, id: u8) -> bool
+    requires user { length user.now < 2 ^ 8 }
+    requires system { length system.now < 2 ^ 8 }
+    ensures { result ≡ (times_in id (map entry_of user.now) + times_in id (map entry_of system.now)
+        + times_meant id (option_map (λ k. k.viewer) kept) == 1) }
+{
+    times_in(user, id) + times_in(system, id) + times_kept(kept, id) == 1
+}
+
+/// Whether each viewer does.
+fn stand_once(user: &[Stretch], system: &[Stretch], kept: Option<Kept>, viewers: &Viewers) -> bool
+    requires user { length user.now < 2 ^ 8 }
+    requires system { length system.now < 2 ^ 8 }
+    ensures { result ≡ list_all (stands_once (map entry_of user.now) (map entry_of system.now) kept) viewers.now.items }
+{
+    viewers
+        .iter()
+        .all(|entry| stands_once(user, system, kept, entry.0))
+}
+
+/// Whether each viewer stands in one place, in a track or as the kept one, and nothing else does.
+#[tactic(auto, unfolding(crate::specs::Images::are_placed))]
+pub fn are_placed(
+    user: &[Stretch],
+    system: &[Stretch],
+    kept: Option<Kept>,
+    viewers: &Viewers,
+) -> bool
+    requires user { length user.now < 2 ^ 8 }
+    requires system { length system.now < 2 ^ 8 }
+    ensures { result ≡ are_placed (map entry_of user.now) (map entry_of system.now) kept viewers.now.items }
+{
+    stand_once(user, system, kept, viewers)
+        && are_known(viewers, user)
+        && are_known(viewers, system)
+        && is_kept_known(viewers, kept)
+}
+
+// ---- what is marked
+
+/// Whether a viewer stands in a track.
+fn is_tracked(user: &[Stretch], system: &[Stretch], id: u8) -> bool
+    ensures { result ≡ is_tracked (map entry_of user.now) (map entry_of system.now) id }
+{
+    times_in(user, id) > 0 || times_in(system, id) > 0
+}
+
+/// How many characters the main text of a viewer has.
+fn main_size(texts: &Texts, viewers: &Viewers, id: u8) -> u32
+    ensures { result ≡ main_size texts.now.entries viewers.now.items id }
+{
+    size_of(texts, viewer_or_none(viewers, id).main)
+}
+
+/// Whether a caret stands in a viewer of a track, within its text.
+#[tactic(auto, unfolding(crate::specs::Images::is_caret))]
+pub fn is_caret(
+    texts: &Texts,
+    viewers: &Viewers,
+    user: &[Stretch],
+    system: &[Stretch],
+    caret: Option<Caret>,
+) -> bool
+    ensures { result ≡ is_caret texts.now.entries viewers.now.items (map entry_of user.now) (map entry_of system.now)
+        caret }
+{
+    match caret {
+        None => true,
+        Some(caret) => {
+            is_tracked(user, system, caret.viewer)
+                && caret.position <= main_size(texts, viewers, caret.viewer)
+        }
+    }
+}
+
+/// Whether a selection has some character, of a viewer of a track.
+#[tactic(auto, unfolding(crate::specs::Images::is_selection))]
+fn is_selection(
+    texts: &Texts,
+    viewers: &Viewers,
+    user: &[Stretch],
+    system: &[Stretch],
+    selection: Selection,
+) -> bool
+    ensures { result ≡ is_selection texts.now.entries viewers.now.items (map entry_of user.now)
+        (map entry_of system.now) selection }
+{
+    is_tracked(user, system, selection.viewer)
+        && selection.beg < selection.end
+        && selection.end <= main_size(texts, viewers, selection.viewer)
+}
+
+/// Whether all selections have.
+pub fn are_selections(
+    texts: &Texts,
+    viewers: &Viewers,
+    user: &[Stretch],
+    system: &[Stretch],
+    selections: &[Selection],
+) -> bool
+    ensures { result ≡ list_all (is_selection texts.now.entries viewers.now.items (map entry_of user.now)
+        (map entry_of system.now)) selections.now }
+{
+    selections.iter().all(|selection| is_selection(texts, viewers, user, system, *selection))
+}
+
+// ---- a viewer's caret and selection are those that the desktop has there
+
+/// Whether two positions are the same, or both are missing.
+fn same_position(a: Option<u32>, b: Option<u32>) -> bool
+    ensures { result ≡ same_position a b }
+{
+    match a {
+        None => b.is_none(),
+        Some(m) => match b {
+            None => false,
+            Some(n) => m == n,
+        },
+    }
+}
+
+/// Whether two selections are the same, or both are missing.
+fn same_ranked(a: Option<Ranked>, b: Option<Ranked>) -> bool
+    ensures { result ≡ same_ranked a b }
+{
+    match a {
+        None => b.is_none(),
+        Some(r) => match b {
+            None => false,
+            Some(s) => r.rank == s.rank && r.beg == s.beg && r.end == s.end,
+        },
+    }
+}
+
+/// Whether the caret and the selection of a viewer are these.
+#[tactic(auto, unfolding(crate::specs::Images::is_pictured))]
+fn is_pictured(caret: Option<Caret>, selections: &[Selection], picture: &ViewerPicture) -> bool
+    requires { length selections.now < 2 ^ 8 }
+    ensures { result ≡ is_pictured caret selections.now picture.now }
+{
+    same_position(position_in(picture.id, caret), picture.caret)
+        && same_ranked(ranked_in(selections, picture.id), picture.selection)
+}
+
+/// Whether those of all viewers are.
+pub fn are_pictured(
+    caret: Option<Caret>,
+    selections: &[Selection],
+    pictures: &[ViewerPicture],
+) -> bool
+    requires { length selections.now < 2 ^ 8 }
+    ensures { result ≡ list_all (is_pictured caret selections.now) pictures.now }
+{
+    pictures
+        .iter()
+        .all(|picture| is_pictured(caret, selections, picture))
+}

@@ -1,0 +1,26 @@
+use Rattle.std.proofs.Common.{◌-◌, ◌∙◌, ap, sym}
+use Rattle.desktop_definitions.specs.Seen.{seen}
+use Rattle.desktop_laws.specs.RowLaws.{has_space, known_no_selection}
+use Rattle.desktop_laws.specs.KeyLaws.{copy_none, copy_full, copy_answered}
+use Rattle.desk_core.specs.Kept.{kept}
+use Rattle.desk_core.proofs.StretchLemmas.{refused_row}
+use Rattle.desk_input.proofs.keys.copy.Goals as goal
+
+pub returns-in_default-clause-answered : goal.returns-in_default-clause-answered
+unfolding seen
+returns-in_default-clause-answered g c =
+    refused_row c.requires.over known_no_selection (copy_none _ (sym c.selection.ensures.is ∙ c.in_default.is))
+
+pub returns-then-not-fits_more-clause-answered : goal.returns-then-not-fits_more-clause-answered
+returns-then-not-fits_more-clause-answered g c =
+    let s = c.in-Some.selection in
+    copy_full _ _ _ c.requires.over s (sym c.in-Some.ensures.is) c.in-Some.ensures.some c.in-Some.ensures.stands.place
+    (ap (has_space _ 0 (s.end - s.beg)) (sym c.len.ensures) ∙ sym (c.fits_more.ensures _) ∙ c.if-not-fits_more.true)
+
+pub returns-clause-answered : goal.returns-clause-answered
+returns-clause-answered g c =
+    let s = c.in-Some.selection in
+    copy_answered _ _ _ s _ c.requires.over (sym c.in-Some.ensures.is) c.in-Some.ensures.some
+    c.in-Some.ensures.stands.place c.in_ok-desk.ensures.is
+    (λ all. ap (has_space (seen all (kept c.args.desk.now)) 0 (s.end - s.beg)) (sym c.len.ensures)
+    ∙ sym (c.fits_more.ensures all) ∙ c.if-not-fits_more.false)

@@ -1,0 +1,6 @@
+use Rattle.desktop_definitions.specs.Keys.{pressed}
+use Rattle.desk_input.proofs.keys.paste.Goals as goal
+
+pub returns-clause-answered : goal.returns-clause-answered
+unfolding pressed
+returns-clause-answered g c = c.put_buffer.ensures.answered

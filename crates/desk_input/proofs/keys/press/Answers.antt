@@ -1,0 +1,16 @@
+use Rattle.desk_input.proofs.keys.press.Goals as goal
+
+pub returns-in-Back-clause-answered : goal.returns-in-Back-clause-answered
+returns-in-Back-clause-answered g c = rw c.in-Back.is c.take_back.ensures.answered
+
+pub returns-in-Copy-clause-answered : goal.returns-in-Copy-clause-answered
+returns-in-Copy-clause-answered g c = rw c.in-Copy.is c.copy.ensures.answered
+
+pub returns-in-Paste-clause-answered : goal.returns-in-Paste-clause-answered
+returns-in-Paste-clause-answered g c = rw c.in-Paste.is c.paste.ensures.answered
+
+pub returns-in-Cut-clause-answered : goal.returns-in-Cut-clause-answered
+returns-in-Cut-clause-answered g c = rw c.in-Cut.is c.cut.ensures.answered
+
+pub returns-in-Escape-clause-answered : goal.returns-in-Escape-clause-answered
+returns-in-Escape-clause-answered g c = rw c.in-Escape.is c.escape.ensures.answered

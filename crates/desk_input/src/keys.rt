@@ -1,0 +1,144 @@
+//! What typing and the keys do.
+ghost use Rattle.std.specs.Prelude.{◌+◌, ◌<◌, IfOk};
+ghost use Rattle.event_bytes.specs.declared.keys.Key.TheVariants.{Back, Copy, Paste, Cut, Escape};
+ghost use Rattle.desktop_definitions.specs.Keys.{typed, pressed};
+ghost use Rattle.desktop_definitions.specs.Sound.{IsOver};
+ghost use Rattle.desk_core.specs.Kept.{kept};
+ghost use Rattle.desk_core.specs.Row.{Settles, Uses};
+
+use char_file::CharSource;
+use desk_core::desk::Desk;
+use desk_core::edits::buffer_of_run;
+use desk_core::stop::Stop;
+use desktop_definitions::{Reply, Selection, codes};
+use event_bytes::{Key, TypedBytes};
+use std::alloc::Global;
+use text_core::Buffer;
+
+/// The bytes go to the caret in the current look, and the caret after them, where it is shown. Refused without a
+/// caret.
+pub fn type_bytes<S: CharSource>(
+    desk: &mut Desk,
+    alloc: Global,
+    bytes: &TypedBytes,
+    source: &mut S,
+) -> Result<Reply, Stop>
+    requires over { IsOver (S.characters source.old) (kept desk.old) }
+    ensures answered { IfOk result (Settles S.CharSource (λ d. typed d bytes.now)
+        source.old source.new (kept desk.old) (kept desk.new)) }
+    ensures uses { Uses S.CharSource result source.old source.new }
+{
+    let Some(caret) = desk.caret_place() else {
+        return Ok(Reply::No(codes::NO_CARET));
+    };
+    let bytes = bytes.as_bytes();
+    if !desk.fits_more(bytes.len(), bytes.len(), 0) {
+        return Ok(Reply::No(codes::FULL));
+    }
+    let mut buffer = buffer_of_run(alloc, desk.written, bytes.len() as u32, desk.look)?;
+    source.append(bytes)?;
+    desk.put_at_caret(alloc, caret, &mut buffer, source)?;
+    desk.written += bytes.len() as u32;
+    Ok(Reply::Done)
+}
+
+/// Does what a key means.
+pub fn press<S: CharSource>(
+    desk: &mut Desk,
+    alloc: Global,
+    key: Key,
+    source: &mut S,
+) -> Result<Reply, Stop>
+    requires over { IsOver (S.characters source.old) (kept desk.old) }
+    ensures answered { IfOk result (Settles S.CharSource (λ d. pressed d key)
+        source.old source.new (kept desk.old) (kept desk.new)) }
+    ensures uses { Uses S.CharSource result source.old source.new }
+{
+    match key {
+        Key::Back => take_back(desk, alloc, source),
+        Key::Copy => copy(desk, alloc, source),
+        Key::Paste => paste(desk, alloc, source),
+        Key::Cut => cut(desk, alloc, source),
+        Key::Escape => escape(desk, source),
+    }
+}
+
+/// The character before the caret is taken out, where there is one. Refused without a caret.
+fn take_back<S: CharSource>(desk: &mut Desk, alloc: Global, source: &mut S) -> Result<Reply, Stop>
+    requires over { IsOver (S.characters source.old) (kept desk.old) }
+    ensures answered { IfOk result (Settles S.CharSource (λ d. pressed d Back)
+        source.old source.new (kept desk.old) (kept desk.new)) }
+    ensures uses { Uses S.CharSource result source.old source.new }
+{
+    let Some(caret) = desk.caret_place() else {
+        return Ok(Reply::No(codes::NO_CARET));
+    };
+    if caret.position > 0 {
+        let mut taken = Buffer::new(alloc)?;
+        let before = Selection {
+            viewer: caret.viewer,
+            beg: caret.position - 1,
+            end: caret.position,
+        };
+        desk.cut_out(alloc, before, &mut taken, source)?;
+    }
+    Ok(Reply::Done)
+}
+
+/// The newest selection goes into the copied buffer. Refused without a selection.
+fn copy<S: CharSource>(desk: &mut Desk, alloc: Global, source: &mut S) -> Result<Reply, Stop>
+    requires over { IsOver (S.characters source.old) (kept desk.old) }
+    ensures answered { IfOk result (Settles S.CharSource (λ d. pressed d Copy)
+        source.old source.new (kept desk.old) (kept desk.new)) }
+    ensures uses { Uses S.CharSource result source.old source.new }
+{
+    let Some(selection) = desk.selection() else {
+        return Ok(Reply::No(codes::NO_SELECTION));
+    };
+    let len = (selection.end - selection.beg) as usize;
+    if !desk.fits_more(0, len, desk.copied.len() as usize) {
+        return Ok(Reply::No(codes::FULL));
+    }
+    desk.copied = desk.copy_of(alloc, selection)?;
+    Ok(Reply::Done)
+}
+
+/// What was copied last is put in at the caret. Refused without a caret.
+fn paste<S: CharSource>(desk: &mut Desk, alloc: Global, source: &mut S) -> Result<Reply, Stop>
+    requires over { IsOver (S.characters source.old) (kept desk.old) }
+    ensures answered { IfOk result (Settles S.CharSource (λ d. pressed d Paste)
+        source.old source.new (kept desk.old) (kept desk.new)) }
+    ensures uses { Uses S.CharSource result source.old source.new }
+{
+    desk.put_buffer(alloc, false, source)
+}
+
+/// The newest selection goes out of its text into the copied buffer, and the caret to where it was. Refused without
+/// a selection.
+fn cut<S: CharSource>(desk: &mut Desk, alloc: Global, source: &mut S) -> Result<Reply, Stop>
+    requires over { IsOver (S.characters source.old) (kept desk.old) }
+    ensures answered { IfOk result (Settles S.CharSource (λ d. pressed d Cut)
+        source.old source.new (kept desk.old) (kept desk.new)) }
+    ensures uses { Uses S.CharSource result source.old source.new }
+{
+    let Some(selection) = desk.selection() else {
+        return Ok(Reply::No(codes::NO_SELECTION));
+    };
+    let mut taken = Buffer::new(alloc)?;
+    desk.copied = desk.copy_of(alloc, selection)?;
+    desk.cut_out(alloc, selection, &mut taken, source)?;
+    Ok(Reply::Done)
+}
+
+/// Caret, selections and marker go.
+fn escape<S: CharSource>(desk: &mut Desk, source: &mut S) -> Result<Reply, Stop>
+    requires over { IsOver (S.characters source.old) (kept desk.old) }
+    ensures answered { IfOk result (Settles S.CharSource (λ d. pressed d Escape)
+        source.old source.new (kept desk.old) (kept desk.new)) }
+    ensures uses { Uses S.CharSource result source.old source.new }
+{
+    desk.caret = None;
+    desk.selections.clear();
+    desk.marker = None;
+    Ok(Reply::Done)
+}

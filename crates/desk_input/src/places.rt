@@ -1,0 +1,241 @@
+//! Where cells of the display lie, and what is shown there.
+ghost use Rattle.std.specs.Prelude.{◌≡◌, ◌==◌, ◌+◌, ◌<◌, ◌≤◌, min, max, length, true, IfOk, if◌then◌else◌};
+ghost use Rattle.sector_disk.specs.Trail.{CountsFault};
+ghost use Rattle.char_file.specs.Source.{OnlyReads};
+ghost use Rattle.piece_ring.specs.Flat.{flat};
+ghost use Rattle.viewer_tracks.specs.declared.display.TheConstants.{ROWS, COLUMNS};
+ghost use Rattle.viewer_tracks.specs.declared.display.Track.{Track as ATrack};
+ghost use Rattle.viewer_tracks.specs.Display.{left_of};
+ghost use Rattle.viewer_tracks.specs.Columns.{IsPlaced};
+ghost use Rattle.screen_pictures.specs.Picture.{width_of};
+ghost use Rattle.desktop_definitions.specs.declared.area.Area.TheVariants.{Menu, Bar, Body};
+ghost use Rattle.desktop_definitions.specs.Viewers.{text_in, viewer_or_none, rows_of};
+ghost use Rattle.desktop_definitions.specs.Gesture.{area_at, frame_row, width, menu_column, text_column, text_row};
+ghost use Rattle.desktop_definitions.specs.Gesture.{text_position, stretch_drawn, menu_position, IsAreaOf};
+ghost use Rattle.desktop_definitions.specs.Call.{text_called};
+ghost use Rattle.desktop_definitions.specs.Seen.{seen};
+ghost use Rattle.desktop_definitions.specs.Sound.{IsOver};
+ghost use Rattle.desk_core.specs.Kept.{kept};
+ghost use Rattle.desk_core.specs.Mouse.{position_in};
+
+use char_file::{CharSource, Fault};
+use desk_core::desk::Desk;
+use desk_core::viewers::viewer_or_none;
+use desktop_definitions::{Area, Selection};
+use text_frames::Frame;
+use viewer_tracks::{COLUMNS, Place, SYSTEM_LEFT, ViewerId};
+
+/// The part of a viewer in which a cell of its place lies.
+fn part_of(id: u8, place: Place, x: u8, y: u8) -> Area
+    requires { y < ROWS }
+    ensures { result ≡ (if y + 1 == place.top then Menu id else (if x == place.x then Bar id else Body id)) }
+{
+    if y + 1 == place.top {
+        Area::Menu(id)
+    } else if x == place.x {
+        Area::Bar(id)
+    } else {
+        Area::Body(id)
+    }
+}
+
+/// How many columns a track has whose leftmost column is `left`.
+fn width(left: u8) -> u8
+    ensures value { (track : ATrack) → left ≡ left_of track → result ≡ width_of track }
+    ensures some { 30 ≤ result }
+    ensures fits { result ≤ 50 }
+{
+    if left == 0 {
+        SYSTEM_LEFT
+    } else {
+        COLUMNS - SYSTEM_LEFT
+    }
+}
+
+/// The characters between two positions of a viewer's text of `len` characters, with those at both.
+fn stretch(id: u8, p: u32, q: u32, len: u32) -> Selection
+    ensures { result ≡ record { viewer = id; beg = min p q; end = min (max p q + 1) len } }
+{
+    Selection {
+        viewer: id,
+        beg: p.min(q),
+        end: p.max(q).saturating_add(1).min(len),
+    }
+}
+
+/// Where a cell of the display lies.
+pub fn area_at(desk: &Desk, x: u8, y: u8) -> Area
+    requires column { x < COLUMNS }
+    requires row { y < ROWS }
+    ensures area { result ≡ area_at (kept desk.now) x y }
+    ensures stands { IsAreaOf (kept desk.now) y result }
+{
+    match desk.tracks.at(x, y) {
+        None => Area::Filler,
+        Some(viewer) => {
+            let place = desk.tracks.place_of(viewer);
+            part_of(viewer.0, place, x, y)
+        }
+    }
+}
+
+/// The row of a viewer's main frame at row `y` of the display, counted from the frame's top.
+pub fn frame_row(desk: &Desk, id: u8, y: u8) -> u8
+    requires placed { IsPlaced id (kept desk.now).columns }
+    ensures { result ≡ frame_row (kept desk.now) id y }
+{
+    let place = desk.tracks.place_of(ViewerId(id));
+    place.top.saturating_sub(2).saturating_sub(y)
+}
+
+/// How many columns of text cells a viewer has.
+pub fn text_width(desk: &Desk, id: u8) -> u8
+    requires placed { IsPlaced id (kept desk.now).columns }
+    ensures width { result + 1 ≡ width (kept desk.now) id }
+    ensures some { 0 < result }
+    ensures fits { result < 50 }
+{
+    let place = desk.tracks.place_of(ViewerId(id));
+    width(place.x) - 1
+}
+
+/// The nearest column of a viewer's text cells to a column of the display.
+fn text_column(desk: &Desk, id: u8, x: u8) -> u8
+    requires placed { IsPlaced id (kept desk.now).columns }
+    ensures { result ≡ text_column (kept desk.now) id x }
+{
+    let left = desk.tracks.place_of(ViewerId(id)).x;
+    let width = text_width(desk, id);
+    x.min(left + width).max(left + 1) - (left + 1)
+}
+
+/// The nearest column of a viewer's menu to a column of the display.
+fn menu_column(desk: &Desk, id: u8, x: u8) -> u8
+    requires placed { IsPlaced id (kept desk.now).columns }
+    ensures { result ≡ menu_column (kept desk.now) id x }
+{
+    let left = desk.tracks.place_of(ViewerId(id)).x;
+    let width = text_width(desk, id);
+    x.min(left + width).max(left) - left
+}
+
+/// The nearest row of a viewer's main frame to a row of the display.
+fn text_row(desk: &Desk, id: u8, y: u8) -> u8
+    requires placed { IsPlaced id (kept desk.now).columns }
+    requires some { 0 < rows_of (kept desk.now) id }
+    ensures row { result ≡ text_row (kept desk.now) id y }
+    ensures within { result < rows_of (kept desk.now) id }
+{
+    let place = desk.tracks.place_of(ViewerId(id));
+    frame_row(desk, id, y.min(place.top - 2).max(place.bottom))
+}
+
+/// The position in a viewer's main text at a column and a row of its main frame. Fault: the source failed in this
+/// call.
+pub fn position_in<S: CharSource>(
+    desk: &Desk,
+    id: u8,
+    column: u8,
+    row: u8,
+    source: &mut S,
+) -> Result<u32, Fault>
+    requires over { IsOver (S.characters source.old) (kept desk.now) }
+    requires placed { IsPlaced id (kept desk.now).columns }
+    requires row { row < rows_of (kept desk.now) id }
+    ensures exact { IfOk result (λ p. S.honest source.old
+        → p ≡ position_in (seen (S.characters source.old) (kept desk.now)) id column row) }
+    ensures from { IfOk result (λ p. (viewer_or_none (kept desk.now).viewers id).org ≤ p) }
+    ensures within { IfOk result (λ p. p ≤ length (flat (text_in (kept desk.now).texts
+        (viewer_or_none (kept desk.now).viewers id).main))) }
+    ensures reads { OnlyReads S.characters S.failures S.honest S.same_ground source.old source.new }
+    ensures cause { CountsFault result (S.failures source.old) (S.failures source.new) }
+{
+    let frame = desk.main_frame(id);
+    let text = desk.main_text(id);
+    let pos = frame.pos_at(
+        text,
+        text_width(desk, id),
+        desk.rows_of(id),
+        column,
+        row,
+        source,
+    )?;
+    Ok(pos)
+}
+
+/// The position in a viewer's main text that is shown nearest to a cell. Fault: the source failed in this call.
+pub fn text_position<S: CharSource>(
+    desk: &Desk,
+    id: u8,
+    x: u8,
+    y: u8,
+    source: &mut S,
+) -> Result<u32, Fault>
+    requires over { IsOver (S.characters source.old) (kept desk.now) }
+    requires placed { IsPlaced id (kept desk.now).columns }
+    requires some { 0 < rows_of (kept desk.now) id }
+    ensures exact { IfOk result (λ p. S.honest source.old
+        → p ≡ text_position (seen (S.characters source.old) (kept desk.now)) id x y) }
+    ensures within { IfOk result (λ p. p ≤ length (flat (text_in (kept desk.now).texts
+        (viewer_or_none (kept desk.now).viewers id).main))) }
+    ensures reads { OnlyReads S.characters S.failures S.honest S.same_ground source.old source.new }
+    ensures cause { CountsFault result (S.failures source.old) (S.failures source.new) }
+{
+    let column = text_column(desk, id, x);
+    let row = text_row(desk, id, y);
+    position_in(desk, id, column, row, source)
+}
+
+/// The position in a viewer's menu that is shown nearest to a column. Fault: the source failed in this call.
+pub fn menu_position<S: CharSource>(
+    desk: &Desk,
+    id: u8,
+    x: u8,
+    source: &mut S,
+) -> Result<u32, Fault>
+    requires over { IsOver (S.characters source.old) (kept desk.now) }
+    requires placed { IsPlaced id (kept desk.now).columns }
+    ensures exact { IfOk result (λ p. S.honest source.old
+        → p ≡ menu_position (seen (S.characters source.old) (kept desk.now)) id x) }
+    ensures within { IfOk result (λ p. p ≤ length (flat (text_called (kept desk.now) id true))) }
+    ensures reads { OnlyReads S.characters S.failures S.honest S.same_ground source.old source.new }
+    ensures cause { CountsFault result (S.failures source.old) (S.failures source.new) }
+{
+    let viewer = viewer_or_none(&desk.viewers, id);
+    let frame = Frame {
+        text: viewer.menu,
+        org: 0,
+        caret: None,
+        selection: None,
+    };
+    let menu = desk.text_called(id, true);
+    let width = text_width(desk, id) + 1;
+    let column = menu_column(desk, id, x);
+    frame.pos_at(menu, width, 1, column, 0, source)
+}
+
+/// The stretch of a viewer's main text that was drawn between two cells, each as column and row. Fault: the source
+/// failed in this call.
+pub fn stretch_drawn<S: CharSource>(
+    desk: &Desk,
+    id: u8,
+    from: (u8, u8),
+    to: (u8, u8),
+    source: &mut S,
+) -> Result<Selection, Fault>
+    requires over { IsOver (S.characters source.old) (kept desk.now) }
+    requires placed { IsPlaced id (kept desk.now).columns }
+    requires some { 0 < rows_of (kept desk.now) id }
+    ensures exact { IfOk result (λ s. S.honest source.old
+        → s ≡ stretch_drawn (seen (S.characters source.old) (kept desk.now)) id from.0 from.1 to.0 to.1) }
+    ensures viewer { IfOk result (λ s. s.viewer ≡ id) }
+    ensures within { IfOk result (λ s. s.end ≤ length (flat (text_in (kept desk.now).texts
+        (viewer_or_none (kept desk.now).viewers id).main))) }
+    ensures reads { OnlyReads S.characters S.failures S.honest S.same_ground source.old source.new }
+    ensures cause { CountsFault result (S.failures source.old) (S.failures source.new) }
+{
+    let first = text_position(desk, id, from.0, from.1, source)?;
+    let last = text_position(desk, id, to.0, to.1, source)?;
+    let len = desk.main_text(id).len();
+    Ok(stretch(id, first, last, len))
+}

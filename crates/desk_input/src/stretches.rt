@@ -1,0 +1,138 @@
+//! What the mouse does with stretches of texts.
+ghost use Rattle.std.specs.Prelude.{◌≡◌, ◌≤◌, length, IfOk};
+ghost use Rattle.piece_ring.specs.Flat.{flat};
+ghost use Rattle.text_core.specs.Attributes.{look_at};
+ghost use Rattle.desktop_definitions.specs.Gesture.{copied_to, looks_taken, taken_out, sent_to_caret};
+ghost use Rattle.desktop_definitions.specs.Sound.{IsOver};
+ghost use Rattle.desktop_laws.specs.RowPartLaws.{kept_main};
+ghost use Rattle.desk_core.specs.Kept.{kept};
+ghost use Rattle.desk_core.specs.Positions.{IsPosition};
+ghost use Rattle.desk_core.specs.Row.{Settles, Uses};
+
+use char_file::CharSource;
+use desk_core::desk::Desk;
+use desk_core::stop::Stop;
+use desk_core::viewers::select;
+use desktop_definitions::{Caret, Reply, Selection, codes};
+use piece_ring::{DEFAULT_LOOK, Look};
+use std::alloc::Global;
+use text_core::Buffer;
+
+/// A copy of the newest selection is put in at `pos` in a viewer, and the caret after it, where it is shown.
+/// Refused without a selection.
+pub fn copy_to<S: CharSource>(
+    desk: &mut Desk,
+    alloc: Global,
+    id: u8,
+    pos: u32,
+    source: &mut S,
+) -> Result<Reply, Stop>
+    requires at { IsPosition (kept desk.old) id pos }
+    requires over { IsOver (S.characters source.old) (kept desk.old) }
+    ensures answered { IfOk result (Settles S.CharSource (λ d. copied_to d id pos)
+        source.old source.new (kept desk.old) (kept desk.new)) }
+    ensures uses { Uses S.CharSource result source.old source.new }
+{
+    let Some(selection) = desk.selection() else {
+        return Ok(Reply::No(codes::NO_SELECTION));
+    };
+    let len = (selection.end - selection.beg) as usize;
+    if !desk.fits_more(0, len, 0) {
+        return Ok(Reply::No(codes::FULL));
+    }
+    let mut copy = desk.copy_of(alloc, selection)?;
+    desk.put_in(alloc, id, pos, &mut copy, source)?;
+    Ok(Reply::Done)
+}
+
+/// The newest selection gets the look at `pos` in a viewer, where the caret then stands. Refused without a
+/// selection.
+pub fn take_looks<S: CharSource>(
+    desk: &mut Desk,
+    alloc: Global,
+    id: u8,
+    pos: u32,
+    source: &mut S,
+) -> Result<Reply, Stop>
+    requires at { IsPosition (kept desk.old) id pos }
+    requires over { IsOver (S.characters source.old) (kept desk.old) }
+    ensures answered { IfOk result (Settles S.CharSource (λ d. looks_taken d id pos)
+        source.old source.new (kept desk.old) (kept desk.new)) }
+    ensures uses { Uses S.CharSource result source.old source.new }
+{
+    let Some(selection) = desk.selection() else {
+        return Ok(Reply::No(codes::NO_SELECTION));
+    };
+    let look = look_at(desk, id, pos);
+    desk.set_looks(alloc, selection, 7, look)?;
+    desk.caret = Some(Caret {
+        viewer: id,
+        position: pos,
+    });
+    Ok(Reply::Done)
+}
+
+/// A stretch goes into the deleted buffer, and the caret to where it was, which is shown. Refused where it is
+/// empty.
+pub fn take_out<S: CharSource>(
+    desk: &mut Desk,
+    alloc: Global,
+    drawn: Selection,
+    source: &mut S,
+) -> Result<Reply, Stop>
+    requires at { IsPosition (kept desk.old) drawn.viewer drawn.end }
+    requires over { IsOver (S.characters source.old) (kept desk.old) }
+    ensures answered { IfOk result (Settles S.CharSource (λ d. taken_out d drawn)
+        source.old source.new (kept desk.old) (kept desk.new)) }
+    ensures uses { Uses S.CharSource result source.old source.new }
+{
+    if drawn.beg >= drawn.end {
+        return Ok(Reply::No(codes::NO_SELECTION));
+    }
+    let mut taken = Buffer::new(alloc)?;
+    desk.cut_out(alloc, drawn, &mut taken, source)?;
+    desk.deleted = taken;
+    Ok(Reply::Done)
+}
+
+/// A stretch is selected, and a copy of it put in at the caret. Refused where it is empty, or without a caret.
+pub fn send_to_caret<S: CharSource>(
+    desk: &mut Desk,
+    alloc: Global,
+    drawn: Selection,
+    source: &mut S,
+) -> Result<Reply, Stop>
+    requires at { IsPosition (kept desk.old) drawn.viewer drawn.end }
+    requires over { IsOver (S.characters source.old) (kept desk.old) }
+    ensures answered { IfOk result (Settles S.CharSource (λ d. sent_to_caret d drawn)
+        source.old source.new (kept desk.old) (kept desk.new)) }
+    ensures uses { Uses S.CharSource result source.old source.new }
+{
+    if drawn.beg >= drawn.end {
+        return Ok(Reply::No(codes::NO_SELECTION));
+    }
+    let Some(caret) = desk.caret_place() else {
+        return Ok(Reply::No(codes::NO_CARET));
+    };
+    let len = (drawn.end - drawn.beg) as usize;
+    if !desk.fits_more(0, len, 0) {
+        return Ok(Reply::No(codes::FULL));
+    }
+    let mut copy = desk.copy_of(alloc, drawn)?;
+    select(&mut desk.selections, drawn)?;
+    desk.put_at_caret(alloc, caret, &mut copy, source)?;
+    Ok(Reply::Done)
+}
+
+/// The look of the character at `pos` in a viewer's main text, of the last one at its end, and `DEFAULT_LOOK` where
+/// there is none.
+fn look_at(desk: &Desk, id: u8, pos: u32) -> Look
+    requires { pos ≤ length (flat (kept_main (kept desk.now) id)) }
+    ensures { result ≡ look_at pos (flat (kept_main (kept desk.now) id)) }
+{
+    let number = desk.main_of(id);
+    match desk.texts.get(&number) {
+        Some(text) => text.attributes(pos),
+        None => DEFAULT_LOOK,
+    }
+}

@@ -1,4 +1,0 @@
-use Rattle.desk_journal.proofs.live.LiveDesktop.written.Goals as goal
-
-pub returns : goal.returns
-returns c = c.written.ensures c.args.self.now.characters

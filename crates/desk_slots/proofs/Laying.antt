@@ -1,0 +1,166 @@
+-- A disk that was just laid out shows the empty desktop.
+use Rattle.std.proofs.Common.{◌≡◌, ◌≢◌, ℕ, ◌+◌, ◌*◌, ◌/◌, ◌%◌, ◌<◌, ◌≤◌, List, [], take, length, get_or, refl, sym}
+use Rattle.std.proofs.Common.{◌∙◌, ap, subst, arith, rules}
+use Rattle.std.proofs.Common.{true, false}
+use Rattle.std.proofs.lemmas.List.{get_or-take}
+use Rattle.sector_disk.specs.Trail.{Moment, Trail, now, written, settled, Touches, Only}
+use Rattle.sector_disk.proofs.Touching.{still_reads}
+use Rattle.sector_streams.specs.Stored.{stored, byte_of, stored_by_index, none_stored}
+use Rattle.sector_streams.proofs.Filled.{reads_here, reads_elsewhere}
+use Rattle.desktop_definitions.specs.Desktop.{empty_desktop}
+use Rattle.desktop_definitions.specs.Seen.{seen}
+use Rattle.desktop_definitions.specs.Sound.{IsSound, IsWithin, IsKeptWhole}
+use Rattle.desktop_laws.specs.StepLaws.{empty_sound}
+use Rattle.sector_disk.specs.declared.disk.TheConstants.{SECTOR_BYTES}
+use Rattle.desk_image.specs.Image.{IsSpellable, Spells}
+use Rattle.desk_image.specs.Laws.{EmptyLaw, empty_bytes}
+use Rattle.store_layout.specs.declared.head.Head.{Head}
+use Rattle.store_layout.specs.declared.layout.TheConstants.{LABEL, LAYOUT, STORE_SECTORS}
+use Rattle.store_layout.specs.Bits.{clash}
+use Rattle.store_layout.specs.Layout.{is_label, is_open, slot_gate, slot_head, gate, image_at, area_at, head, head_of}
+use Rattle.store_layout.specs.Layout.{IsGoodHead}
+use Rattle.store_layout.specs.Meaning.{Makes, full_sectors}
+use Rattle.store_layout.specs.Kept.{IsNewSlot, IsKept}
+use Rattle.store_layout.specs.StandingLaws.{image_stays}
+use Rattle.desk_slots.specs.Written.{HasGate, IsFilled}
+
+-- ---- the empty desktop
+
+empty_seen : seen [] empty_desktop ≡ empty_desktop
+unfolding seen empty_desktop
+empty_seen = refl
+
+seen_empty : (characters : List ℕ) → seen characters empty_desktop ≡ empty_desktop
+unfolding seen empty_desktop
+seen_empty characters = refl
+
+nothing_there : IsWithin 0 empty_desktop
+unfolding empty_desktop
+nothing_there = search rules
+
+empty_whole : IsKeptWhole empty_desktop
+unfolding empty_desktop
+empty_whole = record {
+  within = nothing_there;
+  sound = λ characters. subst IsSound (sym (seen_empty characters)) empty_sound;
+}
+
+empty_parts : IsSpellable empty_desktop
+unfolding empty_desktop
+empty_parts = search rules
+
+empty_spelled : (law : EmptyLaw) → Spells 0 empty_bytes empty_desktop
+unfolding empty_desktop
+empty_spelled law = record { count = refl; whole = empty_whole; parts = empty_parts; exact = sym law.0 }
+
+-- ---- slot 0
+
+-- how many bytes the image of the empty desktop has
+abbrev first_extent : ℕ
+first_extent = length empty_bytes
+
+module _ (before one two three four last : Moment) (image head_bytes shut label : List ℕ) (law : EmptyLaw)
+    (image_is : take first_extent image ≡ empty_bytes)
+    (is_head : head_of head_bytes ≡ record { version = LAYOUT; epoch = 1; written = 0; extent = first_extent })
+    (is_shut : is_open shut ≡ false) (image_written : one ≡ written before (image_at 0) image)
+    (head_written : two ≡ written one (slot_head 0) head_bytes) (gate_written : three ≡ written two (gate 0 0) shut)
+    (label_written : four ≡ written three LABEL label) (synced : last ≡ settled four) where
+  abbrev new_head : Head
+  new_head = record { version = LAYOUT; epoch = 1; written = 0; extent = first_extent }
+
+  after_label : (n : ℕ) → n ≢ LABEL → last.reads n ≡ three.reads n
+  after_label n other = ap (λ m. m.reads n) (synced ∙ ap settled label_written)
+      ∙ reads_elsewhere three LABEL n label other
+
+  after_gate : (n : ℕ) → n ≢ LABEL → n ≢ gate 0 0 → last.reads n ≡ two.reads n
+  after_gate n other further = after_label n other ∙ ap (λ m. m.reads n) gate_written
+      ∙ reads_elsewhere two (gate 0 0) n shut further
+
+  here : head last.reads 0 ≡ new_head
+  here = ap head_of (after_gate (slot_head 0) (omega arith) (omega arith)
+      ∙ ap (λ m. m.reads (slot_head 0)) head_written ∙ reads_here one (slot_head 0) head_bytes) ∙ is_head
+
+  image_there : last.reads (image_at 0) ≡ image
+  image_there = after_gate (image_at 0) (omega arith) (omega arith)
+      ∙ ap (λ m. m.reads (image_at 0)) head_written
+      ∙ reads_elsewhere one (slot_head 0) (image_at 0) head_bytes (omega arith)
+      ∙ ap (λ m. m.reads (image_at 0)) image_written ∙ reads_here before (image_at 0) image
+
+  image_stored : stored last.reads (image_at 0) first_extent ≡ empty_bytes
+  image_stored = stored_by_index last.reads (image_at 0) first_extent empty_bytes refl (λ i low.
+      ap (λ l. get_or l i 0) (sym image_is) ∙ get_or-take first_extent image i 0 low
+      ∙ ap (λ l. get_or l i 0) (sym image_there) ∙ sym (in_first i low))
+    where
+      in_first : (i : ℕ) → i < first_extent → byte_of last.reads (image_at 0) i ≡ get_or (last.reads (image_at 0)) i 0
+      in_first i low =
+          let sector : image_at 0 + i / SECTOR_BYTES ≡ image_at 0 = omega (arith, low) in
+          let place : i % SECTOR_BYTES ≡ i = omega (arith, low) in
+          ap (λ n. get_or (last.reads n) (i % SECTOR_BYTES) 0) sector
+          ∙ ap (λ n. get_or (last.reads (image_at 0)) n 0) place
+
+  made : Makes new_head empty_bytes [] empty_desktop
+  made = record {
+    kept = empty_desktop;
+    tail = omega arith;
+    spells = empty_spelled law;
+    is = empty_seen;
+  }
+
+  fresh : IsNewSlot last.reads 0 1 empty_desktop
+  fresh = record {
+    good = subst IsGoodHead (sym here)
+        (record { version = refl; epoch = omega arith; written = omega arith; extent = omega arith });
+    epoch = ap (λ h. h.epoch) here;
+    image = subst (λ h. Makes h (stored last.reads (image_at 0) h.extent)
+        (stored last.reads (area_at 0) (SECTOR_BYTES * full_sectors h.written)) empty_desktop) (sym here)
+        (subst (λ l. Makes new_head l (stored last.reads (area_at 0) 0) empty_desktop) (sym image_stored)
+        (subst (λ l. Makes new_head empty_bytes l empty_desktop) (sym (none_stored last.reads (area_at 0))) made));
+    journal = ap is_open (after_label (gate 0 0) (omega arith) ∙ ap (λ m. m.reads (gate 0 0)) gate_written
+        ∙ reads_here two (gate 0 0) shut) ∙ is_shut;
+  }
+
+  pub slot_started : IsFilled last 0 1 [] empty_desktop
+  slot_started = record {
+    quiet = λ n. ap (λ m. m.pending n) synced;
+    new = fresh;
+    front = record { named = ap (λ h. full_sectors h.written) here; same = none_stored last.reads (area_at 0) };
+  }
+
+-- ---- the whole
+
+-- label and slot were written, and the gate of slot 1 closed, before slot 0 was opened
+pub laid_out : (size : ℕ) (closed started opened : Trail) → STORE_SECTORS ≤ size
+    → is_open ((now closed).reads (slot_gate 1)) ≡ false
+    → Touches (λ n. (n < STORE_SECTORS) × ¬ (n ≡ slot_gate 1)) closed started
+    → is_label ((now started).reads LABEL) ≡ true → IsNewSlot (now started).reads 0 1 empty_desktop
+    → Touches (Only (slot_gate 0)) started opened → HasGate (now opened) 0 true
+    → IsKept size opened 0 1 0 empty_desktop
+laid_out size closed started opened large shut starts label new opens live = record {
+  standing = record { slot = 0; epoch = 1; start = empty_desktop; events = [] };
+  settled = record {
+    quiet = live.quiet;
+    stands = record {
+      large = large;
+      label = ap is_label (same LABEL (omega arith)) ∙ label;
+      two = omega arith;
+      live = live.is;
+      good = subst (λ b. IsGoodHead (head_of b)) (sym (same (slot_head 0) (omega arith))) new.good;
+      epoch = ap (λ b. (head_of b).epoch) (same (slot_head 0) (omega arith)) ∙ new.epoch;
+      other = λ idle two is.
+          let here : idle ≡ 1 = omega (arith, two) in
+          absurd (clash (subst (λ n. is_open ((now opened).reads (slot_gate n)) ≡ true) here is)
+          (ap is_open (same (slot_gate 1) (omega arith)
+          ∙ still_reads closed started starts (slot_gate 1) (λ within. within.1 refl)) ∙ shut));
+      image = image_stays (now started).reads (now opened).reads 0 empty_desktop (same (slot_head 0) (omega arith))
+          (λ k low. same (image_at 0 + k) (omega arith)) (λ k low. same (area_at k) (omega arith)) new.image;
+      journal = λ room. ap is_open (same (gate 0 0) (omega arith)) ∙ new.journal;
+    };
+  };
+  slot = refl;
+  epoch = refl;
+  events = refl;
+  is = refl;
+}
+  where
+    same : (n : ℕ) → n ≢ slot_gate 0 → (now opened).reads n ≡ (now started).reads n
+    same n other = still_reads started opened opens n other

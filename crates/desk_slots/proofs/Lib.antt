@@ -1,0 +1,11 @@
+pub mod Choosing
+pub mod Fronts
+pub mod Laying
+pub mod Loading
+pub mod NewSlot
+pub mod OneMore
+pub mod Recording
+pub mod Renewing
+pub mod Settling
+pub mod Starting
+pub mod Streaming

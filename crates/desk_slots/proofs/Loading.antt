@@ -1,0 +1,196 @@
+-- Reading a slot: its journal, event by event, and what the disk shows then.
+use Rattle.std.proofs.Common.{◌≡◌, ◌⊎◌, inl, inr, ℕ, ◌+◌, ◌*◌, ◌<◌, ◌≤◌, List, [], length}
+use Rattle.std.proofs.Common.{◌∷◌, ◌++◌, length-append, append_assoc}
+use Rattle.std.proofs.Common.{refl, sym, ◌∙◌, ap, subst, arith, true, false}
+use Rattle.std.proofs.lemmas.List.{append-nil}
+use Rattle.std.proofs.lemmas.Bool.{cases_lt}
+use Rattle.sector_disk.specs.Trail.{Content, Trail, now, Touches, Nowhere}
+use Rattle.sector_disk.proofs.Touching.{still_all, still_settled}
+use Rattle.event_bytes.specs.declared.event.Event.{Event}
+use Rattle.event_bytes.specs.Spelling.{Begins}
+use Rattle.desktop_definitions.specs.Desktop.{Desktop}
+use Rattle.desktop_definitions.specs.Sound.{Grows}
+use Rattle.desktop_definitions.specs.Step.{step}
+use Rattle.sector_disk.specs.declared.disk.TheConstants.{SECTOR_BYTES}
+use Rattle.store_layout.specs.declared.head.Head.{Head}
+use Rattle.store_layout.specs.declared.layout.TheConstants.{JOURNAL_EVENTS}
+use Rattle.store_layout.specs.Layout.{is_open, slot_gate, slot_head, gate, body, image_at, head}
+use Rattle.store_layout.specs.Meaning.{IsJournal, HasImage, Standing, Stands, Shows}
+use Rattle.store_layout.specs.Footprint.{IsLedTo}
+use Rattle.store_layout.specs.Finding.{IsNoEvent, AreShut, HasBadHead, IsDamage, IsDamagedAt}
+use Rattle.store_layout.specs.Kept.{IsKept, IsFront}
+use Rattle.desk_slots.specs.Load.{IsLocated, IsReadTo, IsReadWhole}
+use Rattle.desk_slots.proofs.Recording.{steps_on, front_longer}
+
+-- ---- the journal
+
+pub none_read : (c : Content) (slot : ℕ) (from : Desktop) → IsReadTo c slot 0 from from
+none_read c slot from = record {
+  events = [];
+  count = refl;
+  led = λ j below. absurd (omega (arith, below));
+  each =
+      λ j below. absurd (omega (arith, below));
+  goes_on = λ rest journal. journal;
+  is = refl;
+}
+
+-- one open gate further
+led_on : (c : Content) (slot k : ℕ) → IsLedTo c slot k → is_open (c (gate slot k)) ≡ true → IsLedTo c slot (k + 1)
+led_on c slot k led opened = λ j below. elim (cases_lt j k) [
+  | inl earlier ↦ led j earlier
+  | inr last ↦ let here : k ≡ j = omega (arith, below, last) in subst
+      (λ i. is_open (c (gate slot i)) ≡ true) here opened
+]
+
+-- one event further
+pub one_read : (c : Content) (slot k : ℕ) (from to next : Desktop) (event : Event) → IsReadTo c slot k from to
+    → k < JOURNAL_EVENTS → is_open (c (gate slot k)) ≡ true → Begins (c (body slot k)) event
+    → next ≡ (step to event).0 → IsReadTo c slot (k + 1) from next
+one_read c slot k from to next event was room opened begins is = record {
+  events = was.events ++ event ∷ [];
+  count = length-append was.events (event ∷ []) ∙ omega (arith, was.count);
+  led = led_on c slot k was.led opened;
+  each = λ j below. elim (cases_lt j k) [
+    | inl earlier ↦ was.each j earlier
+    | inr last ↦ let here : k ≡ j = omega (arith, below, last) in subst
+        (λ i. (e : Event) × Begins (c (body slot i)) e) here (event, begins)
+  ];
+  goes_on = λ rest journal. subst (IsJournal c slot 0) (sym (append_assoc was.events (event ∷ []) rest))
+      (was.goes_on (event ∷ rest) (room, opened, begins, journal));
+  is = is ∙ ap (λ d. (step d event).0) was.is ∙ sym (steps_on from was.events event);
+}
+
+pub all_read : (c : Content) (slot k : ℕ) (from to : Desktop) → IsReadTo c slot k from to
+    → (k < JOURNAL_EVENTS → is_open (c (gate slot k)) ≡ false) → IsReadWhole c slot k from to
+all_read c slot k from to was closed = record {
+  events = was.events;
+  long = was.count;
+  journal = subst (IsJournal c slot 0) (append-nil was.events) (was.goes_on [] closed);
+  is = was.is;
+}
+
+pub not_read : (c : Content) (slot k : ℕ) (from to : Desktop) → IsReadTo c slot k from to → k < JOURNAL_EVENTS
+    → is_open (c (gate slot k)) ≡ true → ((event : Event) → Begins (c (body slot k)) event → ⊥) → IsNoEvent c slot k
+not_read c slot k from to was room opened none = record {
+  within = room;
+  led = led_on c slot k was.led opened;
+  events =
+      was.each;
+  none = none;
+}
+
+-- ---- characters that only grow
+
+pub grown_on : (old mid new : List ℕ) → Grows old mid → Grows mid new → Grows old new
+grown_on old mid new first second = (
+  first.0 ++ second.0,
+  second.1 ∙ ap (λ l. l ++ second.0) first.1 ∙ append_assoc old first.0 second.0,
+)
+
+-- ---- the whole
+
+-- no slot is open, or the head of one that is open is bad
+pub slot_damage : (c : Content) (n : ℕ)
+    → ((n ≡ slot_gate 0) × AreShut c) ⊎ ((slot : ℕ) × (n ≡ slot_head slot) × HasBadHead c slot) → IsDamage c n
+slot_damage c n found = elim found [ inl shut ↦ inl shut | inr bad ↦ inr (inl bad) ]
+
+module _ {size slot : ℕ} {h : Head} {old mid : Trail} (found : IsLocated size (now old).reads slot h)
+    (first : Touches Nowhere old mid) where
+  -- what the reads of its head and of others find in the slot
+  found_there : (P : Content → Type 0) → (head (now mid).reads slot ≡ h → P (now mid).reads) → P (now old).reads
+  found_there P has = subst (λ c. head c slot ≡ h → P c) (still_all old mid first) has found.is
+
+  -- the slot has no image
+  pub image_damage : {n : ℕ} → (head (now mid).reads slot ≡ h
+      → (n ≡ image_at slot) × ((start : Desktop) → HasImage (now mid).reads slot start → ⊥))
+      → IsDamagedAt size (now old).reads n
+  image_damage {n = n} none =
+      let bad = found_there (λ c. (n ≡ image_at slot) × ((start : Desktop) → HasImage c slot start → ⊥)) none in
+      record {
+        large = found.large;
+        label = found.label;
+        damage = inr (inr (inl (slot, bad.0, record { heads = found.heads; used = found.used; none = bad.1 })));
+      }
+
+  module _ {start : Desktop} (has : head (now mid).reads slot ≡ h → HasImage (now mid).reads slot start) {late : Trail}
+      (second : Touches Nowhere mid late) where
+    image : HasImage (now old).reads slot start
+    image = found_there (λ c. HasImage c slot start) has
+
+    same : (now late).reads ≡ (now old).reads
+    same = still_all mid late second ∙ still_all old mid first
+
+    -- a body under an open gate is no event
+    pub body_damage : {n : ℕ} → ((k : ℕ) × (n ≡ body slot k) × IsNoEvent (now late).reads slot k)
+        → IsDamagedAt size (now old).reads n
+    body_damage bad = record {
+      large = found.large;
+      label = found.label;
+      damage = inr (inr (inr (
+        slot,
+        bad.0,
+        bad.1,
+        record {
+          heads = found.heads;
+          used = found.used;
+          start = start;
+          image = image;
+          body_is = subst (λ c. IsNoEvent c slot bad.0) same bad.2;
+        },
+      )));
+    }
+
+    -- its journal was read whole
+    module _ {count : ℕ} {desktop : Desktop} (whole : IsReadWhole (now late).reads slot count start desktop) where
+      abbrev standing : Standing
+      standing = record { slot = slot; epoch = h.epoch; start = start; events = whole.events }
+
+      epoch : (head (now old).reads slot).epoch ≡ h.epoch
+      epoch = ap (λ x. x.epoch) found.is
+
+      stands : Stands size (now old).reads standing
+      stands = record {
+        large = found.large;
+        label = found.label;
+        two = found.used.two;
+        live = found.used.opened;
+        good = found.heads slot found.used.two found.used.opened;
+        epoch = epoch;
+        other = λ idle sum opened. (
+          found.heads idle (omega (arith, sum)) opened,
+          subst (λ n. (head (now old).reads idle).epoch < n + idle) epoch (found.used.other idle sum opened),
+        );
+        image = image;
+        journal = subst (λ c. IsJournal c slot 0 whole.events) same whole.journal;
+      }
+
+      pub shows : Shows size h.epoch count desktop (now old).reads
+      shows = record { standing = standing; stands = stands; epoch = refl; events = whole.long; is = sym whole.is }
+
+      pub loaded : {last : Trail} → Touches Nowhere late last → ((n : ℕ) → (now mid).pending n ≡ false)
+          → IsKept size last slot h.epoch count desktop
+      loaded {last = last} third quiet = record {
+        standing = standing;
+        settled = record {
+          quiet = λ n. still_settled late last third n (λ none. none)
+              (still_settled mid late second n (λ none. none) (quiet n));
+          stands = subst (λ c. Stands size c standing) (sym (still_all late last third ∙ same)) stands;
+        };
+        slot = refl;
+        epoch = refl;
+        events = whole.long;
+        is = sym whole.is;
+      }
+
+-- the characters in the area, where more were written and the disk was only read
+pub front_after : {old mid late last : Trail} {slot saved : ℕ} {h : Head} {characters more : List ℕ}
+    → head (now old).reads slot ≡ h → Touches Nowhere old mid → Touches Nowhere mid late → Touches Nowhere late last
+    → (head (now mid).reads slot ≡ h → IsFront (now mid).reads slot saved characters)
+    → SECTOR_BYTES * saved ≤ length characters → Grows characters more → IsFront (now last).reads slot saved more
+front_after {old = old} {mid = mid} {late = late} {last = last} {slot = slot} {saved = saved} {h = h}
+    {characters = characters} {more = more} is first second third has within grows =
+    front_longer (now last).reads slot saved characters more within grows
+    (subst (λ c. IsFront c slot saved characters)
+    (sym (still_all late last third ∙ still_all mid late second))
+    (has (ap (λ c. head c slot) (still_all old mid first) ∙ is)))

@@ -1,0 +1,274 @@
+-- What the writes of one event make of a settled disk.
+use Rattle.std.proofs.Common.{◌≡◌, ◌≢◌, ◌⊎◌, inl, inr, ℕ, ◌+◌, ◌*◌, ◌<◌, ◌≤◌, List, [], ◌∷◌, ◌++◌, length, take}
+use Rattle.std.proofs.Common.{length-append, refl, sym, ◌∙◌, ap, subst, arith, true, false}
+use Rattle.std.proofs.lemmas.List.{take-append-le}
+use Rattle.sector_disk.specs.declared.disk.Disk.{Ghosts}
+use Rattle.sector_disk.specs.Confined.{IsConfined}
+use Rattle.sector_disk.specs.Trail.{Content, Trail, now, LeavesOnly, Touches, Only, Nowhere}
+use Rattle.sector_disk.proofs.Touching.{spared, weakened, chained, at_last, still_reads}
+use Rattle.event_bytes.specs.declared.event.Event.{Event}
+use Rattle.event_bytes.specs.Spelling.{Begins}
+use Rattle.desktop_definitions.specs.Desktop.{Desktop}
+use Rattle.desktop_definitions.specs.Sound.{Grows}
+use Rattle.desktop_definitions.specs.Step.{step, steps}
+use Rattle.sector_disk.specs.declared.disk.TheConstants.{SECTOR_BYTES}
+use Rattle.store_layout.specs.declared.layout.TheConstants.{JOURNAL_EVENTS, LABEL, SLOTS}
+use Rattle.store_layout.specs.Bits.{true_or_false}
+use Rattle.store_layout.specs.Layout.{is_open, slot_gate, slot_head, gate, body, image_at, area_at}
+use Rattle.store_layout.specs.Meaning.{IsJournal, Standing, desktop_of, Stands, Means, MeansEither, and_then}
+use Rattle.store_layout.specs.Kept.{IsSettled, IsKept, IsFront, NextRecord, IsStaged}
+use Rattle.store_layout.specs.StandingLaws.{IsApart, carried_on, footprint, front_stays, older_stays}
+use Rattle.desk_slots.specs.Written.{HasRecord}
+use Rattle.desk_slots.proofs.Settling.{kept_on, means_on}
+
+-- one event more
+pub steps_on : (start : Desktop) (events : List Event) (event : Event) → steps start (events ++ event ∷ [])
+    ≡ (step (steps start events) event).0
+steps_on start [] event = refl
+steps_on start (e ∷ events) event = steps_on (step start e).0 events event
+
+-- ---- journals, where only the gate at the end differs
+
+-- it is closed still
+journal_shut : (events : List Event) (c c' : Content) (slot k end : ℕ) → end ≡ k + length events
+    → ((i : ℕ) → i < end → c' (gate slot i) ≡ c (gate slot i))
+    → ((i : ℕ) → i < end → c' (body slot i) ≡ c (body slot i))
+    → (end < JOURNAL_EVENTS → is_open (c' (gate slot end)) ≡ false) → IsJournal c slot k events
+    → IsJournal c' slot k events
+journal_shut [] c c' slot k end is gates bodies closed journal = λ room. let here : end
+    ≡ k = omega arith in subst (λ j. is_open (c' (gate slot j)) ≡ false) here (closed (omega arith))
+journal_shut (event ∷ events) c c' slot k end is gates bodies closed journal = (
+  journal.0,
+  ap is_open (gates k (omega arith)) ∙ journal.1,
+  subst (λ bytes. Begins bytes event) (sym (bodies k (omega arith))) journal.2,
+  journal_shut events c c' slot (k + 1) end (omega arith) gates bodies closed journal.3,
+)
+
+-- it is open, over a body with one event more and before a closed gate
+journal_longer : (events : List Event) (c c' : Content) (slot k end : ℕ) (new : Event) → end ≡ k + length events
+    → ((i : ℕ) → i < end → c' (gate slot i) ≡ c (gate slot i))
+    → ((i : ℕ) → i < end → c' (body slot i) ≡ c (body slot i))
+    → end < JOURNAL_EVENTS → is_open (c' (gate slot end)) ≡ true → Begins (c' (body slot end)) new
+    → (end + 1 < JOURNAL_EVENTS → is_open (c' (gate slot (end + 1))) ≡ false) → IsJournal c slot k events
+    → IsJournal c' slot k (events ++ new ∷ [])
+journal_longer [] c c' slot k end new is gates bodies room opened begins closed journal =
+    let here : end ≡ k = omega arith in
+    subst (λ j. IsJournal c' slot j (new ∷ [])) here (room, opened, begins, closed)
+journal_longer (event ∷ events) c c' slot k end new is gates bodies room opened begins closed journal = (
+  journal.0,
+  ap is_open (gates k (omega arith)) ∙ journal.1,
+  subst (λ bytes. Begins bytes event) (sym (bodies k (omega arith))) journal.2,
+  journal_longer events c c' slot (k + 1) end new (omega arith) gates bodies room opened begins closed journal.3,
+)
+
+-- ---- the body and the gate after it
+
+-- the place of the next event is apart from what a standing rests on
+next_apart : {size : ℕ} (c : Content) (s : Standing) (k : ℕ) → k ≡ length s.events → k < JOURNAL_EVENTS
+    → Stands size c s → (n : ℕ) → NextRecord s.slot k n → IsApart c s n
+next_apart c s k long room was n within = record {
+  label = λ is. elim within [
+    | inl a ↦ omega (arith, a, is)
+    | inr a ↦ omega (arith, a.0, is)
+  ];
+  gates = λ slot low is. elim within [
+    | inl a ↦ omega (arith, a, is, low)
+    | inr a ↦ omega (arith, a.0, is, low)
+  ];
+  heads = λ slot low opened is. elim within [
+    | inl a ↦ omega (arith, a, is, low)
+    | inr a ↦ omega (arith, a.0, is, low)
+  ];
+  image = λ i below is. elim within [
+    | inl a ↦ omega (arith, a, is, was.two, room)
+    | inr a ↦ omega (arith, a.0, a.1, is, was.two)
+  ];
+  area = λ i below is. elim within [
+    | inl a ↦ omega (arith, a, is, was.two, room)
+    | inr a ↦ omega (arith, a.0, a.1, is, was.two)
+  ];
+  journal = λ i high below is. elim within [
+    | inl a ↦ omega (arith, a, is)
+    | inr a ↦ omega (arith, a.0, is, high, long)
+  ];
+  bodies = λ i high is. elim within [
+    | inl a ↦ omega (arith, a, is, high, long)
+    | inr a ↦ omega (arith, a.0, is)
+  ];
+}
+
+staging : (size : ℕ) (old new : Trail) (s : Standing) (k : ℕ) → k ≡ length s.events → k < JOURNAL_EVENTS
+    → IsSettled size old s → Touches (NextRecord s.slot k) old new → LeavesOnly old new (λ c. Stands size c s)
+staging size old new s k long room was run = spared (λ c. Stands size c s) was.quiet run
+    (λ c same. footprint (now old).reads c s was.stands
+    (λ n counts. same n (λ within. counts (next_apart (now old).reads s k long room was.stands n within))))
+
+-- ---- the gate
+
+-- all of a standing but the end of its journal stays where only gate k differs
+only_gate : {size : ℕ} (c c' : Content) (s : Standing) (k : ℕ) → k < JOURNAL_EVENTS → Stands size c s
+    → ((n : ℕ) → n ≢ gate s.slot k → c' n ≡ c n) → (events : List Event) → IsJournal c' s.slot 0 events
+    → Stands size c' (record { slot = s.slot; epoch = s.epoch; start = s.start; events = events })
+only_gate c c' s k room was same events journal = carried_on c c' s events was
+    (same LABEL (omega arith))
+    (ap is_open (same (slot_gate s.slot) (omega (arith, was.two))) ∙ was.live)
+    (same (slot_head s.slot) (omega (arith, was.two)))
+    (λ idle two opened.
+    let before = sym (ap is_open (same (slot_gate idle) (omega (arith, two)))) ∙ opened in
+    older_stays c c' s.epoch idle (same (slot_head idle) (omega (arith, two))) (was.other idle two before))
+    (λ i below. same (image_at s.slot + i) (omega (arith, was.two, room)))
+    (λ i below. same (area_at i) (omega (arith, was.two, room)))
+    journal
+
+module _ {size : ℕ} (c c' : Content) (s : Standing) (event : Event) (k : ℕ) (long : k ≡ length s.events)
+    (room : k < JOURNAL_EVENTS) (was : Stands size c s) (begins : Begins (c (body s.slot k)) event)
+    (closed : k + 1 < JOURNAL_EVENTS → is_open (c (gate s.slot (k + 1))) ≡ false)
+    (same : (n : ℕ) → n ≢ gate s.slot k → c' n ≡ c n) where
+  is_kept : is_open (c' (gate s.slot k)) ≡ false → Stands size c' s
+  is_kept off = only_gate c c' s k room was same s.events
+      (journal_shut s.events c c' s.slot 0 k (omega (arith, long))
+      (λ i low. same (gate s.slot i) (omega (arith, low))) (λ i low. same (body s.slot i) (omega (arith, low)))
+      (λ _. off) was.journal)
+
+  is_added : is_open (c' (gate s.slot k)) ≡ true → Stands size c' (and_then s event)
+  is_added opened = only_gate c c' s k room was same (s.events ++ event ∷ [])
+      (journal_longer s.events c c' s.slot 0 k event (omega (arith, long))
+      (λ i low. same (gate s.slot i) (omega (arith, low))) (λ i low. same (body s.slot i) (omega (arith, low)))
+      room opened (subst (λ b. Begins b event) (sym (same (body s.slot k) (omega arith))) begins)
+      (λ more. ap is_open (same (gate s.slot (k + 1)) (omega arith)) ∙ closed more) was.journal)
+
+  is_either : Stands size c' s ⊎ Stands size c' (and_then s event)
+  is_either = elim (true_or_false (is_open (c' (gate s.slot k)))) [
+    | inl opened ↦ inr (is_added opened)
+    | inr off ↦ inl (is_kept off)
+  ]
+
+module _ (size : ℕ) (old new : Trail) (s : Standing) (event : Event) (k : ℕ) (desktop : Desktop)
+    (long : k ≡ length s.events) (room : k < JOURNAL_EVENTS) (is : desktop_of s ≡ desktop)
+    (was : IsStaged size old s event k) (run : Touches (Only (gate s.slot k)) old new) where
+  sealing : LeavesOnly old new (MeansEither size desktop (step desktop event).0)
+  sealing = spared (MeansEither size desktop (step desktop event).0) was.settled.quiet run
+      (λ c same. elim (is_either (now old).reads c s event k long room was.settled.stands was.begins
+      was.closed same) [
+        | inl stands ↦ inl (s, stands, is)
+        | inr stands ↦ inr (and_then s event, stands, steps_on s.start s.events event ∙ ap (λ d. (step d event).0) is)
+      ])
+
+  sealed : is_open ((now new).reads (gate s.slot k)) ≡ true → ((n : ℕ) → (now new).pending n ≡ false)
+      → IsKept size new s.slot s.epoch (k + 1) (step desktop event).0
+  sealed opened quiet = record {
+    standing = and_then s event;
+    settled = record {
+      quiet = quiet;
+      stands = is_added (now old).reads (now new).reads s event k long room was.settled.stands was.begins was.closed
+          (still_reads old new run) opened;
+    };
+    slot = refl;
+    epoch = refl;
+    events = length-append s.events (event ∷ []) ∙ omega (arith, long);
+    is = steps_on s.start s.events event ∙ ap (λ d. (step d event).0) is;
+  }
+
+-- ---- both, one after the other
+module _ {size : ℕ} {d : Trail} {live number count : ℕ} {desktop : Desktop}
+    (kept : IsKept size d live number count desktop) (room : count < JOURNAL_EVENTS) where
+  abbrev s : Standing
+  s = kept.standing
+
+  module _ {first : Trail} (stages : Touches (NextRecord live count) d first) where
+    here : LeavesOnly d first (λ c. Stands size c s)
+    here = staging size d first s count (sym kept.events) room kept.settled
+        (subst (λ n. Touches (NextRecord n count) d first) (sym kept.slot) stages)
+
+    pub one_call : (event : Event) → LeavesOnly d first (MeansEither size desktop (step desktop event).0)
+    one_call event = weakened here (λ c stands. inl (s, stands, kept.is))
+
+    module _ {event : Event} {new : Trail} (has : HasRecord (now first) live count event)
+        (seals : Touches (Only (gate live count)) first new) where
+      staged : IsStaged size first s event count
+      staged = record {
+        settled = record { quiet = has.quiet; stands = at_last here (now first).reads (λ n settled. refl) };
+        begins = subst (λ n. Begins ((now first).reads (body n count)) event) (sym kept.slot) has.begins;
+        closed = λ more. subst (λ n. is_open ((now first).reads (gate n (count + 1))) ≡ false) (sym kept.slot)
+            (has.closed more);
+      }
+
+      seals_here : Touches (Only (gate s.slot count)) first new
+      seals_here = subst (λ n. Touches (Only (gate n count)) first new) (sym kept.slot) seals
+
+      pub both_calls : LeavesOnly d new (MeansEither size desktop (step desktop event).0)
+      both_calls = chained (one_call event) (sealing size first new s event count desktop
+          (sym kept.events) room kept.is staged seals_here)
+
+      pub recorded : is_open ((now new).reads (gate live count)) ≡ true → ((n : ℕ) → (now new).pending n ≡ false)
+          → IsKept size new live number (count + 1) (step desktop event).0
+      recorded opened silent = subst (λ n. IsKept size new n number (count + 1) (step desktop event).0) kept.slot
+          (subst (λ n. IsKept size new s.slot n (count + 1) (step desktop event).0) kept.epoch
+          (sealed size first new s event count desktop (sym kept.events) room kept.is staged seals_here
+          (subst (λ n. is_open ((now new).reads (gate n count)) ≡ true) (sym kept.slot) opened) silent))
+
+-- ---- the characters in the area
+
+-- what is written to a journal leaves them
+front_over : (area : ℕ → Type 0) (old new : Trail) (live saved : ℕ) (characters : List ℕ) → live < SLOTS
+    → ((n : ℕ) → area n → (gate 0 0 ≤ n) × (n < area_at 0)) → Touches area old new
+    → IsFront (now old).reads live saved characters → IsFront (now new).reads live saved characters
+front_over area old new live saved characters low within run was =
+    front_stays (now old).reads (now new).reads live saved characters
+    (still_reads old new run (slot_head live) (λ out. let bounds = within (slot_head live) out in
+    omega (arith, bounds.0, low)))
+    (λ k few. still_reads old new run (area_at k) (λ out. let bounds = within (area_at k) out in
+    omega (arith, bounds.1)))
+    was
+
+pub front_staged : (old new : Trail) (live k saved : ℕ) (characters : List ℕ) → live < SLOTS → k < JOURNAL_EVENTS
+    → Touches (NextRecord live k) old new
+    → IsFront (now old).reads live saved characters → IsFront (now new).reads live saved characters
+front_staged old new live k saved characters low index run was =
+    front_over (NextRecord live k) old new live saved characters low (λ n place. elim place [
+      | inl a ↦ (omega (arith, a), omega (arith, a, low, index))
+      | inr a ↦ (omega (arith, a.0), omega (arith, a.0, low, index))
+    ]) run was
+
+pub front_sealed : (old new : Trail) (live k saved : ℕ) (characters : List ℕ) → live < SLOTS → k < JOURNAL_EVENTS
+    → Touches (Only (gate live k)) old new
+    → IsFront (now old).reads live saved characters → IsFront (now new).reads live saved characters
+front_sealed old new live k saved characters low index run was =
+    front_over (Only (gate live k)) old new live saved characters low
+    (λ n only. (omega (arith, only), omega (arith, only, low, index))) run was
+
+-- more characters behind them
+pub front_longer : (c : Content) (live saved : ℕ) (old new : List ℕ) → SECTOR_BYTES * saved ≤ length old → Grows old new
+    → IsFront c live saved old → IsFront c live saved new
+front_longer c live saved old new within grown was = record {
+  named = was.named;
+  same = was.same ∙ sym (ap (take (SECTOR_BYTES * saved)) grown.1
+      ∙ take-append-le (SECTOR_BYTES * saved) old grown.0 within);
+}
+
+-- ---- reads, and then the record
+module _ {D : Type 0} (d : Ghosts D) {old mid : D} (run : IsConfined d.size d.honest d.trail Nowhere old mid)
+    (honest : d.honest old) {live number k : ℕ} {desktop : Desktop}
+    (kept : IsKept (d.size old) (d.trail old) live number k desktop) where
+  pub kept_then : IsKept (d.size mid) (d.trail mid) live number k desktop
+  kept_then = subst (λ n. IsKept n (d.trail mid) live number k desktop) (sym run.as_large)
+      (kept_on (d.size old) (d.trail old) (d.trail mid) live number k desktop kept (run.moments honest))
+
+  pub unrecorded : LeavesOnly (d.trail old) (d.trail mid) (Means (d.size old) desktop)
+  unrecorded = means_on (d.size old) (d.trail old) (d.trail mid) live number k desktop kept (run.moments honest)
+
+  module _ (event : Event) where
+    pub read_only : LeavesOnly (d.trail old) (d.trail mid) (MeansEither (d.size old) desktop (step desktop event).0)
+    read_only = weakened unrecorded (λ c means. inl means)
+
+    module _ {new : D} where
+      pub read_then : LeavesOnly (d.trail mid) (d.trail new) (MeansEither (d.size mid) desktop (step desktop event).0)
+          → LeavesOnly (d.trail old) (d.trail new) (MeansEither (d.size old) desktop (step desktop event).0)
+      read_then after = chained read_only (subst (λ n. LeavesOnly (d.trail mid) (d.trail new)
+          (MeansEither n desktop (step desktop event).0)) run.as_large after)
+
+      pub kept_after : {desktop' : Desktop} → desktop' ≡ (step desktop event).0
+          → IsKept (d.size mid) (d.trail new) live number (k + 1) (step desktop event).0
+          → IsKept (d.size old) (d.trail new) live number (k + 1) desktop'
+      kept_after is after = subst (λ x. IsKept (d.size old) (d.trail new) live number (k + 1) x) (sym is)
+          (subst (λ n. IsKept n (d.trail new) live number (k + 1) (step desktop event).0) run.as_large after)

@@ -1,0 +1,30 @@
+-- What a call leaves of the disk that a store stands on. `d` is what is known of a disk: size, trail, failures, honest.
+use Rattle.std.specs.Prelude.{◌≡◌, Result, Ok, Err}
+use Rattle.sector_disk.specs.declared.disk.Disk.{Ghosts}
+use Rattle.sector_disk.specs.Trail.{Trail, now, IsImage, LeavesOnly}
+use Rattle.desk_slots.specs.declared.error.Error.{Error}
+
+-- at no moment is there an image that wasn't there before: nothing was written
+abbrev pub WritesNothing : Trail → Trail → Type 0
+WritesNothing old new = LeavesOnly old new (IsImage (now old))
+
+-- the same device: as large as before, and honest exactly if it was
+pub record IsSameDevice {D : Type 0} (d : Ghosts D) (old new : D) : Type 0 where
+  pub as_large : d.size new ≡ d.size old
+  pub still : d.honest old → d.honest new
+  pub already : d.honest new → d.honest old
+
+-- only reads: the same device, to which nothing was written
+pub record IsOnlyRead {D : Type 0} (d : Ghosts D) (old new : D) : Type 0 where
+  pub device : IsSameDevice d old new
+  pub unwritten : d.honest old → WritesNothing (d.trail old) (d.trail new)
+
+-- A call that takes a disk hands one back, whatever it returns: in its value, or beside its error.
+abbrev pub disk_after : {A D : Type 0} → (A → D) → Result A (Error × D) → D
+disk_after disk_of (Ok value) = disk_of value
+disk_after disk_of (Err refused) = refused.1
+
+-- its result without the disk that stands beside an error
+abbrev pub outcome : {A D : Type 0} → Result A (Error × D) → Result A Error
+outcome (Ok value) = Ok value
+outcome (Err refused) = Err refused.0

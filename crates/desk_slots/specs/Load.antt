@@ -1,0 +1,83 @@
+-- What opening a store has found and read: the slot in use, what it starts from, and how far its journal goes.
+use Rattle.std.specs.Prelude.{◌≡◌, ◌*◌, ◌<◌, ◌≤◌, ◌++◌, ℕ, List, length, take, drop}
+use Rattle.std.specs.Prelude.{nat_lt, if◌then◌else◌, Option, Some, None, true}
+use Rattle.sector_disk.specs.Trail.{Content}
+use Rattle.event_bytes.specs.declared.event.Event.{Event}
+use Rattle.event_bytes.specs.Spelling.{Begins}
+use Rattle.desktop_definitions.specs.Desktop.{Desktop, KeptDesktop}
+use Rattle.desktop_definitions.specs.Sound.{IsKeptWhole}
+use Rattle.desktop_definitions.specs.Step.{steps}
+use Rattle.desk_image.specs.declared.fault.ImageFault.{ImageFault}
+use Rattle.desk_image.specs.declared.fault.ImageFault.TheVariants.{Damaged as BadImage, Fault as Failed}
+use Rattle.desk_image.specs.declared.fault.ImageFault.TheVariants.{NoMemory as Refused}
+use Rattle.sector_disk.specs.declared.disk.TheConstants.{SECTOR_BYTES}
+use Rattle.desk_image.specs.Image.{Spells}
+use Rattle.store_layout.specs.declared.head.Head.{Head}
+use Rattle.store_layout.specs.declared.layout.TheConstants.{AREA_SECTORS, LABEL, STORE_SECTORS}
+use Rattle.store_layout.specs.Layout.{is_label, body, image_at, head}
+use Rattle.desk_slots.specs.declared.error.Error.{Error}
+use Rattle.desk_slots.specs.declared.error.Error.TheVariants.{NoMemory, Fault, Damaged}
+use Rattle.store_layout.specs.Meaning.{IsJournal, full_sectors, left_over}
+use Rattle.store_layout.specs.Finding.{AreHeadsGood}
+use Rattle.store_layout.specs.Footprint.{IsLedTo, IsInUse}
+
+-- the first k events of a journal stand under open gates, and they lead from the one desktop to the other
+pub record IsReadTo (c : Content) (slot k : ℕ) (from to : Desktop) : Type 0 where
+  pub events : List Event
+  pub count : length events ≡ k
+  pub led : IsLedTo c slot k
+  pub each : (j : ℕ) → j < k → (event : Event) × Begins (c (body slot j)) event
+  pub goes_on : (rest : List Event) → IsJournal c slot k rest → IsJournal c slot 0 (events ++ rest)
+  pub is : to ≡ steps from events
+
+-- the whole journal has been read: it has so many events, and they lead from the one desktop to the other
+pub record IsReadWhole (c : Content) (slot count : ℕ) (from to : Desktop) : Type 0 where
+  pub events : List Event
+  pub long : length events ≡ count
+  pub journal : IsJournal c slot 0 events
+  pub is : to ≡ steps from events
+
+-- of so many characters those in whole sectors were read, and the area has room for all
+pub record IsAreaRead (written : ℕ) (characters : List ℕ) : Type 0 where
+  pub long : length characters ≡ SECTOR_BYTES * full_sectors written
+  pub few : written ≤ SECTOR_BYTES * AREA_SECTORS
+
+-- The start of a slot was read from the bytes of its image: the characters at their front stand behind those of the
+-- area, and the rest of the bytes spells the desktop.
+pub record IsStart (honest : Type 0) (bytes : List ℕ) (written : ℕ) (area characters : List ℕ) (d : KeptDesktop)
+    : Type 0
+  where
+    pub tail : honest → characters ≡ area ++ take (left_over written) bytes
+    pub enough : honest → left_over written ≤ length bytes
+    pub spelled : honest → Spells written (drop (left_over written) bytes) d
+    -- whatever was read
+    pub long : length characters ≡ written
+    pub whole : IsKeptWhole d
+    pub count : d.written ≡ written
+
+-- behind the characters at the front of these bytes no desktop is spelled
+abbrev pub HasNoStart : List ℕ → ℕ → Type 0
+HasNoStart bytes written = left_over written ≤ length bytes → (d : KeptDesktop)
+    → Spells written (drop (left_over written) bytes) d → ⊥
+
+-- why a store isn't opened, where the image of a slot isn't read
+abbrev pub image_error : ℕ → ImageFault → Error
+image_error slot BadImage = Damaged (image_at slot)
+image_error slot Failed = Fault
+image_error slot Refused = NoMemory
+
+-- a store of this size has this slot in use, under this head
+pub record IsLocated (size : ℕ) (c : Content) (slot : ℕ) (h : Head) : Type 0 where
+  pub large : STORE_SECTORS ≤ size
+  pub label : is_label (c LABEL) ≡ true
+  pub heads : AreHeadsGood c
+  pub used : IsInUse c slot
+  pub is : head c slot ≡ h
+
+-- of two slots, each with its head where it is open, the one in use
+abbrev pub IsChosen : Option Head → Option Head → Option (ℕ × Head) → Type 0
+IsChosen None None chosen = chosen ≡ None
+IsChosen (Some first) None chosen = chosen ≡ Some (0, first)
+IsChosen None (Some second) chosen = chosen ≡ Some (1, second)
+IsChosen (Some first) (Some second) chosen =
+    chosen ≡ (if nat_lt first.epoch second.epoch then Some (1, second) else Some (0, first))

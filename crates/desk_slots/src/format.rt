@@ -1,0 +1,74 @@
+//! A new store.
+ghost use Rattle.std.specs.Prelude.{◌≡◌, ◌<◌, ◌≤◌, [], length, take, true, false, OnOk};
+ghost use Rattle.desktop_definitions.specs.Desktop.{empty_desktop};
+ghost use Rattle.store_layout.specs.Layout.{is_label, is_open, slot_gate};
+ghost use Rattle.desk_image.specs.Laws.{empty_bytes};
+ghost use Rattle.store_layout.specs.Kept.{IsKept};
+ghost use Rattle.desk_slots.specs.Written.{IsFilled};
+ghost use Rattle.desk_slots.specs.Words.{CountsFault, now, IsConfined};
+
+use crate::checkpoint::open_slot;
+use desk_image::{EMPTY_IMAGE, empty_image};
+use sector_disk::{Disk, Fault, SECTOR_BYTES, Sector};
+use store_layout::{
+    Head, LABEL, LAYOUT, STORE_SECTORS, closed_gate, gate, image_at, label, slot_gate, slot_head,
+};
+
+/// Closes the gates of both slots, so that whatever is there is no store from now on.
+fn close_slots<D: Disk>(disk: &mut D) -> Result<(), Fault>
+    requires { STORE_SECTORS ≤ D.size disk.old }
+    ensures kept { IsConfined D.size D.honest D.trail (λ n. n < STORE_SECTORS) disk.old disk.new }
+    ensures cause { CountsFault result (D.failures disk.old) (D.failures disk.new) }
+    ensures closed { OnOk result (D.honest disk.old
+        → is_open ((now (D.trail disk.new)).reads (slot_gate 1)) ≡ false) }
+{
+    disk.write(slot_gate(0), &closed_gate())?;
+    disk.write(slot_gate(1), &closed_gate())?;
+    disk.sync()?;
+    Ok(())
+}
+
+/// The image of the empty desktop, and then zeros.
+fn first_image() -> Sector
+    ensures { take (length empty_bytes) result ≡ empty_bytes }
+{
+    let mut image = [0; SECTOR_BYTES as usize];
+    image[..EMPTY_IMAGE.len()].copy_from_slice(&EMPTY_IMAGE);
+    image
+}
+
+/// Writes slot 0 with the empty desktop, and the label.
+fn write_start<D: Disk>(disk: &mut D) -> Result<(), Fault>
+    requires { STORE_SECTORS ≤ D.size disk.old }
+    ensures kept { IsConfined D.size D.honest D.trail
+        (λ n. (n < STORE_SECTORS) × ¬ (n ≡ slot_gate 1)) disk.old disk.new }
+    ensures cause { CountsFault result (D.failures disk.old) (D.failures disk.new) }
+    ensures label { OnOk result (D.honest disk.old → is_label ((now (D.trail disk.new)).reads LABEL) ≡ true) }
+    ensures start { OnOk result (D.honest disk.old → IsFilled (now (D.trail disk.new)) 0 1 [] empty_desktop) }
+{
+    let head = Head {
+        version: LAYOUT,
+        epoch: 1,
+        written: 0,
+        extent: EMPTY_IMAGE.len() as u32,
+    };
+    empty_image();
+    disk.write(image_at(0), &first_image())?;
+    disk.write(slot_head(0), &head.sector())?;
+    disk.write(gate(0, 0), &closed_gate())?;
+    disk.write(LABEL, &label())?;
+    disk.sync()?;
+    Ok(())
+}
+
+/// Makes the disk a store of the empty desktop.
+pub fn lay_out<D: Disk>(disk: &mut D) -> Result<(), Fault>
+    requires { STORE_SECTORS ≤ D.size disk.old }
+    ensures kept { IsConfined D.size D.honest D.trail (λ n. n < STORE_SECTORS) disk.old disk.new }
+    ensures cause { CountsFault result (D.failures disk.old) (D.failures disk.new) }
+    ensures empty { OnOk result (D.honest disk.old → IsKept (D.size disk.new) (D.trail disk.new) 0 1 0 empty_desktop) }
+{
+    close_slots(disk)?;
+    write_start(disk)?;
+    open_slot(disk, 0)
+}

@@ -1,0 +1,26 @@
+//! What a store does to the sectors of its disk.
+//!
+//! `store_layout` says what the sectors mean (in words: docs/STORE.md). Here they are read and written: a new store is
+//! laid out, the slot in use is found and read, an event goes into its journal (first its body and a closed gate after
+//! it, then, after a sync, its gate is opened, and a sync follows), and the desktop goes whole into the other slot.
+//! What a store has in memory beside its disk is a `LiveDesktop`. The store itself is in `desk_journal`.
+#![tactic(auto)]
+
+mod characters;
+mod checkpoint;
+mod error;
+mod format;
+mod live;
+mod loaded;
+mod place;
+mod reading;
+mod records;
+mod slots;
+
+pub use checkpoint::renew;
+pub use error::Error;
+pub use format::lay_out;
+pub use live::LiveDesktop;
+pub use loaded::{Loaded, load};
+pub use place::Place;
+pub use records::record;

@@ -1,0 +1,131 @@
+//! Opening a disk: the slot in use, the desktop that it starts from, and the events of its journal.
+ghost use Rattle.std.specs.Prelude.{◌≡◌, ◌*◌, ◌<◌, ◌≤◌, ◌∷◌, [], ℕ, true, false, OnOk, IfOk, IfSome, IfNone, IsErrOf};
+ghost use Rattle.std.specs.Prelude.{length};
+ghost use Rattle.event_bytes.specs.declared.event.Event.{Event};
+ghost use Rattle.event_bytes.specs.Spelling.{Begins};
+ghost use Rattle.desktop_definitions.specs.Sound.{Grows};
+ghost use Rattle.store_layout.specs.Layout.{is_open, gate, body};
+ghost use Rattle.store_layout.specs.Finding.{IsForeign, IsDamagedAt, IsNoEvent};
+ghost use Rattle.store_layout.specs.Meaning.{Shows};
+ghost use Rattle.store_layout.specs.Kept.{IsKept, IsFront};
+ghost use Rattle.desk_slots.specs.Errors.{OfOpen, OfReplay};
+ghost use Rattle.desk_slots.specs.Live.{shown, IsLive};
+ghost use Rattle.desk_slots.specs.Load.{IsReadWhole};
+ghost use Rattle.desk_slots.specs.Words.{Nowhere, now, IsConfined, FailsAs, OneOf};
+
+use crate::Error;
+use crate::characters::load_slot;
+use crate::live::LiveDesktop;
+use crate::slots::locate;
+use event_bytes::Event;
+use sector_disk::{Disk, SECTOR_BYTES};
+use std::alloc::Global;
+use store_layout::{JOURNAL_EVENTS, SLOTS, STORE_SECTORS, body, event_of, gate, is_open_gate};
+
+/// What was loaded of a disk.
+#[derive(Drop)]
+pub struct Loaded {
+    /// The desktop after the events of the journal.
+    pub desktop: LiveDesktop,
+    /// The slot in use.
+    pub slot: u32,
+    /// Its epoch.
+    pub epoch: u32,
+    /// How many events its journal has.
+    pub events: u32,
+    /// How many sectors of the area its head names.
+    pub saved: u32,
+}
+
+/// The event under gate k, or none where the gate is closed.
+fn read_event<D: Disk>(disk: &mut D, slot: u32, k: u32) -> Result<Option<Event>, Error>
+    requires room { STORE_SECTORS ≤ D.size disk.old }
+    requires two { slot < SLOTS }
+    requires index { k < JOURNAL_EVENTS }
+    ensures kept { IsConfined D.size D.honest D.trail Nowhere disk.old disk.new }
+    ensures faults { FailsAs Error.Fault (OneOf (Error.Fault ∷ Error.Damaged (body slot k) ∷ [])) result
+        (D.failures disk.old) (D.failures disk.new) }
+    ensures none { IfOk result (λ found. IfNone found (D.honest disk.old
+        → is_open ((now (D.trail disk.old)).reads (gate slot k)) ≡ false)) }
+    ensures some { IfOk result (λ found. IfSome found (λ event. D.honest disk.old
+        → (is_open ((now (D.trail disk.old)).reads (gate slot k)) ≡ true)
+        × Begins ((now (D.trail disk.old)).reads (body slot k)) event)) }
+    ensures damaged { (n : ℕ) → IsErrOf result (Error.Damaged n) → D.honest disk.old → (n ≡ body slot k)
+        × (is_open ((now (D.trail disk.old)).reads (gate slot k)) ≡ true)
+        × ((event : Event) → Begins ((now (D.trail disk.old)).reads (body slot k)) event → ⊥) }
+{
+    let mut sector = [0; SECTOR_BYTES as usize];
+    disk.read(gate(slot, k), &mut sector)?;
+    if !is_open_gate(&sector) {
+        return Ok(None);
+    }
+    let at = body(slot, k);
+    disk.read(at, &mut sector)?;
+    match event_of(&sector) {
+        Some(event) => Ok(Some(event)),
+        None => Err(Error::Damaged(at)),
+    }
+}
+
+/// Does the journal's events, and returns how many there are.
+fn replay<D: Disk>(
+    alloc: Global,
+    disk: &mut D,
+    slot: u32,
+    desktop: &mut LiveDesktop,
+) -> Result<u32, Error>
+    requires room { STORE_SECTORS ≤ D.size disk.old }
+    requires two { slot < SLOTS }
+    requires over { IsLive desktop.old }
+    ensures kept { IsConfined D.size D.honest D.trail Nowhere disk.old disk.new }
+    ensures faults { FailsAs Error.Fault OfReplay result (D.failures disk.old) (D.failures disk.new) }
+    ensures few { IfOk result (λ count. count ≤ JOURNAL_EVENTS) }
+    ensures whole { IfOk result (λ count. D.honest disk.old
+        → IsReadWhole (now (D.trail disk.old)).reads slot count (shown desktop.old) (shown desktop.new)) }
+    ensures over { OnOk result (IsLive desktop.new) }
+    ensures grows { OnOk result (D.honest disk.old → Grows desktop.old.characters desktop.new.characters) }
+    ensures longer { OnOk result (length desktop.old.characters ≤ length desktop.new.characters) }
+    ensures damaged { (n : ℕ) → IsErrOf result (Error.Damaged n) → D.honest disk.old
+        → (k : ℕ) × (n ≡ body slot k) × IsNoEvent (now (D.trail disk.old)).reads slot k }
+{
+    for k in 0..JOURNAL_EVENTS {
+        match read_event(disk, slot, k)? {
+            Some(event) => {
+                let _ = desktop.step(alloc, &event, disk)?;
+            }
+            None => return Ok(k),
+        }
+    }
+    Ok(JOURNAL_EVENTS)
+}
+
+/// Reads what the disk shows.
+pub fn load<D: Disk>(alloc: Global, disk: &mut D) -> Result<Loaded, Error>
+    ensures kept { IsConfined D.size D.honest D.trail Nowhere disk.old disk.new }
+    ensures faults { FailsAs Error.Fault OfOpen result (D.failures disk.old) (D.failures disk.new) }
+    ensures large { OnOk result (STORE_SECTORS ≤ D.size disk.new) }
+    ensures two { IfOk result (λ x. x.slot < SLOTS) }
+    ensures few { IfOk result (λ x. x.events ≤ JOURNAL_EVENTS) }
+    ensures over { IfOk result (λ x. IsLive x.desktop) }
+    ensures saved { IfOk result (λ x. SECTOR_BYTES * x.saved ≤ length x.desktop.characters) }
+    ensures found { IfOk result (λ x. D.honest disk.old
+        → Shows (D.size disk.old) x.epoch x.events (shown x.desktop) (now (D.trail disk.old)).reads) }
+    ensures shown { IfOk result (λ x. D.honest disk.old
+        → IsKept (D.size disk.old) (D.trail disk.new) x.slot x.epoch x.events (shown x.desktop)
+        × IsFront (now (D.trail disk.new)).reads x.slot x.saved x.desktop.characters) }
+    ensures foreign { IsErrOf result Error.NotAStore → D.honest disk.old
+        → IsForeign (D.size disk.old) (now (D.trail disk.old)).reads }
+    ensures damaged { (n : ℕ) → IsErrOf result (Error.Damaged n) → D.honest disk.old
+        → IsDamagedAt (D.size disk.old) (now (D.trail disk.old)).reads n }
+{
+    let (slot, head) = locate(disk)?;
+    let mut desktop = load_slot(alloc, disk, slot, &head)?;
+    let events = replay(alloc, disk, slot, &mut desktop)?;
+    Ok(Loaded {
+        desktop,
+        slot,
+        epoch: head.epoch,
+        events,
+        saved: head.written / SECTOR_BYTES,
+    })
+}

@@ -1,0 +1,133 @@
+//! The two steps that put an event into the journal.
+ghost use Rattle.std.specs.Prelude.{◌≡◌, ◌+◌, ◌*◌, ◌<◌, ◌≤◌, true, false, ℕ, List, length, Ok, OnOk, IfOk, IsErrOf};
+ghost use Rattle.desktop_definitions.specs.Desktop.{Desktop};
+ghost use Rattle.store_layout.specs.Layout.{is_open, gate, body};
+ghost use Rattle.store_layout.specs.Meaning.{Means, MeansEither};
+ghost use Rattle.store_layout.specs.Kept.{NextRecord, IsKept, IsFront};
+ghost use Rattle.desk_slots.specs.Device.{IsSameDevice};
+ghost use Rattle.desk_slots.specs.Errors.{OfDesktop};
+ghost use Rattle.desk_slots.specs.Live.{shown, IsLive};
+ghost use Rattle.desk_slots.specs.Words.{LeavesOnly, Only, CountsFault, now, IsConfined, FailsAs, No, IsReply, step};
+ghost use Rattle.desk_slots.specs.Written.{HasRecord};
+
+use crate::Error;
+use crate::live::LiveDesktop;
+use event_bytes::Event;
+use event_loop::Reply;
+use sector_disk::{Disk, Fault, SECTOR_BYTES};
+use std::alloc::Global;
+use store_layout::{
+    JOURNAL_EVENTS, SLOTS, STORE_SECTORS, body, body_of, closed_gate, gate, open_gate,
+};
+
+/// Closes the gate after gate k, where there is one.
+fn close_next<D: Disk>(disk: &mut D, slot: u32, k: u32) -> Result<(), Fault>
+    requires room { STORE_SECTORS ≤ D.size disk.old }
+    requires two { slot < SLOTS }
+    requires index { k < JOURNAL_EVENTS }
+    ensures kept { IsConfined D.size D.honest D.trail (λ n. (n ≡ gate slot (k + 1))
+        × (k + 1 < JOURNAL_EVENTS)) disk.old disk.new }
+    ensures cause { CountsFault result (D.failures disk.old) (D.failures disk.new) }
+    ensures closed { OnOk result (k + 1 < JOURNAL_EVENTS → D.honest disk.old
+        → is_open ((now (D.trail disk.new)).reads (gate slot (k + 1))) ≡ false) }
+{
+    if k + 1 < JOURNAL_EVENTS {
+        return disk.write(gate(slot, k + 1), &closed_gate());
+    }
+    Ok(())
+}
+
+/// Writes the event under the closed gate k, and a closed gate after it.
+fn stage<D: Disk>(disk: &mut D, slot: u32, k: u32, event: &Event) -> Result<(), Fault>
+    requires room { STORE_SECTORS ≤ D.size disk.old }
+    requires two { slot < SLOTS }
+    requires index { k < JOURNAL_EVENTS }
+    ensures kept { IsConfined D.size D.honest D.trail (NextRecord slot k) disk.old disk.new }
+    ensures cause { CountsFault result (D.failures disk.old) (D.failures disk.new) }
+    ensures staged { OnOk result (D.honest disk.old → HasRecord (now (D.trail disk.new)) slot k event.now) }
+{
+    disk.write(body(slot, k), &body_of(event))?;
+    close_next(disk, slot, k)?;
+    disk.sync()?;
+    Ok(())
+}
+
+/// Opens gate k.
+fn seal<D: Disk>(disk: &mut D, slot: u32, k: u32) -> Result<(), Fault>
+    requires room { STORE_SECTORS ≤ D.size disk.old }
+    requires two { slot < SLOTS }
+    requires index { k < JOURNAL_EVENTS }
+    ensures kept { IsConfined D.size D.honest D.trail (Only (gate slot k)) disk.old disk.new }
+    ensures cause { CountsFault result (D.failures disk.old) (D.failures disk.new) }
+    ensures opened { OnOk result (D.honest disk.old → is_open ((now (D.trail disk.new)).reads (gate slot k)) ≡ true) }
+    ensures quiet { OnOk result (D.honest disk.old → (n : ℕ) → (now (D.trail disk.new)).pending n ≡ false) }
+{
+    disk.write(gate(slot, k), &open_gate())?;
+    disk.sync()?; // the open gate, before the event is acknowledged
+    Ok(())
+}
+
+/// Puts the event into the journal after its first k events.
+fn add_record<D: Disk>(disk: &mut D, slot: u32, k: u32, event: &Event) -> Result<(), Fault>
+    requires room { STORE_SECTORS ≤ D.size disk.old }
+    requires two { slot < SLOTS }
+    requires index { k < JOURNAL_EVENTS }
+    ensures device { IsSameDevice D.Disk disk.old disk.new }
+    ensures cause { CountsFault result (D.failures disk.old) (D.failures disk.new) }
+    ensures any_moment { D.honest disk.old → (number : ℕ) (desktop : Desktop)
+        → IsKept (D.size disk.old) (D.trail disk.old) slot number k desktop
+        → LeavesOnly (D.trail disk.old) (D.trail disk.new)
+        (MeansEither (D.size disk.old) desktop (step desktop event.now).0) }
+    ensures added { OnOk result (D.honest disk.old → (number : ℕ) (desktop : Desktop)
+        → IsKept (D.size disk.old) (D.trail disk.old) slot number k desktop
+        → IsKept (D.size disk.old) (D.trail disk.new) slot number (k + 1) (step desktop event.now).0) }
+    // the characters in the area stay
+    ensures front { OnOk result (D.honest disk.old → (saved : ℕ) (characters : List ℕ)
+        → IsFront (now (D.trail disk.old)).reads slot saved characters
+        → IsFront (now (D.trail disk.new)).reads slot saved characters) }
+{
+    stage(disk, slot, k, event)?;
+    seal(disk, slot, k)?;
+    Ok(())
+}
+
+/// Does the event, and puts it into the journal after its first k events.
+pub fn record<D: Disk>(
+    alloc: Global,
+    desktop: &mut LiveDesktop,
+    disk: &mut D,
+    slot: u32,
+    k: u32,
+    event: &Event,
+) -> Result<Reply, Error>
+    requires room { STORE_SECTORS ≤ D.size disk.old }
+    requires two { slot < SLOTS }
+    requires index { k < JOURNAL_EVENTS }
+    requires over { IsLive desktop.old }
+    ensures any_moment { D.honest disk.old → (number : ℕ)
+        → IsKept (D.size disk.old) (D.trail disk.old) slot number k (shown desktop.old)
+        → LeavesOnly (D.trail disk.old) (D.trail disk.new)
+        (MeansEither (D.size disk.old) (shown desktop.old) (step (shown desktop.old) event.now).0) }
+    ensures unrecorded { IsErrOf result Error.NoMemory → D.honest disk.old → (number : ℕ)
+        → IsKept (D.size disk.old) (D.trail disk.old) slot number k (shown desktop.old)
+        → LeavesOnly (D.trail disk.old) (D.trail disk.new) (Means (D.size disk.old) (shown desktop.old)) }
+    ensures added { OnOk result (D.honest disk.old → (number : ℕ)
+        → IsKept (D.size disk.old) (D.trail disk.old) slot number k (shown desktop.old)
+        → IsKept (D.size disk.old) (D.trail disk.new) slot number (k + 1) (shown desktop.new)) }
+    ensures stepped { IfOk result (λ reply. D.honest disk.old
+        → (shown desktop.new, reply) ≡ step (shown desktop.old) event.now) }
+    ensures replies { IfOk result IsReply }
+    ensures refusal { (code : ℕ) → result ≡ Ok (No code) → desktop.new.desktop ≡ desktop.old.desktop }
+    ensures over { OnOk result (IsLive desktop.new) }
+    // the characters in the area are the front of those that there are then
+    ensures front { OnOk result (D.honest disk.old → (saved : ℕ) → SECTOR_BYTES * saved ≤ length desktop.old.characters
+        → IsFront (now (D.trail disk.old)).reads slot saved desktop.old.characters
+        → IsFront (now (D.trail disk.new)).reads slot saved desktop.new.characters) }
+    ensures longer { OnOk result (length desktop.old.characters ≤ length desktop.new.characters) }
+    ensures device { IsSameDevice D.Disk disk.old disk.new }
+    ensures faults { FailsAs Error.Fault OfDesktop result (D.failures disk.old) (D.failures disk.new) }
+{
+    let reply = desktop.step(alloc, event, disk)?;
+    add_record(disk, slot, k, event)?;
+    Ok(reply)
+}

@@ -1,0 +1,159 @@
+-- Viewers on their way to the screen: their texts are there, can be read, and read as they are seen.
+use Rattle.std.proofs.Common.{◌≡◌, ℕ, zero, suc, ◌+◌, ◌<◌, ◌≤◌, List, [], ◌∷◌, length, map, refl, sym, ap, subst, ◌∙◌}
+use Rattle.std.proofs.Common.{arith, Option, Some, IsNone, true, cond, not, ◌==◌, drop, inl, inr}
+use Rattle.std.specs.Prelude.{All}
+use Rattle.std.specs.Option.{option_map}
+use Rattle.std.specs.List.{slice_index_or, position_or_len, find}
+use Rattle.std.proofs.lemmas.Bool.{cases_lt, eq-eqb}
+use Rattle.std.proofs.lemmas.List.{length-map, get_or-map}
+use Rattle.std.proofs.lemmas.List.Elements.{All-map}
+use Rattle.piece_ring.specs.Flat.{flat}
+use Rattle.piece_ring.specs.Offsets.{AreWithin}
+use Rattle.readers_scanners.specs.Reading.{contents}
+use Rattle.screen_cells.specs.declared.shown.Shown.{Shown}
+use Rattle.screen_pictures.specs.Picture.{picture, Viewer as Painted}
+use Rattle.screen_pictures.specs.Screen.{screen_of}
+use Rattle.screen_cells.specs.Shown.{IsShowable, as_read}
+use Rattle.desktop_definitions.specs.declared.viewer.Viewer.{Viewer}
+use Rattle.desktop_definitions.specs.declared.viewer.Selection.{Selection}
+use Rattle.desktop_laws.specs.TableLaws.{length_seen_text}
+use Rattle.desktop_definitions.specs.Desktop.{KeptDesktop}
+use Rattle.desktop_definitions.specs.Viewers.{text_in}
+use Rattle.desktop_definitions.specs.Seen.{seen, seen_table}
+use Rattle.desktop_definitions.specs.Shown.{ranked, selection_in, painted, shown_screen}
+use Rattle.desktop_definitions.specs.Sound.{AllWithin, IsViewer, IsKeptWhole}
+use Rattle.desktop_laws.specs.TextLaws.{text_there, text_in_seen, text_within}
+use Rattle.desktop_laws.specs.ViewLaws.{viewer_at_place}
+use Rattle.desk_views.specs.declared.views.View.{View}
+use Rattle.desk_views.specs.Views.{view_in, KeptView, kept_view, shown_view, AreThere}
+
+-- a place with a character is before the end
+pub not_at_end : {X : Type 0} (item : Option X) (x : X) (p n : ℕ) → item ≡ Some x → (p ≡ n → IsNone item) → p ≤ n
+    → p < n
+not_at_end item x p n is ends within = elim (cases_lt p n) [
+  | inl before ↦ before
+  | inr past ↦ let last : p ≡ n = omega (arith, past, within) in absurd (cc (subst IsNone is (ends last)))
+]
+
+-- ---- what is selected
+
+from_place : {X : Type 0} (xs : List X) (i : ℕ) (d : X) → i < length xs
+    → drop i xs ≡ slice_index_or xs i d ∷ drop (suc i) xs
+from_place [] i d low = absurd (omega (arith, low))
+from_place (x ∷ xs) zero d low = refl
+from_place (x ∷ xs) (suc i) d low = from_place xs i d (omega (arith, low))
+
+-- the first selection that is of a viewer
+pub selected_here : (selections : List Selection) (v rank : ℕ) (d : Selection) → rank < length selections
+    → position_or_len (λ s. s.viewer == v) selections
+    ≡ rank + position_or_len (λ s. s.viewer == v) (drop rank selections)
+    → find (λ s. s.viewer == v) selections ≡ find (λ s. s.viewer == v) (drop rank selections)
+    → (slice_index_or selections rank d).viewer ≡ v
+    → Some (record {
+      beg = (slice_index_or selections rank d).beg;
+      end = (slice_index_or selections rank d).end;
+      rank = rank;
+    }) ≡ selection_in selections v
+selected_here selections v rank d low place found same =
+    let s = slice_index_or selections rank d in
+    let rest = drop (suc rank) selections in
+    let test = λ (s : Selection). s.viewer == v in
+    let here : drop rank selections ≡ s ∷ rest = from_place selections rank d low in
+    let passes : (s.viewer == v) ≡ true = eq-eqb s.viewer v same in
+    let first : position_or_len test (drop rank selections) ≡ 0 = ap (position_or_len test) here
+    ∙ ap (λ b. let n : ℕ = cond (not b) (1 + position_or_len test rest) 0 in n) passes in
+    let at : position_or_len test selections ≡ rank = omega (arith, place, first) in
+    let is : find test selections ≡ Some s = found ∙ ap (find test) here
+    ∙ ap (λ b. let o : Option Selection = cond b (Some s) (find test rest) in o) passes in
+    let ranks : position_or_len (λ (t : Selection). t.viewer == s.viewer) selections ≡ rank =
+    ap (λ (w : ℕ). position_or_len (λ (t : Selection). t.viewer == w) selections) same ∙ at in
+    (λ k. Some (record { beg = s.beg; end = s.end; rank = sym ranks k }))
+    ∙ ap (option_map (ranked selections)) (sym is)
+
+-- ---- what is shown
+
+-- a view that can be painted where there are n characters
+pub record IsReadable (n : ℕ) (v : KeptView) : Type 0 where
+  pub org : v.frame.org ≤ length (flat v.main)
+  pub menu : AreWithin n (flat v.menu)
+  pub main : AreWithin n (flat v.main)
+
+-- the views of all viewers
+abbrev pub views : KeptDesktop → List View
+views d = map (view_in d.caret d.selections) d.viewers
+
+module _ (d : KeptDesktop) (whole : IsKeptWhole d) where
+  stands : (i : ℕ) (e : ℕ × Viewer) → i < length d.viewers
+      → IsViewer (seen_table [] d.texts) d.viewers (slice_index_or d.viewers i e).0 (slice_index_or d.viewers i e).1
+  unfolding seen
+  stands i e low =
+      let viewers = (whole.sound []).shaped.viewers in
+      viewers.each _ _ (viewer_at_place d.viewers i e viewers.ids low)
+
+  pub all_there : All (AreThere d.texts) (views d)
+  all_there = All-map (AreThere d.texts) (view_in d.caret d.selections) d.viewers
+      (λ i e low. (
+        text_there [] d.texts (slice_index_or d.viewers i e).1.menu (stands i e low).menu,
+        text_there [] d.texts (slice_index_or d.viewers i e).1.main (stands i e low).main,
+      ))
+
+  all_readable : (n : ℕ) → AllWithin n d.texts → All (λ v. IsReadable n (kept_view d.texts v)) (views d)
+  all_readable n within = All-map (λ v. IsReadable n (kept_view d.texts v)) (view_in d.caret d.selections) d.viewers
+      (λ i e low.
+      let main = (slice_index_or d.viewers i e).1.main in
+      let same = ap length (text_in_seen [] d.texts main) in
+      let long = length_seen_text [] (text_in d.texts main) in
+      let org = (stands i e low).org in
+      record {
+        org = omega (arith, same, long, org);
+        menu = text_within n d.texts (slice_index_or d.viewers i e).1.menu within;
+        main = text_within n d.texts main within;
+      })
+
+  -- the screen can read what it is handed
+  pub all_showable : (n : ℕ) (shown : List Shown) → AllWithin n d.texts
+      → map shown_view shown ≡ map (kept_view d.texts) (views d) → All (IsShowable n) shown
+  all_showable n shown within is = λ i s low.
+      let all : All (IsReadable n) (map shown_view shown) = subst (All (IsReadable n)) (sym is)
+      (All-map (IsReadable n) (kept_view d.texts) (views d) (all_readable n within)) in
+      let here : IsReadable n (shown_view (slice_index_or shown i s)) =
+      subst (IsReadable n) (get_or-map shown_view shown i s (shown_view s) low)
+      (all i (shown_view s) (omega (arith, low, length-map {B = KeptView} shown shown_view))) in
+      record { org = here.org; menu = here.menu; main = here.main }
+
+-- ---- as they read
+
+-- a view as it reads, over these characters
+abbrev read_view : List ℕ → KeptView → Painted
+read_view characters v = record {
+  id = v.id;
+  menu = contents characters (flat v.menu);
+  main = contents characters (flat v.main);
+  frame = v.frame;
+}
+
+shown_read : (characters : List ℕ) (shown : List Shown)
+    → map (as_read characters) shown ≡ map (read_view characters) (map shown_view shown)
+shown_read characters [] = refl
+shown_read characters (s ∷ ss) = ap (λ (vs : List Painted). as_read characters s ∷ vs) (shown_read characters ss)
+
+views_read : (characters : List ℕ) (d : KeptDesktop) (viewers : List (ℕ × Viewer))
+    → map (read_view characters) (map (kept_view d.texts) (map (view_in d.caret d.selections) viewers))
+    ≡ map (painted (seen characters d)) viewers
+unfolding seen
+views_read characters d [] = refl
+views_read characters d (e ∷ es) = λ k. (record {
+  id = e.0;
+  menu = sym (text_in_seen characters d.texts e.1.menu) k;
+  main = sym (text_in_seen characters d.texts e.1.main) k;
+  frame = (view_in d.caret d.selections e).frame;
+}) ∷ views_read characters d es k
+
+pub painted_seen : (characters : List ℕ) (d : KeptDesktop) (shown : List Shown)
+    → map shown_view shown ≡ map (kept_view d.texts) (views d)
+    → screen_of (picture d.columns (map (as_read characters) shown) d.marker) ≡ shown_screen (seen characters d)
+unfolding shown_screen seen
+painted_seen characters d shown is =
+    let all : map (as_read characters) shown ≡ map (painted (seen characters d)) d.viewers =
+    shown_read characters shown ∙ ap (map (read_view characters)) is ∙ views_read characters d d.viewers in
+    ap (λ (viewers : List Painted). screen_of (picture d.columns viewers d.marker)) all

@@ -1,0 +1,65 @@
+use Rattle.std.proofs.Common.{◌∙◌, sym, ap, refl, append-nil, arith, []}
+use Rattle.char_file.proofs.Reading.{no_read, read_on}
+use Rattle.viewer_tracks.specs.Viewers.{number_of}
+use Rattle.viewer_tracks.specs.Columns.{shown}
+use Rattle.desktop_definitions.specs.Listing.{viewer_entry}
+use Rattle.desktop_definitions.specs.Seen.{seen}
+use Rattle.desktop_laws.specs.ViewLaws.{listed_more, listed_all, listed_to_none, few_stand}
+use Rattle.desk_core.specs.Kept.{kept}
+use Rattle.desk_views.proofs.views.list_track.Goals as goal
+
+pub loop-index-init : goal.loop-index-init
+loop-index-init g c =
+    let C = g.S.CharSource in
+    record {
+      reads = no_read C.characters C.failures C.honest C.same_ground g.met.S.CharSource.ground_self c.args.source.now;
+      calm = refl;
+      so_far = λ honest. sym (append-nil c.args.entries.now.items);
+    }
+
+pub entry_of-requires-clause-over : goal.entry_of-requires-clause-over
+entry_of-requires-clause-over g c =
+    record { counted = c.loop-index.invariant.reads.as_long ∙ c.requires.counted; whole = c.requires.whole }
+
+pub entry_of-requires-clause-placed : goal.entry_of-requires-clause-placed
+entry_of-requires-clause-placed g c = c.in-Some.ensures.placed
+
+pub loop-index-preserved : goal.loop-index-preserved
+loop-index-preserved g c =
+    let C = g.S.CharSource in
+    let i = c.loop-index.invariant in
+    let e = c.in_ok-entry.ensures in
+    let d = kept c.args.desk.now in
+    let characters = C.characters c.args.source.now in
+    let entry = viewer_entry (seen characters d) c.args.track in
+    record {
+      reads = read_on C.characters C.failures C.honest C.same_ground g.met.S.CharSource.ground_through
+          c.args.source.now c.loop-index.source c.entry_of.new.source i.reads e.reads;
+      calm = e.faults.calm (λ wrong. absurd cc) ∙ i.calm;
+      so_far = λ honest.
+          listed_more entry (shown d.columns c.args.track) c.loop-index.index c.in-Some.id.0 c.args.entries.now.items
+          c.loop-index.entries.items c.push.new.self.items c.in_ok-entry.entry c.in-Some.ensures.viewer
+          (i.so_far honest)
+          (e.entry (i.reads.still honest)
+          ∙ (λ k. viewer_entry (seen (i.reads.same honest k) d) c.args.track c.in-Some.id.0))
+          c.in_ok-push.ensures.items;
+    }
+
+pub returns-in_default-clause-entries : goal.returns-in_default-clause-entries
+unfolding seen
+returns-in_default-clause-entries g c = λ honest.
+    let d = kept c.args.desk.now in
+    let entry = viewer_entry (seen (g.S.CharSource.characters c.args.source.now) d) c.args.track in
+    listed_to_none entry (shown d.columns c.args.track) c.loop-index.index c.args.entries.now.items
+    c.loop-index.entries.items
+    (sym (ap number_of c.in_default.is) ∙ c.viewer_in.ensures.viewer) (c.loop-index.invariant.so_far honest)
+
+pub returns-clause-entries : goal.returns-clause-entries
+unfolding seen
+returns-clause-entries g c = λ honest.
+    let d = kept c.args.desk.now in
+    let entry = viewer_entry (seen (g.S.CharSource.characters c.args.source.now) d) c.args.track in
+    listed_all entry (shown d.columns c.args.track) c.loop-index.index c.args.entries.now.items
+    c.loop-index.entries.items
+    (omega (arith, few_stand d.columns c.args.track (c.requires.whole.sound []).shaped.places.columns_hold))
+    (c.loop-index.invariant.so_far honest)

@@ -1,0 +1,44 @@
+use Rattle.std.proofs.Common.{◌≡◌, ◌∙◌, List, length, map, sym, ap, subst}
+use Rattle.std.specs.Prelude.{All}
+use Rattle.screen_cells.specs.declared.shown.Shown.{Shown}
+use Rattle.screen_pictures.specs.Picture.{picture}
+use Rattle.screen_pictures.specs.Screen.{screen_of}
+use Rattle.screen_cells.specs.Shown.{IsShowable, as_read}
+use Rattle.desktop_laws.specs.SeenLaws.{within_counted}
+use Rattle.desk_core.specs.Kept.{kept}
+use Rattle.desk_views.specs.Views.{view_in, kept_view, AreThere}
+use Rattle.desk_core.proofs.ViewLemmas.{few}
+use Rattle.desk_views.proofs.Painted.{views, all_there, all_showable, painted_seen}
+use Rattle.desk_views.proofs.views.paint.Goals as goal
+
+pub views_of-requires : goal.views_of-requires
+views_of-requires g c = rw c.deref-2.ensures.value (few (kept c.args.desk.now) c.requires.whole)
+
+pub shown_of-requires : goal.shown_of-requires
+shown_of-requires g c =
+    let d = kept c.args.desk.now in
+    let same : c.deref-3.result.now ≡ views d = c.deref-3.ensures.value ∙ c.in_ok-views.ensures
+    ∙ (λ k. map (view_in d.caret (c.deref-2.ensures.value k)) (c.deref.ensures.value k)) in
+    subst (All (AreThere d.texts)) (sym same) (all_there d c.requires.whole)
+
+pub paint-requires : goal.paint-requires
+paint-requires g c =
+    let d = kept c.args.desk.now in
+    let characters = g.S.CharSource.characters c.args.source.now in
+    let same : c.deref-3.result.now ≡ views d = c.deref-3.ensures.value ∙ c.in_ok-views.ensures
+    ∙ (λ k. map (view_in d.caret (c.deref-2.ensures.value k)) (c.deref.ensures.value k)) in
+    subst (All (IsShowable (length characters))) (sym c.deref-4.ensures.value)
+    (all_showable d c.requires.whole (length characters) c.in_ok-shown.shown.items
+    (within_counted characters d c.requires).texts
+    (c.in_ok-shown.ensures ∙ ap (map (kept_view d.texts)) same))
+
+pub returns-clause-shown : goal.returns-clause-shown
+returns-clause-shown g c = λ honest.
+    let d = kept c.args.desk.now in
+    let characters = g.S.CharSource.characters c.args.source.now in
+    let same : c.deref-3.result.now ≡ views d = c.deref-3.ensures.value ∙ c.in_ok-views.ensures
+    ∙ (λ k. map (view_in d.caret (c.deref-2.ensures.value k)) (c.deref.ensures.value k)) in
+    c.in_ok-paint.ensures.painted honest
+    ∙ ap (λ (l : List Shown). screen_of (picture d.columns (map (as_read characters) l) d.marker))
+    c.deref-4.ensures.value
+    ∙ painted_seen characters d c.in_ok-shown.shown.items (c.in_ok-shown.ensures ∙ ap (map (kept_view d.texts)) same)

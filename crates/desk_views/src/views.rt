@@ -1,0 +1,219 @@
+//! What a desk shows and lists of its viewers.
+ghost use Rattle.std.specs.Prelude.{◌≡◌, ◌≤◌, ◌++◌, length, map, All, IfOk, OnOk};
+ghost use Rattle.sector_disk.specs.Faults.{FailsAs};
+ghost use Rattle.char_file.specs.Source.{OnlyReads};
+ghost use Rattle.piece_ring.specs.Flat.{flat};
+ghost use Rattle.piece_ring.specs.Offsets.{AreWithin};
+ghost use Rattle.readers_scanners.specs.Reading.{contents};
+ghost use Rattle.viewer_tracks.specs.Columns.{IsPlaced};
+ghost use Rattle.desktop_definitions.specs.Seen.{seen};
+ghost use Rattle.desktop_definitions.specs.Listing.{name_in, viewer_entry, track_entries};
+ghost use Rattle.desktop_definitions.specs.Shown.{selection_in, shown_screen};
+ghost use Rattle.desktop_definitions.specs.Sound.{IsOver};
+ghost use Rattle.desk_core.specs.Kept.{kept};
+ghost use Rattle.desk_core.specs.Stops.{IsStop};
+ghost use Rattle.desk_views.specs.Views.{view_in, kept_view, shown_view, AreThere};
+
+use char_file::CharSource;
+use desk_core::desk::Desk;
+use desk_core::stop::{NoMemory, Stop};
+use desk_core::viewers::{Texts, viewer_or_none};
+use desk_core::views::{position_in, text_there};
+use desktop_definitions::{Caret, Entry, MenuName, Selection, Viewer};
+use readers_scanners::Reader;
+use screen_cells::{Screen, Shown};
+use std::alloc::Global;
+use std::vec::Vec;
+use text_core::Text;
+use text_frames::{Frame, Selection as FrameSelection};
+use viewer_tracks::{ROWS, Track, ViewerId};
+
+/// A viewer with the number of its menu text and its main frame.
+#[derive(Clone, Copy)]
+pub struct View {
+    /// The viewer's id.
+    pub id: u8,
+    /// The number of its menu text.
+    pub menu: u16,
+    /// The frame of its main text.
+    pub frame: Frame,
+}
+
+/// Paints what the desktop shows. NoMemory where an allocation is refused. Fault: the source failed in this call,
+/// and the screen may show anything.
+pub fn paint<S: CharSource>(
+    desk: &Desk,
+    alloc: Global,
+    source: &mut S,
+    screen: &mut Screen,
+) -> Result<(), Stop>
+    requires { IsOver (S.characters source.old) (kept desk.now) }
+    ensures shown { OnOk result (S.honest source.old
+        → screen.new ≡ shown_screen (seen (S.characters source.old) (kept desk.now))) }
+    ensures reads { OnlyReads S.characters S.failures S.honest S.same_ground source.old source.new }
+    ensures faults { FailsAs Stop.Fault IsStop result (S.failures source.old) (S.failures source.new) }
+{
+    let views = views_of(alloc, &desk.viewers, desk.caret, &desk.selections)?;
+    let shown = shown_of(alloc, &desk.texts, &views)?;
+    screen.paint(&desk.tracks, &shown, desk.marker, source)?;
+    Ok(())
+}
+
+/// Adds an entry for each viewer of a track, from the bottom up. NoMemory where an allocation is refused, Fault
+/// where a character could not be read; the list then has some of them.
+pub fn list_track<S: CharSource>(
+    desk: &Desk,
+    alloc: Global,
+    track: Track,
+    entries: &mut Vec<Entry>,
+    source: &mut S,
+) -> Result<(), Stop>
+    requires { IsOver (S.characters source.old) (kept desk.now) }
+    ensures entries { OnOk result (S.honest source.old → entries.new.items
+        ≡ entries.old.items ++ track_entries (seen (S.characters source.old) (kept desk.now)) track) }
+    ensures reads { OnlyReads S.characters S.failures S.honest S.same_ground source.old source.new }
+    ensures faults { FailsAs Stop.Fault IsStop result (S.failures source.old) (S.failures source.new) }
+{
+    for index in 0..ROWS {
+        let Some(id) = desk.tracks.viewer_in(track, index) else {
+            return Ok(());
+        };
+        let entry = entry_of(desk, alloc, track, id, source)?;
+        entries.push(entry)?;
+    }
+    Ok(())
+}
+
+/// The entry of a viewer that stands in that track. NoMemory where an allocation is refused, Fault where a
+/// character could not be read.
+fn entry_of<S: CharSource>(
+    desk: &Desk,
+    alloc: Global,
+    track: Track,
+    id: ViewerId,
+    source: &mut S,
+) -> Result<Entry, Stop>
+    requires over { IsOver (S.characters source.old) (kept desk.now) }
+    requires placed { IsPlaced id.0 (kept desk.now).columns }
+    ensures entry { IfOk result (λ entry. S.honest source.old
+        → entry ≡ viewer_entry (seen (S.characters source.old) (kept desk.now)) track id.0) }
+    ensures reads { OnlyReads S.characters S.failures S.honest S.same_ground source.old source.new }
+    ensures faults { FailsAs Stop.Fault IsStop result (S.failures source.old) (S.failures source.new) }
+{
+    let place = desk.tracks.place_of(id);
+    let viewer = viewer_or_none(&desk.viewers, id.0);
+    let menu = text_there(&desk.texts, viewer.menu);
+    let main = text_there(&desk.texts, viewer.main);
+    let name = menu_name(alloc, menu, source)?;
+    Ok(Entry::Viewer {
+        x: track.left(),
+        bottom: place.bottom,
+        top: place.top,
+        name,
+        len: main.len(),
+    })
+}
+
+/// The bytes of a menu up to its first space, or all where it has none. NoMemory where an allocation is refused, Fault
+/// where a character could not be read.
+fn menu_name<S: CharSource>(alloc: Global, menu: &Text, source: &mut S) -> Result<MenuName, Stop>
+    requires { AreWithin (length (S.characters source.old)) (flat menu.now) }
+    ensures name { IfOk result (λ name. S.honest source.old
+        → name ≡ name_in (contents (S.characters source.old) (flat menu.now))) }
+    ensures reads { OnlyReads S.characters S.failures S.honest S.same_ground source.old source.new }
+    ensures faults { FailsAs Stop.Fault IsStop result (S.failures source.old) (S.failures source.new) }
+{
+    let mut reader = Reader::open(menu, 0);
+    let mut bytes = Vec::new(alloc);
+    while let Some(character) = reader.read(source)? {
+        if character.0 == b' ' {
+            return Ok(MenuName::new(bytes));
+        }
+        bytes.push(character.0)?;
+    }
+    Ok(MenuName::new(bytes))
+}
+
+/// The views of all viewers.
+fn views_of(
+    alloc: Global,
+    viewers: &[(u8, Viewer)],
+    caret: Option<Caret>,
+    selections: &[Selection],
+) -> Result<Vec<View>, NoMemory>
+    requires { length selections.now ≤ 255 }
+    ensures { IfOk result (λ views. views.items ≡ map (view_in caret selections.now) viewers.now) }
+{
+    let mut views = Vec::new(alloc);
+    for entry in viewers {
+        views.push(view_of(entry, caret, selections))?;
+    }
+    Ok(views)
+}
+
+/// The view of a viewer.
+fn view_of(entry: &(u8, Viewer), caret: Option<Caret>, selections: &[Selection]) -> View
+    requires { length selections.now ≤ 255 }
+    ensures { result ≡ view_in caret selections.now entry.now }
+{
+    let (id, viewer) = *entry;
+    let caret = position_in(id, caret);
+    let selection = selection_in(selections, id);
+    View {
+        id,
+        menu: viewer.menu,
+        frame: Frame {
+            text: viewer.main,
+            org: viewer.org,
+            caret,
+            selection,
+        },
+    }
+}
+
+/// What is selected in that viewer.
+fn selection_in(selections: &[Selection], id: u8) -> Option<FrameSelection>
+    requires { length selections.now ≤ 255 }
+    ensures { result ≡ selection_in selections.now id }
+{
+    for rank in 0..selections.len() {
+        let selection = selections[rank];
+        if selection.viewer == id {
+            return Some(FrameSelection {
+                beg: selection.beg,
+                end: selection.end,
+                rank: rank as u8,
+            });
+        }
+    }
+    None
+}
+
+/// All views with their texts, as they are painted.
+fn shown_of<'a>(
+    alloc: Global,
+    texts: &'a Texts,
+    views: &'a [View],
+) -> Result<Vec<Shown<'a>>, NoMemory>
+    requires { All (AreThere texts.now.entries) views.now }
+    ensures { IfOk result (λ shown. map shown_view shown.items ≡ map (kept_view texts.now.entries) views.now) }
+{
+    let mut shown = Vec::new(alloc);
+    for view in views {
+        shown.push(shown_as(texts, view))?;
+    }
+    Ok(shown)
+}
+
+/// A view with its texts.
+fn shown_as<'a>(texts: &'a Texts, view: &'a View) -> Shown<'a>
+    requires { AreThere texts.now.entries view.now }
+    ensures { shown_view result ≡ kept_view texts.now.entries view.now }
+{
+    Shown {
+        id: ViewerId(view.id),
+        menu: text_there(texts, view.menu),
+        main: text_there(texts, view.frame.text),
+        frame: &view.frame,
+    }
+}

@@ -1,0 +1,61 @@
+-- The table of commands. Their refusals come in the order in which the words here ask.
+use Rattle.std.specs.Prelude.{ℕ, ◌-◌, Bool, List}
+use Rattle.std.specs.Prelude.{Option, Result, Ok}
+use Rattle.command_table.specs.declared.command.Command.{Command}
+use Rattle.command_table.specs.declared.command.Command.TheVariants.{EditOpen, SystemOpen, SystemOpenLog, SystemClose}
+use Rattle.command_table.specs.declared.command.Command.TheVariants.{SystemRecall, SystemCopy, SystemClear}
+use Rattle.command_table.specs.declared.command.Command.TheVariants.{SystemDirectory, SystemDeleteFiles}
+use Rattle.command_table.specs.declared.command.Command.TheVariants.{SystemSetFont, SystemSetColor, SystemSetOffset}
+use Rattle.command_table.specs.declared.command.Command.TheVariants.{EditChangeFont, EditChangeColor}
+use Rattle.command_table.specs.declared.command.Command.TheVariants.{EditChangeOffset, EditStore, EditSearch}
+use Rattle.command_table.specs.declared.command.Command.TheVariants.{EditRecall}
+use Rattle.command_table.specs.Call.{called_at}
+use Rattle.desktop_definitions.specs.Limits.{no_caret, no_command}
+use Rattle.desktop_definitions.specs.Limits.{no_viewer}
+use Rattle.desktop_definitions.specs.Limits.{bad_value}
+use Rattle.desktop_definitions.specs.Needs.{needs, given}
+use Rattle.desktop_definitions.specs.Desktop.{Desktop}
+use Rattle.desktop_definitions.specs.Change.{bytes_of, put_at_caret}
+use Rattle.desktop_definitions.specs.Looks.{font_set, colour_set, offset_set}
+use Rattle.desktop_definitions.specs.declared.call.Call.{Call}
+use Rattle.desktop_definitions.specs.Call.{text_called, meant, name_of, number_of, names_of}
+use Rattle.desktop_definitions.specs.Effects.{file_opened, document_opened, log_opened, put_away, brought_back}
+use Rattle.desktop_definitions.specs.Effects.{viewer_copied, log_cleared, directory_logged, files_deleted, stored}
+use Rattle.desktop_definitions.specs.Effects.{look_set, selection_set, searched}
+
+-- what each command does where it is called
+unfoldable pub commanded : Desktop → Command → Call → Result Desktop ℕ
+commanded d EditOpen call = given (name_of d call) λ name. Ok (document_opened d name)
+commanded d SystemOpen call = given (name_of d call) (file_opened d)
+commanded d SystemOpenLog call = Ok (log_opened d)
+commanded d SystemClose call = needs (meant d call) no_viewer λ v. Ok (put_away d v)
+commanded d SystemRecall call = needs d.kept no_viewer λ k. Ok (brought_back d k)
+commanded d SystemCopy call = needs (meant d call) no_viewer (viewer_copied d)
+commanded d SystemClear call = Ok (log_cleared d)
+commanded d SystemDirectory call = Ok (directory_logged d)
+commanded d SystemDeleteFiles call = given (names_of d call) (files_deleted d)
+commanded d SystemSetFont call =
+    given (name_of d call) λ name. needs (font_set name) bad_value λ new. Ok (look_set d new)
+commanded d SystemSetColor call =
+    given (number_of d call) λ z. needs (colour_set z) bad_value λ new. Ok (look_set d new)
+commanded d SystemSetOffset call =
+    given (number_of d call) λ z. needs (offset_set z) bad_value λ new. Ok (look_set d new)
+commanded d EditChangeFont call = given (name_of d call) λ name. needs (font_set name) bad_value (selection_set d)
+commanded d EditChangeColor call = given (number_of d call) λ z. needs (colour_set z) bad_value (selection_set d)
+commanded d EditChangeOffset call = given (number_of d call) λ z. needs (offset_set z) bad_value (selection_set d)
+commanded d EditStore call = needs (meant d call) no_viewer (stored d)
+commanded d EditSearch call = needs (meant d call) no_viewer (searched d)
+commanded d EditRecall call = needs d.caret no_caret λ c. Ok (put_at_caret d d.deleted c)
+
+-- ---- calls
+
+-- The command whose word stands at a position, and the position after that word. A version is that of the table of
+-- commands; so far there is one.
+abbrev pub command_at : ℕ → List ℕ → ℕ → Option (Command × ℕ)
+command_at version bytes p = called_at bytes p
+
+-- the word at a position of a viewer's menu or main text is called
+unfoldable pub called : ℕ → Desktop → ℕ → Bool → ℕ → Result Desktop ℕ
+called version d v in_menu p =
+    needs (command_at version (bytes_of (text_called d v in_menu)) p) no_command λ found.
+    commanded d found.0 (record { viewer = v; in_menu = in_menu; after = found.1 })

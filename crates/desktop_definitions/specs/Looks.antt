@@ -1,0 +1,43 @@
+-- What commands set in looks: a selector, and a look of which it takes a field (1 the font, 2 the colour, 4 the
+-- vertical offset).
+use Rattle.std.specs.Prelude.{ℕ, ◌<◌, ℤ, pos, int_le, int_lt, nat_abs, ◌&&◌, if◌then◌else◌, List, [], ◌∷◌, All, IsTrue}
+use Rattle.std.specs.Prelude.{codes, Option, Some, None, option_map}
+use Rattle.std.specs.Option.{ForSome}
+use Rattle.std.specs.List.{position}
+use Rattle.std.specs.Str.{bytes_eq}
+use Rattle.desktop_definitions.specs.Words.{Look, default_look, Text}
+use Rattle.desktop_definitions.specs.declared.limits.TheConstants.{FONTS, COLOURS, LEAST_OFFSET, GREATEST_OFFSET}
+
+-- the names of the fonts, by their numbers
+abbrev pub fonts : List (List ℕ)
+fonts = codes "Oberon10.Scn.Fnt" ∷ codes "Oberon10i.Scn.Fnt" ∷ codes "Oberon10b.Scn.Fnt" ∷ codes "Oberon8.Scn.Fnt" ∷
+    codes "Oberon12.Scn.Fnt" ∷ []
+
+-- the font of a name, where there is one
+abbrev pub font_set : List ℕ → Option (ℕ × Look)
+font_set name = option_map (λ n. (1, record default_look { font = n })) (position (bytes_eq name) fonts)
+
+-- the colour of a number
+abbrev pub colour_set : ℤ → Option (ℕ × Look)
+colour_set z =
+    if int_le (pos 0) z && int_lt z (pos COLOURS) then Some (2, record default_look { colour = nat_abs z }) else None
+
+-- that vertical offset
+abbrev pub offset_set : ℤ → Option (ℕ × Look)
+offset_set z =
+    if int_le LEAST_OFFSET z && int_le z GREATEST_OFFSET then Some (4, record default_look { voff = z }) else None
+
+-- a look that characters may have: a font and a colour that there are, and a vertical offset within its range
+pub record IsLook (l : Look) : Type 0 where
+  pub font : l.font < FONTS
+  pub colour : l.colour < COLOURS
+  pub least : IsTrue (int_le LEAST_OFFSET l.voff)
+  pub greatest : IsTrue (int_le l.voff GREATEST_OFFSET)
+
+-- what is set is one, if anything is
+abbrev pub SetsLook : Option (ℕ × Look) → Type 0
+SetsLook new = ForSome new (λ set. IsLook set.1)
+
+-- each character of a text has one
+abbrev pub AreLooks : {X : Type 0} → Text X → Type 0
+AreLooks text = All (λ c. IsLook c.1) text

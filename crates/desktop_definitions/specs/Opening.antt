@@ -1,0 +1,45 @@
+-- New texts and viewers, and texts that nobody shows any more.
+use Rattle.std.specs.Prelude.{ℕ, ◌==◌, ◌||◌, not, Bool, List, ◌++◌, length, filter, codes}
+use Rattle.std.specs.List.{list_any, position_or_len, range_with_len}
+use Rattle.std.specs.BTreeMap.{insert_entry}
+use Rattle.desktop_definitions.specs.Words.{nat_cmp, keys_of}
+use Rattle.desktop_definitions.specs.Tables.{Texts}
+use Rattle.desktop_definitions.specs.Desktop.{DesktopOf}
+use Rattle.desktop_definitions.specs.Viewers.{opened_at}
+
+-- the least number that isn't among these
+abbrev pub least_unused : List ℕ → ℕ
+least_unused used = position_or_len (λ n. not (list_any (λ k. k == n) used)) (range_with_len 0 (length used))
+
+-- the menu of a viewer of that name
+abbrev pub menu_line : List ℕ → List ℕ
+menu_line name = name ++ codes " | System.Close System.Copy Edit.Search Edit.Store"
+
+module _ {T : Type 0} where
+  -- a text more, of the least number that no text has
+  abbrev pub with_new : Texts T → T → Texts T
+  with_new texts text = insert_entry nat_cmp texts (least_unused (keys_of texts)) text
+
+  -- A new viewer at a cell shows the text of a number, which is there, from a position on, under a new menu. What the
+  -- event gives up still has its numbers.
+  unfoldable pub opening_on : DesktopOf T → T → ℕ → ℕ → ℕ × ℕ → DesktopOf T
+  opening_on d menu main org cell =
+      let menu_number = least_unused (keys_of d.texts) in
+      let v = least_unused (keys_of d.viewers) in
+      opened_at (record d {
+        texts = with_new d.texts menu;
+        viewers = insert_entry nat_cmp d.viewers v (record { menu = menu_number; main = main; org = org });
+      }) v cell
+
+  -- A new viewer at a cell shows a new text from its beginning, under a new menu. The main text takes its number first.
+  unfoldable pub opening : DesktopOf T → T → T → ℕ × ℕ → DesktopOf T
+  opening d menu main cell =
+      opening_on (record d { texts = with_new d.texts main }) menu (least_unused (keys_of d.texts)) 0 cell
+
+  -- a text is the log, or shown by a viewer
+  abbrev pub is_shown : DesktopOf T → ℕ → Bool
+  is_shown d n = (n == 0) || list_any (λ e. (e.1.menu == n) || (e.1.main == n)) d.viewers
+
+  -- without the texts that nobody shows
+  unfoldable pub dropped : DesktopOf T → DesktopOf T
+  dropped d = record d { texts = filter (λ e. is_shown d e.0) d.texts }

@@ -1,0 +1,59 @@
+-- What an event does to the desktop, and the reply to it.
+use Rattle.std.specs.Prelude.{ℕ, ◌+◌, ◌&&◌, nat_le, Bool, if◌then◌else◌, List, length, fold, Some, Result, Ok, Err}
+use Rattle.piece_ring.specs.Text.{Text}
+use Rattle.event_bytes.specs.declared.event.Event.{Event}
+use Rattle.event_bytes.specs.declared.event.Event.TheVariants.{Typed, Key, Mark, Point, File}
+use Rattle.desktop_definitions.specs.declared.reply.Reply.{Reply}
+use Rattle.desktop_definitions.specs.declared.reply.Reply.TheVariants.{Done, No}
+use Rattle.desktop_definitions.specs.Limits.{first_version, most_written, most_held, full, too_many_files, outside}
+use Rattle.desktop_definitions.specs.Tables.{put, has_room}
+use Rattle.desktop_definitions.specs.Desktop.{Desktop, DesktopOf, held}
+use Rattle.desktop_definitions.specs.Needs.{unless}
+use Rattle.desktop_definitions.specs.Change.{plain}
+use Rattle.desktop_definitions.specs.Keys.{typed, pressed}
+use Rattle.desktop_definitions.specs.Opening.{dropped}
+use Rattle.desktop_definitions.specs.Gesture.{is_on_display, area_at, pointed}
+
+-- ---- a file
+
+-- the file of that name becomes this text, which was written anew
+unfoldable pub filed : Desktop → List ℕ → Text ℕ → Desktop
+filed d name text = record d { files = put d.files name text; written = d.written + length text }
+
+-- ---- the marker
+
+unfoldable pub marked : {T : Type 0} → DesktopOf T → ℕ → ℕ → DesktopOf T
+marked d x y = record d { marker = Some (x, y) }
+
+-- ---- the step
+
+-- within the limits on characters
+abbrev pub fits : Desktop → Bool
+fits d = nat_le d.written most_written && nat_le (held d) most_held
+
+-- A refusal leaves the desktop. After all else texts that nobody shows go. The limits on characters come last, and look
+-- at the desktop after the event alone.
+unfoldable pub settled : Desktop → Result Desktop ℕ → Desktop × Reply
+settled d (Err code) = (d, No code)
+settled d (Ok new) = if fits (dropped new) then (dropped new, Done) else (d, No full)
+
+-- what an event does but for texts that go and the limits on characters, or the code of its refusal, by the version of
+-- the table of commands
+unfoldable pub raw : ℕ → Desktop → Event → Result Desktop ℕ
+raw version d (Typed bytes) = typed d bytes
+raw version d (Key key) = pressed d key
+raw version d (Mark x y) = unless (is_on_display x y) outside (Ok (marked d x y))
+raw version d (Point keys x0 y0 x1 y1) =
+    unless (is_on_display x0 y0 && is_on_display x1 y1) outside (pointed version d (area_at d x0 y0) keys x0 y0 x1 y1)
+raw version d (File name bytes) = unless (has_room d.files name) too_many_files (Ok (filed d name (plain bytes)))
+
+unfoldable pub step_in : ℕ → Desktop → Event → Desktop × Reply
+step_in version d event = settled d (raw version d event)
+
+-- a step in the only version so far
+unfoldable pub step : Desktop → Event → Desktop × Reply
+step d event = step_in first_version d event
+
+-- the desktop after events, one after another
+abbrev pub steps : Desktop → List Event → Desktop
+steps d events = fold (λ (now : Desktop) event. (step now event).0) d events

@@ -1,0 +1,31 @@
+//! What ties the code's constants to the definitions.
+ghost use Rattle.std.specs.Prelude.{◌≡◌};
+ghost use Rattle.desktop_definitions.specs.declared.limits.TheConstants.{MOST_WRITTEN, MOST_HELD, MOST_FILES};
+ghost use Rattle.desktop_definitions.specs.declared.limits.TheConstants.{MOST_PATTERN};
+ghost use Rattle.desktop_definitions.specs.declared.codes.TheConstants.{NO_CARET, NO_SELECTION, WRONG_SYMBOL};
+ghost use Rattle.desktop_definitions.specs.declared.codes.TheConstants.{NO_COMMAND};
+ghost use Rattle.desktop_definitions.specs.declared.codes.TheConstants.{NO_FILE, FULL, NO_VIEWER, TOO_MANY_FILES};
+ghost use Rattle.desktop_definitions.specs.declared.codes.TheConstants.{OUTSIDE, NOT_FOUND, BAD_VALUE, TOO_LOW};
+ghost use Rattle.desktop_definitions.specs.Limits.{most_written, most_held, most_files, most_pattern};
+ghost use Rattle.desktop_definitions.specs.Limits.{no_caret, no_selection, wrong_symbol, no_command, no_file, full};
+ghost use Rattle.desktop_definitions.specs.Limits.{no_viewer, too_many_files, outside, not_found, bad_value, too_low};
+
+/// The limits and the codes of refusals are the numbers that the definitions say.
+pub fn constants_are_defined()
+    ensures written { MOST_WRITTEN ≡ most_written }
+    ensures held { MOST_HELD ≡ most_held }
+    ensures files { MOST_FILES ≡ most_files }
+    ensures pattern { MOST_PATTERN ≡ most_pattern }
+    ensures caret { NO_CARET ≡ no_caret }
+    ensures selection { NO_SELECTION ≡ no_selection }
+    ensures symbol { WRONG_SYMBOL ≡ wrong_symbol }
+    ensures command { NO_COMMAND ≡ no_command }
+    ensures file { NO_FILE ≡ no_file }
+    ensures full { FULL ≡ full }
+    ensures viewer { NO_VIEWER ≡ no_viewer }
+    ensures many { TOO_MANY_FILES ≡ too_many_files }
+    ensures outside { OUTSIDE ≡ outside }
+    ensures absent { NOT_FOUND ≡ not_found }
+    ensures value { BAD_VALUE ≡ bad_value }
+    ensures low { TOO_LOW ≡ too_low }
+{}

@@ -1,0 +1,28 @@
+//! What a desktop is and what events do to it, in definitions, with the types that they speak of.
+//!
+//! A desktop is a fold over events. `specs/Desktop.antt` says what it has, and `specs/Step.antt` what one event does to
+//! it: rules over bytes alone. A desktop that is kept has texts of pieces, which name characters of a source;
+//! `specs/Seen.antt` says how it is seen among them, `specs/Sound.antt` what holds of it at all times, and
+//! `specs/Outcome.antt` what a call promises that does an event. Laws are in the crate
+//! `desktop_laws`, the code in those above it, with `event_loop` on top.
+#![tactic(auto)]
+
+mod area;
+mod call;
+pub mod codes;
+mod entry;
+mod laws;
+mod limits;
+mod reply;
+mod viewer;
+
+pub use area::Area;
+pub use call::Call;
+pub use entry::{Entry, MenuName};
+pub use laws::constants_are_defined;
+pub use limits::{
+    COLOURS, FONTS, GREATEST_OFFSET, LEAST_OFFSET, MOST_FILES, MOST_HELD, MOST_PATTERN,
+    MOST_WRITTEN,
+};
+pub use reply::Reply;
+pub use viewer::{Caret, Kept, Selection, Viewer};

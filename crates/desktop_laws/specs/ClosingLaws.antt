@@ -1,0 +1,313 @@
+-- Laws of viewers that close and are recalled: a closed one is kept with its place and loses its marks, and a recalled
+-- one stands where it stood.
+use Rattle.std.specs.Prelude.{◌≡◌, ◌≤◌, ℕ, ◌+◌, ◌==◌, not, Bool, true, false, List}
+use Rattle.std.specs.Prelude.{slice_index_or, if◌then◌else◌, Option, Some, None, option_map, Ok}
+use Rattle.std.proofs.Common.{refl, sym, ap, subst, ◌∙◌, arith}
+use Rattle.std.proofs.lemmas.Bool.{eqb-false, eq-eqb, ne_eqb}
+use Rattle.std.proofs.lemmas.List.Elements.{All-filter, filter_passes}
+use Rattle.std.proofs.lemmas.List.Filters.{sum_by-filter_both}
+use Rattle.viewer_tracks.specs.Columns.{Columns, IsColumns, IsPlaced, times_placed, times_meant, track_of, placed_top}
+use Rattle.viewer_tracks.specs.Columns.{after_close, after_open, replaced_at}
+use Rattle.viewer_tracks.specs.Display.{left_of}
+use Rattle.desktop_definitions.specs.declared.viewer.Caret.{Caret}
+use Rattle.desktop_definitions.specs.declared.viewer.Selection.{Selection}
+use Rattle.desktop_definitions.specs.declared.viewer.Kept.{Kept}
+use Rattle.desktop_definitions.specs.declared.reply.Reply.TheVariants.{Done, No}
+use Rattle.desktop_definitions.specs.Limits.{most_written, most_held, no_viewer}
+use Rattle.desktop_definitions.specs.Needs.{needs}
+use Rattle.desktop_definitions.specs.Desktop.{DesktopOf, Desktop, KeptDesktop, held}
+use Rattle.desktop_definitions.specs.Viewers.{main_length, caret_outside, selections_outside, without_viewer, unmarked}
+use Rattle.desktop_definitions.specs.Viewers.{opened_at}
+use Rattle.desktop_definitions.specs.Opening.{dropped}
+use Rattle.desktop_definitions.specs.Effects.{put_away, brought_back}
+use Rattle.desktop_definitions.specs.Seen.{seen}
+use Rattle.desktop_definitions.specs.Step.{settled}
+use Rattle.desktop_definitions.specs.Sound.{IsKeptPlace, IsSelection, AreMarks, IsShaped, IsSound, IsWithin, IsOver}
+use Rattle.desktop_definitions.specs.Outcome.{IsAnswered}
+use Rattle.desktop_laws.specs.OutcomeLaws.{acted}
+use Rattle.desktop_laws.specs.KeyLaws.{refusal_answered, row_as}
+use Rattle.desktop_laws.specs.PlaceLaws.{IsPlacedAnew, placed_anew, anew_shaped, dropped_shaped, dropped_shown}
+use Rattle.desktop_laws.specs.PlaceLaws.{dropped_held}
+use Rattle.desktop_laws.specs.PlacedLaws.{seen_dropped, seen_anew, dropped_within, anew_within, anew_written}
+use Rattle.desktop_laws.specs.PlacedLaws.{anew_held, dropped_written, done, fits_within, at_columns}
+use Rattle.desktop_laws.specs.RowLaws.{known_no_viewer}
+use Rattle.desktop_laws.specs.LookedLaws.{looks_stay}
+
+-- a viewer with its place, as it is kept once it is closed
+abbrev pub place_kept : Columns → ℕ → Kept
+place_kept columns v = record { viewer = v; track = track_of columns v; top = placed_top columns v }
+
+-- ---- marks in the others
+
+outside_caret : (v : ℕ) (caret : Option Caret) (c : Caret) → caret_outside (λ w. w == v) caret ≡ Some c
+    → (caret ≡ Some c) × ¬ (c.viewer ≡ v)
+outside_caret v None c is = absurd cc
+outside_caret v (Some x) c is = (elim (x.viewer == v) as (λ b. x.viewer == v ≡ b
+    → (let o : Option Caret = if b then None else Some x in o) ≡ Some c → (Some x ≡ Some c) × ¬ (c.viewer ≡ v)) [
+      | true ↦ λ inside is. absurd cc
+      | false ↦ λ out is. (
+        is,
+        (let same : x ≡ c = cc in
+            eqb-false c.viewer v (subst (λ (k : Caret). k.viewer == v ≡ false) same out)),
+      )
+    ]) refl is
+
+passed : (b : Bool) → not b ≡ true → b ≡ false
+passed true is = absurd cc
+passed false is = refl
+
+module _ (old new : Columns) (long : ℕ → ℕ) (v : ℕ)
+    (stay : (w : ℕ) → times_placed w old ≤ times_placed w new + times_meant w (Some v)) where
+  still_there : (w : ℕ) → ¬ (w ≡ v) → IsPlaced w old → IsPlaced w new
+  still_there w other placed =
+      let apart : times_meant w (Some v) ≡ 0 = rw (ne_eqb v w (λ same. other (sym same))) refl in
+      omega (arith, stay w, apart, placed)
+
+  -- who stands elsewhere keeps what is marked
+  pub marks_outside : (caret : Option Caret) (selections : List Selection) → AreMarks old long caret selections
+      → AreMarks new long (caret_outside (λ w. w == v) caret) (selections_outside (λ w. w == v) selections)
+  marks_outside caret selections are = record {
+    caret_stands = λ c here.
+        let was = outside_caret v caret c here in
+        let stands = are.caret_stands c was.0 in
+        record { placed = still_there c.viewer was.1 stands.placed; within = stands.within };
+    all_stand = λ i s low.
+        let at = slice_index_or (selections_outside (λ w. w == v) selections) i s in
+        let out : not (at.viewer == v) ≡ true
+        = filter_passes (λ (s : Selection). not (s.viewer == v)) selections i s low in
+        let stands = All-filter (λ (s : Selection). not (s.viewer == v)) (IsSelection old long) selections
+        are.all_stand i s low in
+        record {
+          placed = still_there at.viewer (eqb-false at.viewer v (passed _ out)) stands.placed;
+          some = stands.some;
+          within = stands.within;
+        };
+    one_each = λ w.
+        let parts = sum_by-filter_both (λ (s : Selection). not (s.viewer == v)) (λ s. not (not (s.viewer == v)))
+        (λ s. refl) (λ s. if s.viewer == w then 1 else 0) selections in
+        let one = are.one_each w in
+        omega (arith, parts, one);
+  }
+
+-- ---- viewers that stand elsewhere
+
+-- a desktop with other columns and marks, and with another viewer that is kept
+abbrev pub restood : {T : Type 0} → DesktopOf T → Columns → Option Caret → List Selection → Option Kept → DesktopOf T
+restood d columns caret selections kept =
+    record d { columns = columns; caret = caret; selections = selections; kept = kept }
+
+module _ (H : Type 0) (old : List ℕ) (d : KeptDesktop) (over : IsOver old d) (stood : Columns) (caret : Option Caret)
+    (selections : List Selection) (kept : Option Kept) (columns : Columns) (taken : Option ℕ)
+    (anew : (characters : List ℕ)
+    → IsPlacedAnew (restood (seen characters d) stood caret selections kept) columns taken) where
+  abbrev between : KeptDesktop
+  between = restood d stood caret selections kept
+
+  abbrev after : KeptDesktop
+  after = dropped (placed_anew between columns taken)
+
+  abbrev part : List ℕ → Desktop
+  part characters = placed_anew (restood (seen characters d) stood caret selections kept) columns taken
+
+  seen_after : (characters : List ℕ) → seen characters after ≡ dropped (part characters)
+  unfolding seen
+  seen_after characters = seen_dropped characters (placed_anew between columns taken)
+      ∙ ap dropped (seen_anew characters between columns taken)
+
+  written_after : after.written ≡ d.written
+  written_after = dropped_written (placed_anew between columns taken) ∙ anew_written between columns taken
+
+  module _ (characters : List ℕ) where
+    written_now : (dropped (part characters)).written ≤ most_written
+    unfolding seen
+    written_now =
+        let same : (dropped (part characters)).written ≡ d.written = dropped_written (part characters)
+        ∙ anew_written (restood (seen characters d) stood caret selections kept) columns taken in
+        let low = (over.whole.sound characters).written_within in
+        omega (arith, same, low)
+
+    held_now : held (dropped (part characters)) ≤ most_held
+    unfolding held
+    held_now =
+        let fewer = dropped_held (part characters) in
+        let same = anew_held (restood (seen characters d) stood caret selections kept) columns taken in
+        let low = (over.whole.sound characters).held_within in
+        omega (arith, fewer, same, low)
+
+    sound_now : IsSound (dropped (part characters))
+    sound_now = record {
+      shaped = dropped_shaped _ (anew_shaped (restood (seen characters d) stood caret selections kept) columns taken
+          (anew characters));
+      shown = dropped_shown (part characters);
+      written_within = written_now;
+      held_within = held_now;
+    }
+
+  between_within : IsWithin d.written between
+  between_within = record {
+    texts = over.whole.within.texts;
+    files = over.whole.within.files;
+    copied = over.whole.within.copied;
+    deleted = over.whole.within.deleted;
+  }
+
+  restood_over : IsOver old after
+  restood_over = record {
+    counted = over.counted ∙ sym written_after;
+    whole = record {
+      within = subst (λ n. IsWithin n after) (sym written_after)
+          (dropped_within d.written (placed_anew between columns taken)
+          (anew_within d.written between columns taken between_within));
+      sound = λ characters. subst IsSound (sym (seen_after characters)) (sound_now characters);
+    };
+  }
+
+  pub restood_answered : IsAnswered H old old d after (settled (seen old d) (Ok (part old))) Done
+  restood_answered = acted H old old d after _ restood_over
+      (λ h. (λ k. (seen_after old k, Done))
+      ∙ done (seen old d) (part old) (fits_within (dropped (part old)) (written_now old) (held_now old)))
+
+-- ---- a viewer closes
+
+module _ {T : Type 0} (d : DesktopOf T) (v : ℕ) where
+  abbrev pub closed_columns : Columns
+  closed_columns = after_close d.columns v
+
+  -- its place is left, its marks are gone, and it is kept
+  abbrev pub closed_desktop : DesktopOf T
+  closed_desktop = restood d closed_columns (caret_outside (λ w. w == v) d.caret)
+      (selections_outside (λ w. w == v) d.selections) (Some (place_kept d.columns v))
+
+  abbrev pub kept_before : Option ℕ
+  kept_before = option_map (λ k. k.viewer) d.kept
+
+  gone_and_kept : (taken : Option ℕ)
+      → placed_anew closed_desktop closed_columns taken
+      ≡ record (without_viewer (unmarked (λ w. w == v) d) taken) {
+        columns = closed_columns;
+        kept = Some (place_kept d.columns v);
+      }
+  gone_and_kept None = refl
+  gone_and_kept (Some g) = refl
+
+  pub put_away_is : placed_anew closed_desktop closed_columns kept_before ≡ put_away d v
+  unfolding put_away
+  put_away_is = gone_and_kept kept_before
+
+module _ (d : Desktop) (v : ℕ) (shaped : IsShaped d) (hold : IsColumns (after_close d.columns v))
+    (places : (w : ℕ) → times_placed w (after_close d.columns v) + times_meant w (Some v) ≡ times_placed w d.columns)
+    (place : IsKeptPlace (place_kept d.columns v)) where
+  closed_anew : IsPlacedAnew (closed_desktop d v) (closed_columns d v) (kept_before d v)
+  closed_anew = record {
+    viewers = shaped.viewers;
+    marks = marks_outside d.columns (after_close d.columns v) (main_length d.texts d.viewers) v
+        (λ w. let now = places w in omega (arith, now)) d.caret d.selections shaped.marks;
+    marker = shaped.marker;
+    files = shaped.files;
+    pattern = shaped.pattern;
+    looks = looks_stay shaped.looks refl;
+    kept_place = λ k here. let same : place_kept d.columns v ≡ k = cc here in subst IsKeptPlace same place;
+    columns_hold = hold;
+    once = λ w. let before = shaped.places.once w in let now = places w in omega (arith, before, now);
+    stay = λ w. omega arith;
+  }
+
+module _ (H : Type 0) (old : List ℕ) (d : KeptDesktop) (over : IsOver old d) (v : ℕ)
+    (hold : IsColumns (after_close d.columns v))
+    (places : (w : ℕ) → times_placed w (after_close d.columns v) + times_meant w (Some v) ≡ times_placed w d.columns)
+    (place : IsKeptPlace (place_kept d.columns v)) where
+  pub closed_answered : (now : KeptDesktop)
+      → now ≡ dropped (without_viewer (closed_desktop d v) (kept_before d v))
+      → IsAnswered H old old d now (settled (seen old d) (Ok (put_away (seen old d) v))) Done
+  unfolding seen
+  closed_answered now is =
+      subst (λ (x : KeptDesktop). IsAnswered H old old d x (settled (seen old d) (Ok (put_away (seen old d) v))) Done)
+      (sym (is ∙ ap dropped (at_columns (closed_desktop d v) (closed_columns d v) (kept_before d v))))
+      (subst (λ (row : Desktop). IsAnswered H old old d
+      (dropped (placed_anew (closed_desktop d v) (closed_columns d v) (kept_before d v)))
+      (settled (seen old d) (Ok row)) Done) (put_away_is (seen old d) v)
+      (restood_answered H old d over (closed_columns d v) (caret_outside (λ w. w == v) d.caret)
+      (selections_outside (λ w. w == v) d.selections) (Some (place_kept d.columns v)) (closed_columns d v)
+      (kept_before d v)
+      (λ all. closed_anew (seen all d) v (over.whole.sound all).shaped hold places place)))
+
+-- ---- the viewer that is kept is recalled
+
+one_place : (found : Bool) (there : ℕ) → there ≡ (if found then 1 else 0) → there ≤ 1
+one_place true there is = omega (arith, is)
+one_place false there is = omega (arith, is)
+
+-- it stands nowhere
+pub kept_nowhere : (d : Desktop) (k : Kept) → IsShaped d → d.kept ≡ Some k → ¬ IsPlaced k.viewer d.columns
+kept_nowhere d k shaped is placed =
+    let one = one_place _ _ (shaped.places.once k.viewer) in
+    let meant : times_meant k.viewer (option_map (λ x. x.viewer) d.kept) ≡ 1
+    = ap (λ (o : Option Kept). times_meant k.viewer (option_map (λ x. x.viewer) o)) is
+    ∙ rw (eq-eqb k.viewer k.viewer refl) refl in
+    absurd (omega (arith, one, meant, placed))
+
+module _ {T : Type 0} (d : DesktopOf T) (k : Kept) where
+  abbrev pub recalled_columns : Columns
+  recalled_columns = after_open d.columns k.viewer (left_of k.track) k.top
+
+  -- whose whole place it takes
+  abbrev pub replaced_by_kept : Option ℕ
+  replaced_by_kept = replaced_at d.columns (left_of k.track) k.top
+
+  pub brought_back_is : placed_anew (restood d d.columns d.caret d.selections None) recalled_columns replaced_by_kept
+      ≡ brought_back d k
+  unfolding brought_back opened_at
+  brought_back_is = refl
+
+module _ (d : Desktop) (k : Kept) (shaped : IsShaped d) (is : d.kept ≡ Some k)
+    (hold : IsColumns (recalled_columns d k))
+    (places : (w : ℕ) → times_placed w (recalled_columns d k) + times_meant w (replaced_by_kept d k)
+    ≡ times_placed w d.columns + times_meant w (Some k.viewer)) where
+  recalled_anew : IsPlacedAnew (restood d d.columns d.caret d.selections None) (recalled_columns d k)
+      (replaced_by_kept d k)
+  recalled_anew = record {
+    viewers = shaped.viewers;
+    marks = shaped.marks;
+    marker = shaped.marker;
+    files = shaped.files;
+    pattern = shaped.pattern;
+    looks = looks_stay shaped.looks refl;
+    kept_place = λ k here. absurd (cc here);
+    columns_hold = hold;
+    once = λ w.
+        let before = shaped.places.once w in
+        let now = places w in
+        let meant : times_meant w (option_map (λ x. x.viewer) d.kept) ≡ times_meant w (Some k.viewer)
+        = ap (λ (o : Option Kept). times_meant w (option_map (λ x. x.viewer) o)) is in
+        omega (arith, before, now, meant);
+    stay = λ w. let now = places w in omega (arith, now);
+  }
+
+module _ (H : Type 0) (old : List ℕ) (d : KeptDesktop) (over : IsOver old d) where
+  -- a refusal where none is kept
+  pub none_kept_answered : d.kept ≡ None
+      → IsAnswered H old old d d (settled (seen old d) (needs (seen old d).kept no_viewer
+      (λ k. Ok (brought_back (seen old d) k)))) (No no_viewer)
+  unfolding seen
+  none_kept_answered is = refusal_answered H old d _ no_viewer over known_no_viewer (rw is refl)
+
+  pub recalled_answered : (k : Kept) → d.kept ≡ Some k → IsColumns (recalled_columns d k)
+      → ((w : ℕ) → times_placed w (recalled_columns d k) + times_meant w (replaced_by_kept d k)
+      ≡ times_placed w d.columns + times_meant w (Some k.viewer))
+      → (now : KeptDesktop) → now ≡ dropped (brought_back d k)
+      → IsAnswered H old old d now (settled (seen old d) (needs (seen old d).kept no_viewer
+      (λ k. Ok (brought_back (seen old d) k)))) Done
+  unfolding seen
+  recalled_answered k is hold places now now_is =
+      row_as (seen old d) _
+      (subst (λ (both : KeptDesktop × Desktop). IsAnswered H old old d both.0 (settled (seen old d) (Ok both.1)) Done)
+      (λ i. ((ap dropped (brought_back_is d k) ∙ sym now_is) i, brought_back_is (seen old d) k i))
+      (restood_answered H old d over d.columns d.caret d.selections None (recalled_columns d k) (replaced_by_kept d k)
+      (λ all. recalled_anew (seen all d) k (over.whole.sound all).shaped is hold places)))
+      (rw is refl)
+
+-- it may be opened in the columns
+pub kept_fresh : (old : List ℕ) (d : KeptDesktop) (k : Kept) → IsOver old d → d.kept ≡ Some k
+    → ¬ IsPlaced k.viewer d.columns
+unfolding seen
+kept_fresh old d k over is = kept_nowhere (seen old d) k (over.whole.sound old).shaped is

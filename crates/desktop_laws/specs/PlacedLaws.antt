@@ -1,0 +1,244 @@
+-- Laws of outcomes where viewers are placed anew: the desktop that is kept, as it is seen, and that the limits hold.
+use Rattle.std.specs.Prelude.{◌≡◌, ◌≤◌, ℕ, ◌+◌, Bool, true, false, cond, IsTrue, All, List, [], ◌∷◌, filter}
+use Rattle.std.specs.Prelude.{Option, Some, None, Ok}
+use Rattle.std.specs.Map.{keys_of, values_of}
+use Rattle.std.proofs.Common.{refl, sym, ap, subst, ◌∙◌, arith}
+use Rattle.std.proofs.lemmas.Bool.{le-leb, eq-eqb}
+use Rattle.std.proofs.lemmas.List.Elements.{All-cons, All-tail}
+use Rattle.std.proofs.lemmas.Map.Made.{keys_of-map_values}
+use Rattle.piece_ring.specs.declared.piece.Piece.{Piece}
+use Rattle.piece_ring.specs.Flat.{flat}
+use Rattle.piece_ring.specs.Offsets.{AreWithin}
+use Rattle.viewer_tracks.specs.Columns.{Columns, IsColumns, IsPlaced, times_placed, times_meant}
+use Rattle.viewer_tracks.specs.Columns.{after_change as columns_changed, after_close, after_open, replaced_at}
+use Rattle.desktop_definitions.specs.declared.reply.Reply.TheVariants.{Done}
+use Rattle.desktop_definitions.specs.Limits.{most_written, most_held}
+use Rattle.desktop_definitions.specs.Tables.{Texts, with_values}
+use Rattle.desktop_definitions.specs.Desktop.{DesktopOf, Desktop, KeptDesktop, held}
+use Rattle.desktop_definitions.specs.Viewers.{without_viewer, opened_at}
+use Rattle.desktop_definitions.specs.Opening.{is_shown, dropped}
+use Rattle.desktop_definitions.specs.Gesture.{resized, carried}
+use Rattle.desktop_definitions.specs.Seen.{seen, seen_text}
+use Rattle.desktop_definitions.specs.Step.{fits, settled}
+use Rattle.desktop_definitions.specs.Sound.{AllWithin, IsWithin, IsSound, IsOver}
+use Rattle.desktop_definitions.specs.Outcome.{IsAnswered}
+use Rattle.desktop_laws.specs.OutcomeLaws.{acted}
+use Rattle.desktop_laws.specs.PlaceLaws.{IsPlacedAnew, placed_anew, anew_shaped, none_comes, dropped_shaped}
+use Rattle.desktop_laws.specs.PlaceLaws.{dropped_shown, dropped_held, all_shown}
+
+-- ---- what is done to the desktop that is kept is done to what is seen
+
+pub filter_seen : {T U : Type 0} (f : T → U) (test : ℕ → Bool) (es : Texts T)
+    → with_values f (filter (λ e. test e.0) es) ≡ filter (λ e. test e.0) (with_values f es)
+filter_seen f test [] = refl
+filter_seen {T} {U} f test (e ∷ es) = elim (test e.0) as
+    (λ b. with_values f (let l : Texts T = cond b (e ∷ filter (λ e. test e.0) es) (filter (λ e. test e.0) es) in l)
+    ≡ (let l : Texts U = cond b ((e.0, f e.1) ∷ filter (λ e. test e.0) (with_values f es))
+    (filter (λ e. test e.0) (with_values f es)) in l)) [
+      | true ↦ ap (λ (l : Texts U). (e.0, f e.1) ∷ l) (filter_seen f test es)
+      | false ↦ filter_seen f test es
+    ]
+
+pub seen_dropped : (characters : List ℕ) (d : KeptDesktop) → seen characters (dropped d) ≡ dropped (seen characters d)
+unfolding seen dropped
+seen_dropped characters d = λ k. record (seen characters d) {
+  texts = filter_seen (seen_text characters) (is_shown d) d.texts k;
+}
+
+pub seen_anew : (characters : List ℕ) (d : KeptDesktop) (columns : Columns) (taken : Option ℕ)
+    → seen characters (placed_anew d columns taken) ≡ placed_anew (seen characters d) columns taken
+unfolding seen
+seen_anew characters d columns None = refl
+seen_anew characters d columns (Some g) = refl
+
+-- ---- characters within
+
+within_filter : (n : ℕ) (test : ℕ → Bool) (texts : Texts (List Piece)) → AllWithin n texts
+    → AllWithin n (filter (λ e. test e.0) texts)
+within_filter n test [] all = all
+within_filter n test (e ∷ es) all =
+    let rest = within_filter n test es (All-tail (λ pieces. AreWithin n (flat pieces)) e.1 (values_of es) all) in
+    elim (test e.0) as
+    (λ b. AllWithin n
+    (let l : Texts (List Piece) = cond b (e ∷ filter (λ e. test e.0) es) (filter (λ e. test e.0) es) in l)) [
+      | true ↦ All-cons (λ pieces. AreWithin n (flat pieces)) e.1 (values_of (filter (λ e. test e.0) es))
+          (all 0 e.1 (omega arith)) rest
+      | false ↦ rest
+    ]
+
+pub dropped_within : (n : ℕ) (d : KeptDesktop) → IsWithin n d → IsWithin n (dropped d)
+unfolding dropped
+dropped_within n d within = record {
+  texts = within_filter n (is_shown d) d.texts within.texts;
+  files = within.files;
+  copied = within.copied;
+  deleted = within.deleted;
+}
+
+pub anew_within : (n : ℕ) (d : KeptDesktop) (columns : Columns) (taken : Option ℕ) → IsWithin n d
+    → IsWithin n (placed_anew d columns taken)
+anew_within n d columns None within = record {
+  texts = within.texts;
+  files = within.files;
+  copied = within.copied;
+  deleted = within.deleted;
+}
+anew_within n d columns (Some g) within = record {
+  texts = within.texts;
+  files = within.files;
+  copied = within.copied;
+  deleted = within.deleted;
+}
+
+-- ---- nothing is written or made
+
+pub anew_written : {T : Type 0} (d : DesktopOf T) (columns : Columns) (taken : Option ℕ)
+    → (placed_anew d columns taken).written ≡ d.written
+anew_written d columns None = refl
+anew_written d columns (Some g) = refl
+
+pub anew_held : (d : Desktop) (columns : Columns) (taken : Option ℕ) → held (placed_anew d columns taken) ≡ held d
+unfolding held
+anew_held d columns None = refl
+anew_held d columns (Some g) = refl
+
+pub dropped_written : {T : Type 0} (d : DesktopOf T) → (dropped d).written ≡ d.written
+unfolding dropped
+dropped_written d = refl
+
+-- ---- the limits
+
+pub fits_within : (d : Desktop) → d.written ≤ most_written → held d ≤ most_held → fits d ≡ true
+fits_within d written all = rw (le-leb d.written most_written written, le-leb (held d) most_held all) refl
+
+pub done : (d new : Desktop) → fits (dropped new) ≡ true → (dropped new, Done) ≡ settled d (Ok new)
+unfolding settled
+done d new fit = rw fit refl
+
+-- ---- the outcome
+
+module _ (H : Type 0) (old : List ℕ) (d : KeptDesktop) (columns : Columns) (taken : Option ℕ) (over : IsOver old d)
+    (anew : (characters : List ℕ) → IsPlacedAnew (seen characters d) columns taken) where
+  abbrev after : KeptDesktop
+  after = dropped (placed_anew d columns taken)
+
+  seen_after : (characters : List ℕ) → seen characters after ≡ dropped (placed_anew (seen characters d) columns taken)
+  seen_after characters = seen_dropped characters (placed_anew d columns taken)
+      ∙ ap dropped (seen_anew characters d columns taken)
+
+  written_after : after.written ≡ d.written
+  written_after = dropped_written (placed_anew d columns taken) ∙ anew_written d columns taken
+
+  module _ (characters : List ℕ) where
+    abbrev now : Desktop
+    now = dropped (placed_anew (seen characters d) columns taken)
+
+    written_now : now.written ≤ most_written
+    unfolding seen
+    written_now =
+        let same : now.written ≡ d.written
+        = dropped_written (placed_anew (seen characters d) columns taken)
+        ∙ anew_written (seen characters d) columns taken in
+        let low = (over.whole.sound characters).written_within in
+        omega (arith, same, low)
+
+    held_now : held now ≤ most_held
+    held_now =
+        let fewer = dropped_held (placed_anew (seen characters d) columns taken) in
+        let same = anew_held (seen characters d) columns taken in
+        let low = (over.whole.sound characters).held_within in
+        omega (arith, fewer, same, low)
+
+    sound_now : IsSound now
+    sound_now = record {
+      shaped = dropped_shaped _ (anew_shaped (seen characters d) columns taken (anew characters));
+      shown = dropped_shown (placed_anew (seen characters d) columns taken);
+      written_within = written_now;
+      held_within = held_now;
+    }
+
+  anew_over : IsOver old after
+  anew_over = record {
+    counted = over.counted ∙ sym written_after;
+    whole = record {
+      within = subst (λ n. IsWithin n after) (sym written_after)
+          (dropped_within d.written (placed_anew d columns taken)
+          (anew_within d.written d columns taken over.whole.within));
+      sound = λ characters. subst IsSound (sym (seen_after characters)) (sound_now characters);
+    };
+  }
+
+  pub anew_answered : IsAnswered H old old d after (settled (seen old d) (Ok (placed_anew
+      (seen old d) columns taken))) Done
+  anew_answered = acted H old old d after _ anew_over
+      (λ h. (λ k. (seen_after old k, Done))
+      ∙ done (seen old d) (placed_anew (seen old d) columns taken)
+      (fits_within (now old) (written_now old) (held_now old)))
+
+-- ---- where nobody comes
+
+pub at_columns : {T : Type 0} (d : DesktopOf T) (columns : Columns) (taken : Option ℕ)
+    → without_viewer (record d { columns = columns }) taken ≡ placed_anew d columns taken
+at_columns d columns None = refl
+at_columns d columns (Some g) = refl
+
+module _ {T : Type 0} (d : DesktopOf T) (v : ℕ) where
+  resized_is : (y : ℕ) → resized d v y ≡ placed_anew d (columns_changed d.columns v (y + 1)) None
+  unfolding resized
+  resized_is y = refl
+
+  at_closed : (closed columns : Columns) (taken : Option ℕ)
+      → placed_anew (record d { columns = closed }) columns taken ≡ placed_anew d columns taken
+  at_closed closed columns None = refl
+  at_closed closed columns (Some g) = refl
+
+  carried_is : (x y : ℕ) → carried d v x y ≡ placed_anew d (after_open (after_close d.columns v) v x (y + 1))
+      (replaced_at (after_close d.columns v) x (y + 1))
+  unfolding carried opened_at
+  carried_is x y = at_closed (after_close d.columns v) _ _
+
+-- what the laws of the tracks say of one edit
+pub record PlacesKept (old new : Columns) (taken : Option ℕ) : Type 0 where
+  pub hold : IsColumns new
+  pub places : (w : ℕ) → times_placed w new + times_meant w taken ≡ times_placed w old
+
+pub closed_fresh : (old closed : Columns) (v : ℕ) → IsColumns old
+    → times_placed v closed + times_meant v (Some v) ≡ times_placed v old → ¬ IsPlaced v closed
+closed_fresh old closed v hold sum placed =
+    let one = hold.once v in
+    let meant : times_meant v (Some v) ≡ 1 = rw (eq-eqb v v refl) refl in
+    absurd (omega (arith, sum, placed, one, meant))
+
+pub over_columns : (characters : List ℕ) (d : KeptDesktop) → IsOver characters d → IsColumns d.columns
+unfolding seen
+over_columns characters d over = (over.whole.sound characters).shaped.places.columns_hold
+
+module _ (H : Type 0) (old : List ℕ) (d : KeptDesktop) (over : IsOver old d) where
+  nobody : (columns : Columns) (taken : Option ℕ) → PlacesKept d.columns columns taken → (characters : List ℕ)
+      → IsPlacedAnew (seen characters d) columns taken
+  unfolding seen
+  nobody columns taken places characters =
+      none_comes (seen characters d) columns taken (over.whole.sound characters).shaped places.hold places.places
+
+  abbrev answered : KeptDesktop × Desktop → Type 0
+  answered both = IsAnswered H old old d both.0 (settled (seen old d) (Ok both.1)) Done
+
+  shown : All (λ n. IsTrue (is_shown d n)) (keys_of d.texts)
+  unfolding seen
+  shown = subst (λ (ks : List ℕ). All (λ n. IsTrue (is_shown d n)) ks) (keys_of-map_values (seen_text []) d.texts)
+      (over.whole.sound []).shown
+
+  pub resized_answered : (v y : ℕ) → PlacesKept d.columns (columns_changed d.columns v (y + 1)) None
+      → answered (resized d v y, resized (seen old d) v y)
+  unfolding resized seen
+  resized_answered v y places = subst answered
+      (λ k. (all_shown (record d { columns = columns_changed d.columns v (y + 1) }) shown k, resized (seen old d) v y))
+      (anew_answered H old d (columns_changed d.columns v (y + 1)) None over (nobody _ None places))
+
+  pub carried_answered : (v x y : ℕ) → PlacesKept d.columns (after_open (after_close d.columns v) v x (y + 1))
+      (replaced_at (after_close d.columns v) x (y + 1))
+      → answered (dropped (carried d v x y), carried (seen old d) v x y)
+  unfolding seen
+  carried_answered v x y places = subst answered
+      (λ k. (dropped (sym (carried_is d v x y) k), sym (carried_is (seen old d) v x y) k))
+      (anew_answered H old d _ _ over (nobody _ _ places))

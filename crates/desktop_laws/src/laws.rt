@@ -1,0 +1,24 @@
+//! What holds of all desktops and events.
+ghost use Rattle.std.specs.Prelude.{◌≡◌, ℕ, List, [], ◌∷◌, ◌++◌};
+ghost use Rattle.event_bytes.specs.declared.event.Event.{Event};
+ghost use Rattle.desktop_definitions.specs.Desktop.{Desktop, KeptDesktop, empty_desktop};
+ghost use Rattle.desktop_definitions.specs.Seen.{seen};
+ghost use Rattle.desktop_definitions.specs.Step.{step, steps};
+ghost use Rattle.desktop_definitions.specs.Sound.{IsSound, IsOver};
+
+/// The empty desktop is sound.
+pub fn empty_is_sound()
+    ensures { IsSound empty_desktop }
+{}
+
+/// The desktop after events and one event more is the desktop after that event, from where the others led.
+pub fn steps_of_more()
+    ensures { (d : Desktop) (events : List Event) (event : Event)
+        → steps d (events ++ event ∷ []) ≡ (step (steps d events) event).0 }
+{}
+
+/// A desktop over its characters is seen as before once there are more of them.
+pub fn more_change_nothing()
+    ensures { (characters more : List ℕ) (d : KeptDesktop) → IsOver characters d
+        → seen (characters ++ more) d ≡ seen characters d }
+{}

@@ -1,5 +1,0 @@
-use Rattle.event_loop.proofs.StretchLemmas.{caret_stands}
-use Rattle.event_loop.proofs.desk.Desk.caret_place.Goals as goal
-
-pub returns-clause-stands : goal.returns-clause-stands
-returns-clause-stands c = caret_stands c.requires

@@ -1,9 +1,0 @@
-use Rattle.desk_image.proofs.Putting.{then_put}
-use Rattle.event_loop.proofs.desk.Desk.put_display.Goals as goal
-
-pub returns-clause-puts : goal.returns-clause-puts
-returns-clause-puts g c =
-    let k = g.K.ByteSink in
-    let through = g.met.K.ByteSink.ground_through in
-    then_put k through c.in_ok-put_pictures.ensures.puts (then_put k through c.in_ok-put_track.ensures
-    (then_put k through c.in_ok-put_track-2.ensures c.put_kept.ensures))

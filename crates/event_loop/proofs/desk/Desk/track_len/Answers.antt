@@ -1,7 +1,0 @@
-use Rattle.std.proofs.Common.{sym}
-use Rattle.viewer_tracks.specs.Columns.{shown}
-use Rattle.event_loop.proofs.desk.Desk.track_len.Goals as goal
-
-pub returns-clause-value : goal.returns-clause-value
-returns-clause-value c =
-    c.entries_len.ensures.value (shown c.args.self.now.tracks c.args.track) (sym c.count.ensures.count)

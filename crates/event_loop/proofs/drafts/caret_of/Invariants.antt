@@ -1,7 +1,0 @@
-use Rattle.std.proofs.Common.{◌≡◌, drop}
-use Rattle.event_loop.specs.Images.{first_some, caret_at}
-use Rattle.event_loop.proofs.drafts.caret_of.Given as goal
-
--- no viewer so far has it
-abbrev pub invariant-loop-picture : goal.invariant-loop-picture
-invariant-loop-picture l = first_some caret_at (drop l.picture-index l.pictures) ≡ first_some caret_at l.pictures

@@ -1,0 +1,50 @@
+use Rattle.std.proofs.Common.{◌+◌, ◌∙◌, ℕ, List, length, sym, ap, subst, rules}
+use Rattle.event_bytes.specs.declared.event.Event.TheVariants.{File}
+use Rattle.desktop_definitions.specs.declared.reply.Reply.TheVariants.{Done}
+use Rattle.piece_ring.specs.Look.{default_look}
+use Rattle.desktop_definitions.specs.Limits.{full, too_many_files}
+use Rattle.desktop_definitions.specs.Seen.{seen}
+use Rattle.desktop_definitions.specs.Step.{step, step_in}
+use Rattle.desktop_definitions.specs.Change.{plain}
+use Rattle.desktop_laws.specs.StepLaws.{file_no_room, file_full}
+use Rattle.desktop_definitions.specs.Outcome.{IsAnswered}
+use Rattle.desktop_laws.specs.OutcomeLaws.{refused, length_in_look, file_answered}
+use Rattle.desk_core.specs.Kept.{kept}
+use Rattle.event_loop.proofs.events.put_file.Goals as goal
+
+pub returns-then-not-has_room-clause-answered : goal.returns-then-not-has_room-clause-answered
+unfolding seen step step_in
+returns-then-not-has_room-clause-answered g c =
+    let old = g.S.CharSource.characters c.args.source.now in
+    let d = kept c.args.desk.now in
+    refused _ old d _ too_many_files c.requires (search rules)
+    (λ h. file_no_room (seen old d) c.args.name.now c.args.bytes.now (c.requires.whole.sound old).shown
+    (sym (c.has_room.ensures old) ∙ c.if-not-has_room.true))
+
+pub returns-then-not-file_fits-clause-answered : goal.returns-then-not-file_fits-clause-answered
+unfolding seen step step_in
+returns-then-not-file_fits-clause-answered g c =
+    let old = g.S.CharSource.characters c.args.source.now in
+    let d = kept c.args.desk.now in
+    let bytes = c.args.bytes.now in
+    refused _ old d _ full c.requires (search rules)
+    (λ h. file_full (seen old d) c.args.name.now bytes (c.requires.whole.sound old).shown
+    (sym (c.has_room.ensures old) ∙ c.if-not-has_room.false)
+    (sym (c.file_fits.ensures.fits old (plain bytes)
+    (length_in_look default_look bytes ∙ ap length (sym c.as_bytes-bytes.ensures.value))) ∙ c.if-not-file_fits.true))
+
+pub returns-clause-answered : goal.returns-clause-answered
+unfolding seen step step_in
+returns-clause-answered g c =
+    let old = g.S.CharSource.characters c.args.source.now in
+    let new = g.S.CharSource.characters c.append.new.self in
+    let d = kept c.args.desk.now in
+    let bytes = c.as_bytes-bytes.result.now in
+    let name = c.args.name.now in
+    subst (λ (b : List ℕ). IsAnswered (g.S.CharSource.honest c.args.source.now) old new d
+    (record d { files = c.put.new.files.entries; written = c.args.desk.now.written + length bytes })
+    (step (seen old d) (File name b)) Done) c.as_bytes-bytes.ensures.value
+    (file_answered _ old bytes new d name c.in_ok-text.text c.put.new.files.entries c.requires c.in_ok-put.ensures.valid
+    c.in_ok-append.ensures.added c.in_ok-text.ensures c.in_ok-put.ensures.put
+    (λ characters text long. sym (c.file_fits.ensures.fits characters text long) ∙ c.if-not-file_fits.false)
+    (λ characters. sym (c.has_room.ensures characters) ∙ c.if-not-has_room.false))

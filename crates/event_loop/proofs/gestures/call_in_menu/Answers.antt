@@ -1,0 +1,23 @@
+use Rattle.std.proofs.Common.{ℕ, true}
+use Rattle.desktop_definitions.specs.Limits.{first_version}
+use Rattle.desktop_definitions.specs.Desktop.{Desktop}
+use Rattle.desktop_definitions.specs.Gesture.{menu_position}
+use Rattle.desktop_definitions.specs.Commands.{called}
+use Rattle.desk_core.specs.Kept.{kept}
+use Rattle.desk_commands.proofs.ReadFirst.{over_after, settles_after, uses_after}
+use Rattle.event_loop.proofs.gestures.call_in_menu.Goals as goal
+
+pub call-requires-clause-over : goal.call-requires-clause-over
+call-requires-clause-over g c =
+    over_after g.S.CharSource _ _ (kept c.args.desk.now) c.in_ok-pos.ensures.reads c.requires.over
+
+pub returns-clause-answered : goal.returns-clause-answered
+returns-clause-answered g c =
+    settles_after g.S.CharSource (λ (x : Desktop) (p : ℕ). called first_version x c.args.id true p)
+    (λ x. menu_position x c.args.id c.args.x) c.in_ok-pos.pos _ _ c.call.new.source (kept c.args.desk.now)
+    (kept c.call.new.desk) c.call.result c.in_ok-pos.ensures.reads c.in_ok-pos.ensures.exact c.call.ensures.answered
+
+pub returns-clause-uses : goal.returns-clause-uses
+returns-clause-uses g c =
+    uses_after g.S.CharSource g.met.S.CharSource.ground_through _ _ _ c.call.result c.in_ok-pos.ensures.reads
+    c.in_ok-pos.ensures.cause c.call.ensures.uses

@@ -1,0 +1,69 @@
+use Rattle.std.proofs.Common.{◌∙◌, refl, sym}
+use Rattle.desktop_definitions.specs.Seen.{seen}
+use Rattle.desk_core.specs.Kept.{kept}
+use Rattle.event_loop.proofs.GestureLemmas.{pointed_filler, pointed_menu, pointed_bar, pointed_there}
+use Rattle.desk_core.proofs.MarkLemmas.{both_inside, outside_answered}
+use Rattle.event_loop.proofs.gestures.point.Goals as goal
+
+pub returns-then-not-are_on_display-clause-answered : goal.returns-then-not-are_on_display-clause-answered
+returns-then-not-are_on_display-clause-answered g c =
+    let s = g.S.CharSource in
+    let old = s.characters c.args.source.now in
+    let d = kept c.args.desk.now in
+    outside_answered (s.honest c.args.source.now) old d c.requires.over
+    _ _ (sym c.are_on_display.ensures ∙ c.if-not-are_on_display.true)
+
+pub area_at-requires-clause-column : goal.area_at-requires-clause-column
+area_at-requires-clause-column g c =
+    (both_inside c.args.from.0 c.args.from.1 c.args.to.0 c.args.to.1
+    (sym c.are_on_display.ensures ∙ c.if-not-are_on_display.false)).0.0
+
+pub area_at-requires-clause-row : goal.area_at-requires-clause-row
+area_at-requires-clause-row g c =
+    (both_inside c.args.from.0 c.args.from.1 c.args.to.0 c.args.to.1
+    (sym c.are_on_display.ensures ∙ c.if-not-are_on_display.false)).0.1
+
+pub point_filler-requires-clause-column : goal.point_filler-requires-clause-column
+point_filler-requires-clause-column g c =
+    (both_inside c.args.from.0 c.args.from.1 c.args.to.0 c.args.to.1
+    (sym c.are_on_display.ensures ∙ c.if-not-are_on_display.false)).0.0
+
+pub point_filler-requires-clause-row : goal.point_filler-requires-clause-row
+point_filler-requires-clause-row g c =
+    (both_inside c.args.from.0 c.args.from.1 c.args.to.0 c.args.to.1
+    (sym c.are_on_display.ensures ∙ c.if-not-are_on_display.false)).0.1
+
+pub point_menu-requires-clause-column : goal.point_menu-requires-clause-column
+point_menu-requires-clause-column g c =
+    (both_inside c.args.from.0 c.args.from.1 c.args.to.0 c.args.to.1
+    (sym c.are_on_display.ensures ∙ c.if-not-are_on_display.false)).1.0
+
+pub point_menu-requires-clause-row : goal.point_menu-requires-clause-row
+point_menu-requires-clause-row g c =
+    (both_inside c.args.from.0 c.args.from.1 c.args.to.0 c.args.to.1
+    (sym c.are_on_display.ensures ∙ c.if-not-are_on_display.false)).1.1
+
+pub returns-in-Filler-clause-answered : goal.returns-in-Filler-clause-answered
+returns-in-Filler-clause-answered g c =
+    let inside = sym c.are_on_display.ensures ∙ c.if-not-are_on_display.false in
+    pointed_there _ _ _ _ _ _ _ _ _ _ c.point_filler.result inside c.in-Filler.ensures.area (pointed_filler _ _ _ _ _ _)
+    c.point_filler.ensures.answered
+
+pub returns-in-Menu-clause-answered : goal.returns-in-Menu-clause-answered
+returns-in-Menu-clause-answered g c =
+    let inside = sym c.are_on_display.ensures ∙ c.if-not-are_on_display.false in
+    pointed_there _ _ _ _ _ _ _ _ _ _ c.point_menu.result inside c.in-Menu.ensures.area (pointed_menu _ _ _ _ _ _ _)
+    c.point_menu.ensures.answered
+
+pub returns-in-Bar-clause-answered : goal.returns-in-Bar-clause-answered
+unfolding seen
+returns-in-Bar-clause-answered g c =
+    let inside = sym c.are_on_display.ensures ∙ c.if-not-are_on_display.false in
+    pointed_there _ _ _ _ _ _ _ _ _ _ c.point_bar.result inside c.in-Bar.ensures.area
+    (pointed_bar _ _ _ _ _ _ _ _ c.frame_row-row.ensures) c.point_bar.ensures.answered
+
+pub returns-in-Body-clause-answered : goal.returns-in-Body-clause-answered
+returns-in-Body-clause-answered g c =
+    let inside = sym c.are_on_display.ensures ∙ c.if-not-are_on_display.false in
+    pointed_there _ _ _ _ _ _ _ _ _ _ c.point_text.result inside c.in-Body.ensures.area refl
+    c.point_text.ensures.answered

@@ -1,0 +1,8 @@
+use Rattle.desk_core.proofs.ArmLemmas.{rest_done}
+use Rattle.event_loop.proofs.GestureLemmas.{filler_rest}
+use Rattle.event_loop.proofs.gestures.point_filler.Goals as goal
+
+pub returns-in_default-clause-answered : goal.returns-in_default-clause-answered
+returns-in_default-clause-answered g c =
+    let other = c.in_default in
+    rest_done c.requires.over (filler_rest _ _ _ _ other.not-Middle)

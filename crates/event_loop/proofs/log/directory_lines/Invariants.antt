@@ -1,8 +1,0 @@
-use Rattle.std.proofs.Common.{◌≡◌, ◌++◌, map}
-use Rattle.event_loop.specs.Lines.{bytes_of_lines}
-use Rattle.event_loop.proofs.LogLemmas.{kept_line}
-use Rattle.event_loop.proofs.log.directory_lines.Given as goal
-
--- the lines so far and those to come
-abbrev pub invariant-loop-name : goal.invariant-loop-name
-invariant-loop-name l = bytes_of_lines l.lines.items ++ map kept_line l.name-iterator ≡ map kept_line l.files.entries

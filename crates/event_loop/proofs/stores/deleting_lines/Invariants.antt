@@ -1,9 +1,0 @@
-use Rattle.std.proofs.Common.{◌≡◌, ◌++◌, map, drop}
-use Rattle.event_loop_laws.specs.Commands.{deleting_line}
-use Rattle.event_loop.specs.Lines.{bytes_of_lines}
-use Rattle.event_loop.proofs.stores.deleting_lines.Given as goal
-
--- the lines so far and those to come
-abbrev pub invariant-loop-name : goal.invariant-loop-name
-invariant-loop-name l =
-    bytes_of_lines l.lines.items ++ map deleting_line (drop l.name-index l.names) ≡ map deleting_line l.names

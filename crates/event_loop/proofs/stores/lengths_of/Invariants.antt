@@ -1,8 +1,0 @@
-use Rattle.std.proofs.Common.{◌≡◌, ◌+◌, sum_by, drop}
-use Rattle.event_loop_laws.specs.StoreLaws.{kept_size}
-use Rattle.event_loop.proofs.stores.lengths_of.Given as goal
-
--- what was counted and what is to come
-abbrev pub invariant-loop-name : goal.invariant-loop-name
-invariant-loop-name l =
-    l.sum + sum_by (kept_size l.files.entries) (drop l.name-index l.names) ≡ sum_by (kept_size l.files.entries) l.names

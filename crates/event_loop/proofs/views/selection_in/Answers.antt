@@ -1,7 +1,0 @@
-use Rattle.event_loop.proofs.ViewLemmas.{selected_here}
-use Rattle.event_loop.proofs.views.selection_in.Goals as goal
-
-pub returns-then-selection-id : goal.returns-then-selection-id
-returns-then-selection-id c =
-    selected_here c.args.selections.now c.args.id c.loop-rank.rank _ c.loop-rank-test.true c.loop-rank.invariant.place
-    c.loop-rank.invariant.found c.if-selection-id.true

@@ -1,0 +1,95 @@
+//! What each kind of event does.
+ghost use Rattle.std.specs.Prelude.{◌<◌, IfOk};
+ghost use Rattle.event_bytes.specs.declared.event.Event.TheVariants.{File};
+ghost use Rattle.desktop_definitions.specs.Limits.{first_version};
+ghost use Rattle.desktop_definitions.specs.Step.{raw};
+ghost use Rattle.desktop_definitions.specs.Sound.{IsOver};
+ghost use Rattle.desk_core.specs.Kept.{kept};
+ghost use Rattle.desk_core.specs.Row.{Settles, Uses};
+ghost use Rattle.std.specs.Prelude.{◌+◌};
+ghost use Rattle.std.specs.Prelude.{◌≡◌, ◌≤◌, ◌^◌, ℕ, List, length, IsTrue};
+ghost use Rattle.piece_ring.specs.Text.{Text as AText};
+ghost use Rattle.desktop_definitions.specs.Limits.{most_written};
+ghost use Rattle.desktop_definitions.specs.Desktop.{held};
+ghost use Rattle.desktop_definitions.specs.Seen.{seen};
+ghost use Rattle.desktop_definitions.specs.Step.{fits, filed};
+ghost use Rattle.desktop_definitions.specs.Sound.{IsKeptWhole};
+
+use crate::gestures::point;
+use char_file::CharSource;
+use desk_core::desk::Desk;
+use desk_core::files::{has_room, length_of, put};
+use desk_core::held::within_limits;
+use desk_core::stop::Stop;
+use desk_input::keys::{press, type_bytes};
+use desktop_definitions::{Reply, codes};
+use event_bytes::{Event, FileBytes, Name};
+use piece_ring::DEFAULT_LOOK;
+use std::alloc::Global;
+use text_core::Text;
+
+/// Does the event.
+pub fn act<S: CharSource>(
+    desk: &mut Desk,
+    alloc: Global,
+    event: &Event,
+    source: &mut S,
+) -> Result<Reply, Stop>
+    requires { IsOver (S.characters source.old) (kept desk.old) }
+    ensures answered { IfOk result (Settles S.CharSource (λ d. raw first_version d event.now)
+        source.old source.new (kept desk.old) (kept desk.new)) }
+    ensures uses { Uses S.CharSource result source.old source.new }
+{
+    match event {
+        Event::Typed(bytes) => type_bytes(desk, alloc, bytes, source),
+        Event::Key(key) => press(desk, alloc, *key, source),
+        Event::Mark { x, y } => desk.mark(*x, *y, source),
+        Event::Point {
+            keys,
+            x0,
+            y0,
+            x1,
+            y1,
+        } => point(desk, alloc, *keys, (*x0, *y0), (*x1, *y1), source),
+        Event::File { name, bytes } => put_file(desk, alloc, name, bytes, source),
+    }
+}
+
+/// The file of that name becomes these bytes.
+fn put_file<S: CharSource>(
+    desk: &mut Desk,
+    alloc: Global,
+    name: &Name,
+    bytes: &FileBytes,
+    source: &mut S,
+) -> Result<Reply, Stop>
+    requires { IsOver (S.characters source.old) (kept desk.old) }
+    ensures answered { IfOk result (Settles S.CharSource (λ d. raw first_version d (File name.now bytes.now))
+        source.old source.new (kept desk.old) (kept desk.new)) }
+    ensures uses { Uses S.CharSource result source.old source.new }
+{
+    let bytes = bytes.as_bytes();
+    if !has_room(&desk.files, name) {
+        return Ok(Reply::No(codes::TOO_MANY_FILES));
+    }
+    if !file_fits(desk, name, bytes.len()) {
+        return Ok(Reply::No(codes::FULL));
+    }
+    let text = Text::of_run(alloc, desk.written, bytes.len() as u32, DEFAULT_LOOK)?;
+    source.append(bytes)?;
+    put(&mut desk.files, name, text)?;
+    desk.written += bytes.len() as u32;
+    Ok(Reply::Done)
+}
+
+/// Whether the limits on characters hold once the file of that name becomes a text of so many new characters.
+fn file_fits(desk: &Desk, name: &Name, len: usize) -> bool
+    requires whole { IsKeptWhole (kept desk.now) }
+    requires short { len < 2 ^ 32 }
+    ensures room { IsTrue result → desk.now.written + len ≤ most_written }
+    ensures fits { (characters : List ℕ) (text : AText ℕ) → length text ≡ len
+        → result ≡ fits (filed (seen characters (kept desk.now)) name.now text) }
+{
+    let gone = length_of(&desk.files, name);
+    within_limits(desk.written as usize + len, desk.held() + len - gone)
+}

@@ -1,7 +1,0 @@
-use Rattle.std.proofs.Common.{◌≡◌, ◌++◌, take}
-use Rattle.oberon_main.specs.Answer.{shown}
-use Rattle.oberon_main.specs.Stretch.{bytes_in}
-use Rattle.oberon_main.proofs.answer.push_shown.Given as goal
-
-abbrev pub invariant-loop-character : goal.invariant-loop-character
-invariant-loop-character l = l.text.items ≡ l.fn.text.items ++ shown (bytes_in (take l.character-index l.characters))

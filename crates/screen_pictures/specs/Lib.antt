@@ -1,0 +1,5 @@
+pub mod Bytes
+pub mod Mark
+pub mod Picture
+pub mod Screen
+pub mod Printed

@@ -1,0 +1,74 @@
+-- The lines of an answer.
+use Rattle.std.specs.Prelude.{ℕ, ◌+◌, ◌/◌, ◌%◌, Bool, ◌==◌, ◌&&◌, not, nat_lt, if◌then◌else◌, List, [], ◌∷◌, ◌++◌}
+use Rattle.std.specs.Prelude.{Option, Some, None, codes}
+use Rattle.std.specs.List.{flat_map}
+use Rattle.std.specs.Fmt.{decimal, signed_decimal}
+use Rattle.std.specs.Ordering.{int_eq}
+use Rattle.piece_ring.specs.declared.piece.Look.{Look}
+use Rattle.piece_ring.specs.Text.{Text}
+use Rattle.desktop_definitions.specs.declared.reply.Reply.{Reply}
+use Rattle.desktop_definitions.specs.declared.reply.Reply.TheVariants.{Done, No}
+use Rattle.desktop_definitions.specs.declared.entry.Entry.{Entry}
+use Rattle.desktop_definitions.specs.declared.entry.Entry.TheVariants.{File, Viewer, Written}
+use Rattle.script_lines.specs.Script.{ended}
+use Rattle.script_lines.specs.Request.{is_printable}
+
+abbrev pub refusal_line : ℕ → List ℕ
+refusal_line code = ended (codes "no " ++ decimal code)
+
+abbrev pub reply_line : Reply → List ℕ
+reply_line Done = ended (codes "ok")
+reply_line (No code) = refusal_line code
+
+abbrev pub end_line : List ℕ
+end_line = ended (codes "end")
+
+-- a hexadecimal digit, in lower case
+abbrev pub digit : ℕ → ℕ
+digit n = if nat_lt n 10 then 48 + n else 87 + n
+
+-- a byte from the space to the tilde but the percent sign as itself, any other as a percent sign and two digits
+abbrev pub shown_byte : ℕ → List ℕ
+shown_byte b = if is_printable b && not (b == 37) then b ∷ [] else 37 ∷ digit (b / 16) ∷ digit (b % 16) ∷ []
+
+abbrev pub shown : List ℕ → List ℕ
+shown bytes = flat_map shown_byte bytes
+
+-- the two looks are one
+abbrev pub is_same_look : Look → Look → Bool
+is_same_look a b = (a.font == b.font) && ((a.colour == b.colour) && int_eq a.voff b.voff)
+
+-- a character before stretches of one look each: it joins the first of them, where that has its look
+abbrev pub joined : ℕ × Look → List (Look × List ℕ) → List (Look × List ℕ)
+joined c [] = (c.1, c.0 ∷ []) ∷ []
+joined c (s ∷ ss) = if is_same_look c.1 s.0 then (s.0, c.0 ∷ s.1) ∷ ss else (c.1, c.0 ∷ []) ∷ s ∷ ss
+
+-- a text as its longest stretches of one look, each a look and its bytes
+abbrev pub stretches : Text ℕ → List (Look × List ℕ)
+stretches [] = []
+stretches (c ∷ text) = joined c (stretches text)
+
+-- font, colour and offset, each with a space after it, and the bytes
+abbrev pub look_words : Look → List ℕ
+look_words look = decimal look.font ++ 32 ∷ decimal look.colour ++ 32 ∷ signed_decimal look.voff ++ 32 ∷ []
+
+abbrev pub stretch_line : Look × List ℕ → List ℕ
+stretch_line s = ended (look_words s.0 ++ shown s.1)
+
+-- A text: a line for each stretch. An empty text has no such line.
+abbrev pub text_lines : Text ℕ → List ℕ
+text_lines text = flat_map stretch_line (stretches text) ++ end_line
+
+-- a file's text, or that there is no such file
+abbrev pub show_lines : Option (Text ℕ) → List ℕ
+show_lines None = refusal_line 5
+show_lines (Some text) = text_lines text
+
+abbrev pub entry_line : Entry → List ℕ
+entry_line (File name len) = ended (codes "file " ++ name ++ 32 ∷ decimal len)
+entry_line (Viewer x bottom top name len) = ended (codes "viewer " ++ decimal x ++ 32 ∷ decimal bottom
+    ++ 32 ∷ decimal top ++ 32 ∷ shown name ++ 32 ∷ decimal len)
+entry_line (Written n) = ended (codes "written " ++ decimal n)
+
+abbrev pub list_lines : List Entry → List ℕ
+list_lines entries = flat_map entry_line entries ++ end_line

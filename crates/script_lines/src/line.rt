@@ -1,0 +1,199 @@
+//! Taking the lines of a script from a reader, in whatever pieces it gives them.
+ghost use Rattle.std.specs.Prelude.{◌≡◌, ◌==◌, ℕ, List, [], ◌∷◌, ◌+◌, ◌<◌, ◌≤◌, ◌++◌, ◌↔◌, length, position, IsTrue};
+ghost use Rattle.std.specs.Prelude.{true, false, Some, IfSome, MatchOption};
+ghost use Rattle.std.specs.Io.KnownBytes.{Consumes, IsAtEnd};
+ghost use Rattle.script_lines.specs.Script.{ended, IsLine};
+ghost use Rattle.script_lines.specs.Request.{request_of};
+
+use crate::request::{Request, parse};
+use arrayvec::ArrayVec;
+use std::io::Read;
+use std::marker::Model;
+
+/// A line of a script, as far as it is kept: of a line of more than 4,096 bytes it is only known that it is so long.
+#[derive(Drop)]
+pub struct Line {
+    bytes: ArrayVec<u8, 4096>,
+    is_long: bool,
+}
+
+impl Line {
+    ghost use Rattle.script_lines.specs.Reading.{Holds};
+
+    /// The empty line.
+    pub fn new() -> Line
+        ensures { Holds result [] }
+    {
+        Line {
+            bytes: ArrayVec::new(),
+            is_long: false,
+        }
+    }
+
+    /// What the line asks for.
+    pub fn request(&self) -> Request
+        ensures { (line : List ℕ) → Holds self.now line → result ≡ request_of line }
+    {
+        if self.is_long {
+            Request::Malformed
+        } else {
+            parse(self.bytes.as_slice())
+        }
+    }
+
+    /// Whether it is the empty line.
+    pub fn is_empty(&self) -> bool
+        ensures { (line : List ℕ) → Holds self.now line → IsTrue result ↔ (line ≡ []) }
+    {
+        !self.is_long && self.bytes.is_empty()
+    }
+
+    /// Makes it the empty line.
+    fn clear(&mut self)
+        ensures { Holds self.new [] }
+    {
+        self.bytes.clear();
+        self.is_long = false;
+    }
+
+    /// Adds bytes at its end.
+    fn extend(&mut self, bytes: &[u8])
+        ensures { (line : List ℕ) → Holds self.old line → Holds self.new (line ++ bytes.now) }
+    {
+        match self.bytes.try_extend_from_slice(bytes) {
+            Ok(()) => {}
+            Err(_) => self.is_long = true,
+        }
+    }
+}
+
+/// How a line came to its end.
+#[derive(Clone, Copy, Debug, PartialEq, Eq)]
+pub enum Ending {
+    /// By a line feed.
+    Feed,
+    /// By the end of the script.
+    End,
+    /// By a read that failed, or by one read call too many.
+    Fault,
+}
+
+/// A script on its way from a reader: a piece of it, of which a prefix is in lines already.
+///
+/// A clause sees what of the piece is in no line yet, and how many reads may follow.
+#[derive(Drop)]
+pub struct Script {
+    piece: [u8; 8192],
+    next: usize,
+    end: usize,
+    reads: u32,
+}
+
+impl Model for Script {
+    ghost use Rattle.std.specs.Prelude.{◌≤◌};
+    ghost use Rattle.std.specs.List.{between};
+    ghost use Rattle.script_lines.specs.Reading.{Unplayed};
+
+    ghost Value = { Unplayed };
+
+    ghost view = { λ s. record { pending = between s.next s.end s.piece; reads = s.reads } };
+
+    ghost invariant = { λ s. (s.next ≤ s.end) × (s.end ≤ 8192) };
+}
+
+impl Script {
+    ghost use Rattle.script_lines.specs.Reading.{Holds, TakesLine, TakesRest, most_lines};
+
+    /// A script of which nothing is read yet, and that may take so many reads before the one that says that it is at
+    /// its end.
+    pub fn new(reads: u32) -> Script
+        ensures pending { result.pending ≡ [] }
+        ensures reads { result.reads ≡ reads }
+    {
+        Script {
+            piece: [0; 8192],
+            next: 0,
+            end: 0,
+            reads,
+        }
+    }
+
+    /// Takes the next line from the reader. It ends at a line feed, at the end of the script, or where a read fails.
+    pub fn take_line<R: Read>(&mut self, line: &mut Line, reader: &mut R) -> Ending
+        ensures line { result ≡ Ending.Feed
+            → TakesLine self.old self.new (R.remaining reader.old) (R.remaining reader.new) line.new }
+        ensures fewer { result ≡ Ending.Feed → most_lines self.new < most_lines self.old }
+        ensures rest { (result ≡ Ending.Feed → ⊥)
+            → TakesRest self.old self.new (R.remaining reader.old) (R.remaining reader.new) line.new }
+        ensures end { result ≡ Ending.End → IsAtEnd (R.remaining reader.new) }
+    {
+        line.clear();
+        while !self.take_pending(line) {
+            match self.read_piece(reader) {
+                Some(0) => return Ending::End,
+                Some(_) => {}
+                None => return Ending::Fault,
+            }
+        }
+        Ending::Feed
+    }
+
+    /// Adds what is pending up to the next line feed to the line. Whether there was one: then it is taken too.
+    fn take_pending(&mut self, line: &mut Line) -> bool
+        ensures feed { IsTrue result → (front : List ℕ) × IsLine front
+            × (self.old.pending ≡ ended front ++ self.new.pending)
+            × ((before : List ℕ) → Holds line.old before → Holds line.new (before ++ front)) }
+        ensures none { result ≡ false → (self.new.pending ≡ []) × IsLine self.old.pending
+            × ((before : List ℕ) → Holds line.old before → Holds line.new (before ++ self.old.pending)) }
+        ensures reads { self.new.reads ≡ self.old.reads }
+    {
+        let pending = &self.piece[self.next..self.end];
+        match first_feed(pending) {
+            Some(feed) => {
+                line.extend(&pending[..feed]);
+                self.next += feed + 1;
+                true
+            }
+            None => {
+                line.extend(pending);
+                self.next = self.end;
+                false
+            }
+        }
+    }
+
+    /// Reads the next piece. Returns how many bytes it has, 0 at the end of the script; None where the read
+    /// failed or would be one too many.
+    fn read_piece<R: Read>(&mut self, reader: &mut R) -> Option<usize>
+        requires { self.old.pending ≡ [] }
+        ensures came { Consumes (R.remaining reader.old) (R.remaining reader.new) self.new.pending }
+        ensures count { MatchOption result (self.new.pending ≡ []) (λ n. (length self.new.pending ≡ n)) }
+        ensures most { length self.new.pending ≤ 8192 }
+        ensures end { result ≡ Some 0 → IsAtEnd (R.remaining reader.new) }
+        ensures reads { IfSome result (λ n. 0 < n → self.new.reads + 1 ≡ self.old.reads) }
+        ensures no_more { self.new.reads ≤ self.old.reads }
+    {
+        if self.reads == 0 {
+            return None;
+        }
+        self.next = 0;
+        self.end = 0;
+        match reader.read(&mut self.piece) {
+            Ok(0) => Some(0),
+            Ok(count) => {
+                self.end = count;
+                self.reads -= 1;
+                Some(count)
+            }
+            Err(_) => None,
+        }
+    }
+}
+
+/// Where the first line feed stands.
+fn first_feed(bytes: &[u8]) -> Option<usize>
+    ensures first { result ≡ position (λ b. b == 10) bytes.now }
+    ensures within { IfSome result (λ i. i < length bytes.now) }
+{
+    bytes.iter().position(|byte| *byte == b'\n')
+}

@@ -1,0 +1,176 @@
+//! What a line of a script asks for.
+//!
+//! `type BYTES`, `key WORD`, `mark X Y`, `point KEYS X0 Y0 X1 Y1`, `file NAME BYTES` and `file NAME`, with or without a
+//! space after it, ask for an event, and `checkpoint` for a checkpoint. `show NAME`, `list` and `screen` ask for a
+//! look. Words are parted by exactly one space. In BYTES a percent sign and two hexadecimal digits stand for a byte.
+//! What else a line says is malformed.
+ghost use Rattle.std.specs.Prelude.{◌≡◌};
+ghost use Rattle.std.specs.Option.{option_map};
+ghost use Rattle.std.specs.List.{list_all};
+ghost use Rattle.script_lines.specs.Request.{is_printable, is_readable, file_bytes_of, typed_bytes_of, typed_of};
+ghost use Rattle.script_lines.specs.Request.{key_of, mark_of, point_of, file_of, show_of, word_of, words_of};
+ghost use Rattle.script_lines.specs.Request.{command_of, request_of};
+
+use crate::percent::spelled;
+use crate::words::{key, leading_keys, leading_number, number, split_word};
+use event_bytes::{Event, FileBytes, Name, TypedBytes};
+
+/// What a line asks for.
+#[derive(Debug, PartialEq, Eq, Drop)]
+pub enum Request {
+    /// Something happens to the desktop.
+    Post(Event),
+    /// The desktop goes into the other slot.
+    Checkpoint,
+    /// The text of the file.
+    Show(Name),
+    /// All files and viewers, and how many characters were ever written.
+    Listing,
+    /// The screen.
+    Display,
+    /// No line of the language.
+    Malformed,
+}
+
+/// What the line asks for, whose line feed isn't part of it.
+#[tactic(auto, unfolding(crate::specs::Request::request_of))]
+pub fn parse(line: &[u8]) -> Request
+    ensures { result ≡ request_of line.now }
+{
+    if !is_text(line) {
+        return Request::Malformed;
+    }
+    let (name, rest) = split_word(line);
+    command(name, rest).unwrap_or(Request::Malformed)
+}
+
+/// The line isn't too long, and each of its bytes is one from the space to the tilde.
+fn is_text(line: &[u8]) -> bool
+    ensures { result ≡ is_readable line.now }
+{
+    line.len() <= 4096 && are_printable(line)
+}
+
+/// Whether each byte is one from the space to the tilde.
+fn are_printable(bytes: &[u8]) -> bool
+    ensures { result ≡ list_all is_printable bytes.now }
+{
+    bytes.iter().all(|byte| matches!(*byte, 32..=126))
+}
+
+/// What a line asks for, by its first word and what stands after one space.
+#[tactic(auto, unfolding(crate::specs::Request::command_of))]
+fn command(name: &[u8], rest: Option<&[u8]>) -> Option<Request>
+    ensures { result ≡ command_of name.now (option_map (λ rest. rest.now) rest.entry) }
+{
+    match rest {
+        None => one_word(name),
+        Some(rest) => many_words(name, rest),
+    }
+}
+
+/// What a line of one word asks for.
+#[tactic(auto, unfolding(crate::specs::Request::word_of))]
+fn one_word(name: &[u8]) -> Option<Request>
+    ensures { result ≡ word_of name.now }
+{
+    match name {
+        _ if name == b"list".as_slice() => Some(Request::Listing),
+        _ if name == b"screen".as_slice() => Some(Request::Display),
+        _ if name == b"checkpoint".as_slice() => Some(Request::Checkpoint),
+        _ => None,
+    }
+}
+
+/// What a line asks for that has this first word, and this after one space.
+#[tactic(auto, unfolding(crate::specs::Request::words_of))]
+fn many_words(name: &[u8], rest: &[u8]) -> Option<Request>
+    ensures { result ≡ words_of name.now rest.now }
+{
+    match name {
+        _ if name == b"type".as_slice() => typed(rest),
+        _ if name == b"key".as_slice() => pressed(rest),
+        _ if name == b"mark".as_slice() => mark(rest),
+        _ if name == b"point".as_slice() => point(rest),
+        _ if name == b"file".as_slice() => {
+            let (name, text) = split_word(rest);
+            file(name, text.unwrap_or(&[]))
+        }
+        _ if name == b"show".as_slice() => show(rest),
+        _ => None,
+    }
+}
+
+/// The request that `type` makes of its text.
+fn typed(text: &[u8]) -> Option<Request>
+    ensures { result ≡ typed_of text.now }
+{
+    let bytes = typed_bytes(text)?;
+    Some(Request::Post(Event::Typed(bytes)))
+}
+
+/// The request that `key` makes of its word.
+fn pressed(name: &[u8]) -> Option<Request>
+    ensures { result ≡ key_of name.now }
+{
+    Some(Request::Post(Event::Key(key(name)?)))
+}
+
+/// The request that `mark` makes of its column and row.
+fn mark(text: &[u8]) -> Option<Request>
+    ensures { result ≡ mark_of text.now }
+{
+    let (x, rest) = leading_number(text)?;
+    let y = number(rest)?;
+    Some(Request::Post(Event::Mark { x, y }))
+}
+
+/// The request that `point` makes of keys, the cell where they go down and the one where they go up.
+fn point(text: &[u8]) -> Option<Request>
+    ensures { result ≡ point_of text.now }
+{
+    let (keys, rest) = leading_keys(text)?;
+    let (x0, rest) = leading_number(rest)?;
+    let (y0, rest) = leading_number(rest)?;
+    let (x1, rest) = leading_number(rest)?;
+    let y1 = number(rest)?;
+    Some(Request::Post(Event::Point {
+        keys,
+        x0,
+        y0,
+        x1,
+        y1,
+    }))
+}
+
+/// The request that `file` makes of its two arguments.
+fn file(name: &[u8], text: &[u8]) -> Option<Request>
+    ensures { result ≡ file_of name.now text.now }
+{
+    let name = Name::new(name)?;
+    let bytes = file_bytes(text)?;
+    Some(Request::Post(Event::File { name, bytes }))
+}
+
+/// The request that `show` makes of its argument.
+fn show(name: &[u8]) -> Option<Request>
+    ensures { result ≡ show_of name.now }
+{
+    Some(Request::Show(Name::new(name)?))
+}
+
+/// The bytes that the text stands for, where they can be typed.
+#[tactic(auto, using(crate::proofs::Escapes::typed_exits))]
+fn typed_bytes(text: &[u8]) -> Option<TypedBytes>
+    ensures { result ≡ typed_bytes_of text.now }
+{
+    TypedBytes::new(spelled(text)?.as_slice())
+}
+
+/// The bytes that the text stands for, where a file can have them.
+#[tactic(auto, using(crate::proofs::Escapes::file_exits))]
+fn file_bytes(text: &[u8]) -> Option<FileBytes>
+    ensures { result ≡ file_bytes_of text.now }
+{
+    FileBytes::new(spelled(text)?.as_slice())
+}

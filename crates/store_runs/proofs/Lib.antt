@@ -1,0 +1,3 @@
+pub mod Chaining
+pub mod Reopening
+pub mod Running

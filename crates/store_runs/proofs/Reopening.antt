@@ -1,0 +1,148 @@
+-- Calls that were all answered Ok, and then the store opened again.
+use Rattle.std.proofs.Common.{◌≡◌, inl, inr, ℕ, ◌+◌, ◌<◌, List, [], ◌∷◌, ◌++◌, length, take, drop, get_or, Ok}
+use Rattle.std.proofs.Common.{length-append, refl, sym, ◌∙◌, ap, subst, arith, Bool, false}
+use Rattle.std.specs.Prelude.{if◌then◌else◌}
+use Rattle.std.proofs.lemmas.Bool.{cases_lt, lt-ltb, le-ltb}
+use Rattle.std.proofs.lemmas.List.{take_more, take_at, take-append-drop}
+use Rattle.sector_disk.specs.declared.disk.Disk.{Ghosts}
+use Rattle.sector_disk.specs.Trail.{Content, Trail, LeavesOnly}
+use Rattle.sector_disk.proofs.Touching.{weakened, chained, at_last}
+use Rattle.event_bytes.specs.declared.event.Event.{Event}
+use Rattle.desktop_definitions.specs.declared.reply.Reply.{Reply}
+use Rattle.desktop_definitions.specs.Desktop.{Desktop}
+use Rattle.desktop_definitions.specs.Step.{step, steps}
+use Rattle.store_layout.specs.declared.layout.TheConstants.{JOURNAL_EVENTS}
+use Rattle.store_layout.specs.Meaning.{Means}
+use Rattle.store_runs.specs.declared.call.Call.{Call}
+use Rattle.store_runs.specs.declared.call.Call.TheVariants.{Post as Posting, Checkpoint}
+use Rattle.desk_journal.specs.Device.{WritesNothing, IsSameDevice}
+use Rattle.desk_journal.specs.Posting.{IsAcknowledged}
+use Rattle.store_runs.specs.Run.{Answer, Serves, MeansSome, events_in, counted, all_counted}
+use Rattle.desk_journal.specs.View.{StoreView, IsDurable}
+
+-- the same device, call after call
+pub same_device : {D : Type 0} (d : Ghosts D) (a b c : D) → IsSameDevice d a b → IsSameDevice d b c → IsSameDevice d a c
+same_device d a b c one two = record {
+  as_large = two.as_large ∙ one.as_large;
+  still = λ h. two.still (one.still h);
+  already = λ h. one.already (two.already h);
+}
+
+-- ---- one call that was answered Ok
+
+pub record GoesOn {D : Type 0} (d : Ghosts D) (call : Call) (old new : StoreView D) : Type 0 where
+  pub device : IsSameDevice d old.disk new.disk
+  pub calm : d.failures new.disk ≡ d.failures old.disk
+  pub usable : new.must_reopen ≡ false
+  pub durable : IsDurable d new
+  pub desktop : d.honest old.disk → new.desktop ≡ steps old.desktop (events_in (call ∷ []))
+  pub counts : (new.epoch, new.events) ≡ counted call (old.epoch, old.events)
+
+-- an event more, where the journal has room, or as the first one after a checkpoint
+counts_posted : {D : Type 0} (d : Ghosts D) (event : Event) (reply : Reply) (old new : StoreView D)
+    → IsAcknowledged d event reply old new → (new.epoch, new.events) ≡ counted (Posting event) (old.epoch, old.events)
+counts_posted d event reply old new told = elim (cases_lt old.events JOURNAL_EVENTS) [
+  | inl room ↦
+      let there = told.more room in
+      (λ i. (there.0 i, there.1 i)) ∙ sym (ap next (lt-ltb old.events JOURNAL_EVENTS room))
+  | inr full ↦
+      let there = told.anew full in
+      (λ i. (there.0 i, there.1 i)) ∙ sym (ap next (le-ltb old.events JOURNAL_EVENTS full))
+]
+  where
+    next : Bool → ℕ × ℕ
+    next b = if b then (old.epoch, old.events + 1) else (old.epoch + 1, 1)
+
+pub went_on : {D : Type 0} (d : Ghosts D) (call : Call) (reply : Reply) (old new : StoreView D)
+    → Serves d call (Ok reply) old new → GoesOn d call old new
+went_on d (Posting event) reply old new p = record {
+  device = p.device;
+  calm = p.faults.calm (λ wrong. absurd cc);
+  usable = p.ok.usable;
+  durable = p.ok.durable;
+  desktop = λ h. ap (λ x. x.0) (p.ok.stepped h);
+  counts = counts_posted d event reply old new p.ok;
+}
+went_on d Checkpoint reply old new p = record {
+  device = p.0.device;
+  calm = p.0.faults.calm (λ wrong. absurd cc);
+  usable = p.0.ok.usable;
+  durable = p.0.ok.durable;
+  desktop = p.0.ok.desktop;
+  counts = λ i. (p.0.ok.epoch i, p.0.ok.events i);
+}
+
+-- ---- calls one after another
+
+events_append : (a b : List Call) → events_in (a ++ b) ≡ events_in a ++ events_in b
+events_append [] b = refl
+events_append (Posting event ∷ a) b = ap (λ es. event ∷ es) (events_append a b)
+events_append (Checkpoint ∷ a) b = events_append a b
+
+steps_append : (first : Desktop) (a b : List Event) → steps first (a ++ b) ≡ steps (steps first a) b
+steps_append first [] b = refl
+steps_append first (event ∷ a) b = steps_append (step first event).0 a b
+
+counted_append : (a : List Call) (call : Call) (n : ℕ × ℕ)
+    → all_counted (a ++ call ∷ []) n ≡ counted call (all_counted a n)
+counted_append [] call n = refl
+counted_append (other ∷ a) call n = counted_append a call (counted other n)
+
+-- the first calls, and one more
+module _ (calls : List Call) (k : ℕ) (call : Call) (room : k < length calls) (here : call ≡ get_or calls k call) where
+  calls_next : take (k + 1) calls ≡ take k calls ++ call ∷ []
+  calls_next = take_more calls k call room ∙ ap (λ c. take k calls ++ c ∷ []) (sym here)
+
+  pub counts_next : (n m : ℕ × ℕ) (m' : ℕ × ℕ) → m ≡ all_counted (take k calls) n → m' ≡ counted call m
+      → m' ≡ all_counted (take (k + 1) calls) n
+  counts_next n m m' was is = is ∙ ap (counted call) was ∙ sym (counted_append (take k calls) call n)
+      ∙ sym (ap (λ cs. all_counted cs n) calls_next)
+
+  pub desktop_next : (first desktop desktop' : Desktop) → desktop ≡ steps first (events_in (take k calls))
+      → desktop' ≡ steps desktop (events_in (call ∷ [])) → desktop' ≡ steps first (events_in (take (k + 1) calls))
+  desktop_next first desktop desktop' was is = is ∙ ap (λ d. steps d (events_in (call ∷ []))) was
+      ∙ sym (ap (λ cs. steps first (events_in cs)) calls_next
+      ∙ ap (steps first) (events_append (take k calls) (call ∷ []))
+      ∙ steps_append first (events_in (take k calls)) (events_in (call ∷ [])))
+
+-- ---- what a crash leaves
+module _ (size : ℕ) (first : Desktop) (calls : List Call) where
+  abbrev Some : Content → Type 0
+  Some = MeansSome size first (events_in calls)
+
+  -- the desktop after the first k calls
+  pub after_some : (k : ℕ) (c : Content) → Means size (steps first (events_in (take k calls))) c → Some c
+  after_some k c means =
+      let front = events_in (take k calls) in
+      let rest = events_in (drop k calls) in
+      let whole : events_in calls ≡ front ++ rest = ap events_in (sym (take-append-drop k calls))
+      ∙ events_append (take k calls) (drop k calls) in
+      let long : length (events_in calls) ≡ length front + length rest = ap length whole ∙ length-append front rest in
+      record {
+        count = length front;
+        within = omega (arith, long);
+        means = subst (λ es. Means size (steps first es) c)
+            (sym (ap (take (length front)) whole ∙ take_at front rest (length front) refl)) means;
+      }
+
+  -- a call more, whatever it answers
+  pub call_more : {D : Type 0} (d : Ghosts D) (k : ℕ) (call : Call) (answer : Answer) (start : Trail)
+      (old new : StoreView D) → k < length calls → call ≡ get_or calls k call → old.must_reopen ≡ false
+      → d.honest old.disk → d.size old.disk ≡ size → old.desktop ≡ steps first (events_in (take k calls))
+      → LeavesOnly start (d.trail old.disk) Some → Serves d call answer old new
+      → LeavesOnly start (d.trail new.disk) Some
+  call_more d k (Posting event) answer start old new room here usable honest as_large is before p =
+      chained before (weakened (p.any_moment usable honest) (λ c either. elim either [
+        | inl means ↦ after_some k c
+            (subst (λ d'. Means size d' c) is (subst (λ n. Means n old.desktop c) as_large means))
+        | inr means ↦ after_some (k + 1) c (subst (λ d'. Means size d' c)
+            (desktop_next calls k (Posting event) room here first old.desktop (step old.desktop event).0 is refl)
+            (subst (λ n. Means n (step old.desktop event).0 c) as_large means))
+      ]))
+  call_more d k Checkpoint answer start old new room here usable honest as_large is before p =
+      chained before (weakened (p.0.any_moment usable honest) (λ c means. after_some k c
+      (subst (λ d'. Means size d' c) is (subst (λ n. Means n old.desktop c) as_large means))))
+
+  -- and then only reads
+  pub then_read : (old mid new : Trail) → LeavesOnly old mid Some → WritesNothing mid new → LeavesOnly old new Some
+  then_read old mid new before run = chained before (weakened run (λ c image. at_last before c image))

@@ -1,0 +1,87 @@
+//! Runs of calls.
+ghost use Rattle.std.specs.Prelude.{◌≡◌, false, length, IfOk, IsErr};
+ghost use Rattle.sector_disk.specs.Trail.{LeavesOnly};
+ghost use Rattle.sector_disk.specs.Faults.{FailsAs};
+ghost use Rattle.desk_journal.specs.Device.{IsSameDevice, disk_after, outcome};
+ghost use Rattle.desk_journal.specs.Errors.{OfReopen};
+ghost use Rattle.store_runs.specs.Run.{IsRun, SurvivesRun, Serves, MeansSome, IsReopened, served_of, events_in};
+
+use crate::call::{Answer, Call};
+use crate::laws::{reopening_law, runs_survive};
+use desk_journal::{Error, Store};
+use desktop_definitions::Reply;
+use sector_disk::{Disk, NoMemory};
+use std::alloc::Global;
+
+/// Makes one call.
+///
+/// Errors: those of `Store::post` and `Store::checkpoint`.
+pub fn serve<D: Disk>(alloc: Global, store: &mut Store<D>, call: &Call) -> Answer
+    ensures { Serves D.Disk call.now result store.old store.new }
+{
+    match call {
+        Call::Post(event) => store.post(alloc, event),
+        Call::Checkpoint => match store.checkpoint() {
+            Ok(()) => Ok(Reply::Done),
+            Err(error) => Err(error),
+        },
+    }
+}
+
+/// Makes the calls in order, and returns what each returned. It allocates the memory for that first, and changes
+/// nothing where there is none.
+///
+/// Error: `NoMemory`.
+pub fn serve_all<D: Disk>(
+    alloc: Global,
+    store: &mut Store<D>,
+    calls: &[Call],
+) -> Result<Vec<Answer>, NoMemory>
+    requires { store.old.must_reopen ≡ false }
+    ensures each { IfOk result (λ answers. length answers.items ≡ length calls.now) }
+    ensures run { IfOk result (λ answers. IsRun D.Disk (served_of calls.now answers.items) store.old store.new) }
+    // However the calls ended, and wherever a crash cuts them off.
+    ensures any_moment { IfOk result (λ answers. SurvivesRun D.Disk
+        (served_of calls.now answers.items) store.old store.new) }
+    ensures refused { IsErr result → store.new ≡ store.old }
+{
+    let mut answers = Vec::with_capacity(alloc, calls.len())?;
+    // What the store shows is what a crash would leave now.
+    let _ = store.info();
+    runs_survive::<D>();
+    for call in calls {
+        let answer = serve(alloc, store, call);
+        answers.push_reserved(answer);
+    }
+    Ok(answers)
+}
+
+/// Makes the calls in order up to the first that is refused, closes the store and opens it again.
+///
+/// Errors, each with the disk: those of `post`, `checkpoint` and `open`.
+pub fn serve_and_reopen<D: Disk>(
+    alloc: Global,
+    store: Store<D>,
+    calls: &[Call],
+) -> Result<Store<D>, (Error, D)>
+    requires { store.must_reopen ≡ false }
+    ensures ok { IfOk result (λ reopened. IsReopened D.Disk calls.now store reopened) }
+    // Wherever a crash cuts it off, and whatever it returns.
+    ensures any_moment { D.honest store.disk
+        → LeavesOnly (D.trail store.disk) (D.trail (disk_after (λ reopened. reopened.disk) result))
+        (MeansSome (D.size store.disk) store.desktop (events_in calls.now)) }
+    ensures device { IsSameDevice D.Disk store.disk (disk_after (λ reopened. reopened.disk) result) }
+    ensures faults { FailsAs Error.Fault OfReopen (outcome result) (D.failures store.disk) (D.failures (disk_after
+        (λ reopened. reopened.disk) result)) }
+{
+    let mut store = store;
+    // What the store shows is what a crash would leave now.
+    let _ = store.info();
+    for call in calls {
+        if let Err(error) = serve(alloc, &mut store, call) {
+            return Err((error, store.close()));
+        }
+    }
+    reopening_law::<D>();
+    Store::open(alloc, store.close())
+}

@@ -1,0 +1,119 @@
+//! Runs of posts and checkpoints, and stores that are closed and opened again.
+use crate::stores::{found, fresh};
+use desktop_definitions::Reply;
+use event_bytes::{Event, FileBytes, Name};
+use oberon_main::{Error, Store};
+use sector_disk::{Fuse, MemoryDisk};
+use std::alloc::Global;
+use std::test::Fail;
+use store_runs::{Answer, Call, serve_all, serve_and_reopen};
+
+/// How many calls opening a new store makes: a sync, the label, a slot's gate and head, the other slot's gate, the
+/// image, gate 0.
+const CALLS_TO_OPEN: u64 = 7;
+
+/// How many calls three posts make.
+const CALLS_TO_POST: u64 = 15;
+
+/// How many calls the first checkpoint makes: a read of the slot's gate and a sync, the image, the head, gate 0 and a
+/// sync, the gate and a sync.
+const CALLS_TO_RENEW: u64 = 8;
+
+/// How many calls opening a store of three events makes.
+const CALLS_TO_REOPEN: u64 = 13;
+
+/// The file of that name becomes these bytes.
+fn filed(name: &[u8], bytes: &[u8]) -> Result<Event, Fail> {
+    let name = Name::new(name).ok_or("no name")?;
+    let bytes = FileBytes::new(bytes).ok_or("no bytes")?;
+    Ok(Event::File { name, bytes })
+}
+
+/// The three events that most tests post.
+fn three_events() -> Result<[Call; 3], Fail> {
+    let first = Call::Post(filed(b"A.Text", b"a")?);
+    let second = Call::Post(filed(b"B.Text", b"bc")?);
+    let third = Call::Post(filed(b"A.Text", b"def")?);
+    Ok([first, second, third])
+}
+
+/// Makes the calls as one run over a new store whose disk passes so many calls after it is opened: what each returned,
+/// and the disk.
+fn run(alloc: Global, made: &[Call], calls: u64) -> Result<(Vec<Answer>, MemoryDisk), Fail> {
+    let calls = CALLS_TO_OPEN.saturating_add(calls);
+    match Store::open(alloc, Fuse::new(fresh(alloc)?, calls)) {
+        Err(_) => Err("not opened".into()),
+        Ok(mut store) => {
+            let returned = serve_all(alloc, &mut store, made)?;
+            Ok((returned, store.close().into_inner()))
+        }
+    }
+}
+
+#[test]
+fn a_run_of_posts(rt: HostRuntime) -> Result<(), Fail> {
+    let done = Ok(Reply::Done);
+    let events = three_events()?;
+    for (calls, wanted, left) in [
+        (CALLS_TO_POST, [done, done, done], 3),
+        (6, [done, Err(Error::Fault), Err(Error::MustReopen)], 1),
+    ] {
+        let (returned, disk) = run(rt.alloc(), &events, calls)?;
+        assert!(rt; returned.as_slice() == wanted.as_slice());
+        assert!(rt; found(rt.alloc(), disk)? == Some(left));
+    }
+    Ok(())
+}
+
+/// An event between two checkpoints, over a disk that passes every call, fails from the second checkpoint on, or from
+/// the first on.
+#[test]
+fn a_run_with_checkpoints(rt: HostRuntime) -> Result<(), Fail> {
+    let done = Ok(Reply::Done);
+    let event = Call::Post(filed(b"A.Text", b"a")?);
+    let made = [Call::Checkpoint, event, Call::Checkpoint];
+    for (calls, wanted) in [
+        (100, [done, done, done]),
+        (CALLS_TO_RENEW + 5, [done, done, Err(Error::Fault)]),
+        (
+            0,
+            [
+                Err(Error::Fault),
+                Err(Error::MustReopen),
+                Err(Error::MustReopen),
+            ],
+        ),
+    ] {
+        let (returned, _) = run(rt.alloc(), &made, calls)?;
+        assert!(rt; returned.as_slice() == wanted.as_slice());
+    }
+    Ok(())
+}
+
+/// Posts the three events over a new store whose disk passes so many calls after that, closes the store and opens it
+/// again. Why that was refused; or None, and then all the files are there.
+fn reopened(alloc: Global, calls: u64) -> Result<Option<Error>, Fail> {
+    let calls = CALLS_TO_OPEN
+        .saturating_add(CALLS_TO_POST)
+        .saturating_add(calls);
+    let events = three_events()?;
+    match Store::open(alloc, Fuse::new(fresh(alloc)?, calls)) {
+        Err(_) => Err("not opened".into()),
+        Ok(store) => match serve_and_reopen(alloc, store, &events) {
+            Err((error, _)) => Ok(Some(error)),
+            Ok(store) => match found(alloc, store.close().into_inner())? {
+                Some(3) => Ok(None),
+                _ => Err("other files".into()),
+            },
+        },
+    }
+}
+
+/// The disk passes every call of opening it again, or fails at the first one.
+#[test]
+fn reopening_left_out(rt: HostRuntime) -> Result<(), Fail> {
+    for (calls, refused) in [(CALLS_TO_REOPEN, None), (0, Some(Error::Fault))] {
+        assert!(rt; reopened(rt.alloc(), calls)? == refused);
+    }
+    Ok(())
+}

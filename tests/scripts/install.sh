@@ -1,0 +1,34 @@
+# tools/install puts the program and its man page into a folder, and takes them away again, and nothing else.
+tools=$TESTS/../tools
+
+# In a folder of their own: the files with their modes, and what is left afterwards.
+"$tools/install" new
+find new -printf '%M %P\n' | sort -k 2
+cmp new/bin/oberon "$PROGRAM"
+cmp new/share/man/man1/oberon.1 "$TESTS/../docs/oberon.1"
+PATH=$PWD/new/bin:$PATH
+oberon < "$TESTS/scripts/hello.in"
+"$tools/install" new/
+"$tools/install" --remove new
+echo "$?"
+find new
+
+# Beside other files, which stay, and in the place of an older program and of a page that there was then.
+mkdir -p old/bin old/share/doc
+echo 'a program' > old/bin/other
+find old | sort > before
+"$tools/install" old > printed
+echo older > old/bin/oberon
+echo older > old/share/man/man1/older.1
+list=old/share/nealtsjom/installed
+{
+    grep -v '^file bin/' "$list"
+    for path in bin/oberon share/man/man1/older.1; do echo "file $path $(sha256sum < old/$path | cut -d ' ' -f 1)"; done
+} > list
+cp list "$list"
+"$tools/install" old | grep -v 'on the PATH'
+cmp old/bin/oberon "$PROGRAM"
+ls old/share/man/man1
+grep -c '' "$list"
+"$tools/install" --remove old
+find old | sort | cmp - before && echo 'what was there before'
