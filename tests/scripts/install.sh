@@ -1,5 +1,6 @@
 # tools/install puts the program and its man page into a folder, and takes them away again, and nothing else.
 tools=$TESTS/../tools
+export LC_ALL=C
 
 # In a folder of their own: the files with their modes, and what is left afterwards.
 "$tools/install" new
@@ -11,7 +12,7 @@ oberon < "$TESTS/scripts/hello.in"
 "$tools/install" new/
 "$tools/install" --remove new
 echo "$?"
-find new
+[ ! -e new ] && echo 'the folder is gone'
 
 # Beside other files, which stay, and in the place of an older program and of a page that there was then.
 mkdir -p old/bin old/share/doc

@@ -1,5 +1,6 @@
 # Where tools/install can't do all of its work it does none of it, and says why in one sentence.
 tools=$TESTS/../tools
+export LC_ALL=C
 
 # What is in the folder $1, and what the files have.
 state() { find "$1" 2> /dev/null -printf '%p %M %s %y\n' | sort; find "$1" -type f 2> /dev/null -exec sha256sum {} + | sort; }
