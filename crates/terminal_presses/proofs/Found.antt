@@ -1,0 +1,499 @@
+-- Spelled presses are found again.
+use Rattle.std.proofs.Common.{◌≡◌, ℕ, ◌+◌, ◌-◌, ◌*◌, ◌≤◌, Bool, true, false, List, [], ◌∷◌, ◌++◌}
+use Rattle.std.proofs.Common.{Some, None, nat_eq, refl, sym, ap, subst, ◌∙◌, arith, inl, inr, min}
+use Rattle.std.specs.Prelude.{◌&&◌, ◌||◌, ◌==◌, not, nat_lt, Option}
+use Rattle.std.specs.List.{list_all, filter_map, cons_option}
+use Rattle.std.proofs.lemmas.Bool.Decides.{nat_tests}
+use Rattle.event_bytes.specs.Bytes.{lies_within, is_digit, is_text_byte}
+use Rattle.terminal_presses.specs.declared.press.Heard.{Heard}
+use Rattle.terminal_presses.specs.declared.press.Heard.TheVariants.{Byte, Quiet}
+use Rattle.terminal_presses.specs.declared.press.Button.{Button}
+use Rattle.terminal_presses.specs.declared.press.Button.TheVariants.{Left, Middle, Right}
+use Rattle.terminal_presses.specs.declared.press.Arrow.{Arrow as ArrowKey}
+use Rattle.terminal_presses.specs.declared.press.Arrow.TheVariants as arrow
+use Rattle.terminal_presses.specs.declared.press.Page.{Page as PageKey}
+use Rattle.terminal_presses.specs.declared.press.Page.TheVariants as page
+use Rattle.terminal_presses.specs.declared.press.FunctionKey.{FunctionKey}
+use Rattle.terminal_presses.specs.declared.press.FunctionKey.TheVariants.{F1, F2, F3, F4, F5, F6, F7, F8, F9, F10}
+use Rattle.terminal_presses.specs.declared.press.MouseReport.{MouseReport}
+use Rattle.terminal_presses.specs.declared.press.Press.{Press}
+use Rattle.terminal_presses.specs.declared.press.Press.TheVariants.{Character, Foreign, Control, Back, Escape, Arrow}
+use Rattle.terminal_presses.specs.declared.press.Press.TheVariants.{Page, Function, Mouse, PasteBegins, PasteEnds, Size}
+use Rattle.terminal_presses.specs.declared.press.Press.TheVariants.{Unknown}
+use Rattle.terminal_presses.specs.declared.press.Presses.{Presses}
+use Rattle.terminal_presses.specs.declared.press.Presses.TheVariants.{Nothing}
+use Rattle.terminal_presses.specs.declared.place.Mark.{Mark}
+use Rattle.terminal_presses.specs.declared.place.Mark.TheVariants as mark
+use Rattle.terminal_presses.specs.declared.place.Numbers.{Numbers}
+use Rattle.terminal_presses.specs.declared.place.Place.{Place}
+use Rattle.terminal_presses.specs.declared.place.Place.TheVariants as place
+use Rattle.terminal_presses.specs.declared.parser.Parser.{Parser}
+use Rattle.terminal_presses.specs.Presses.{single, grounded, preceded, alone, function_at, arrow_at, lettered, numbered}
+use Rattle.terminal_presses.specs.Presses.{longer, with_digit, with_number, marked, reported, moused, sized, plain}
+use Rattle.terminal_presses.specs.Presses.{ended, after_ground, after_escape, after_shift, after_console}
+use Rattle.terminal_presses.specs.Presses.{after_sequence, after_byte, after_quiet, after, at_rest, heard_by, in_order}
+use Rattle.terminal_presses.specs.Presses.{parser_after, pressed}
+use Rattle.terminal_presses.specs.Spelling.{value_from, IsNumeral, report_number, report_end, IsReport, IsSize}
+use Rattle.terminal_presses.specs.Spelling.{IsForeign}
+use Rattle.terminal_presses.specs.Spelling.{is_control, letter_alone, shifted, arrow_letter, page_spelling}
+use Rattle.terminal_presses.specs.Spelling.{function_spellings, sequence, IsOneOf, Spells, bytes, IsHeard}
+use Rattle.terminal_presses.specs.Spelling.{AreHeard}
+use Rattle.terminal_presses.proofs.Pieces.{parser_of_both, pressed_of_both}
+
+-- that press is found in what is heard, and nothing is left of it
+abbrev Finds : Press → List Heard → Type 0
+Finds press heard = (parser_after at_rest heard ≡ at_rest) × (pressed at_rest heard ≡ press ∷ [])
+
+-- ---- tests
+
+pub both : (a b : Bool) → a && b ≡ true → (a ≡ true) × (b ≡ true)
+both true b h = (refl, h)
+both false b h = absurd cc
+
+neither : (a b : Bool) → not (a || b) ≡ true → (a ≡ false) × (b ≡ false)
+neither true b h = absurd cc
+neither false true h = absurd cc
+neither false false h = (refl, refl)
+
+none_of : (a b : Bool) → a || b ≡ false → (a ≡ false) × (b ≡ false)
+none_of true b h = absurd cc
+none_of false b h = (refl, h)
+
+-- ---- single bytes
+
+abbrev in_some : Option Press → List Press
+in_some None = []
+in_some (Some press) = press ∷ []
+
+alone_in_order : (o : Option Press)
+    → ((alone (place.Ground, o)).0 ≡ place.Ground) × (in_order (alone (place.Ground, o)).1 ≡ in_some o)
+alone_in_order None = (refl, refl)
+alone_in_order (Some press) = (refl, refl)
+
+byte_heard : (b : ℕ) (o : Option Press) → grounded b ≡ (place.Ground, o)
+    → ((heard_by at_rest (Byte b)).0 ≡ at_rest) × (in_order (heard_by at_rest (Byte b)).1 ≡ in_some o)
+unfolding heard_by after after_byte after_ground
+byte_heard b o is =
+    let (at, said) = alone_in_order o in
+    (rw (is, at) refl, rw is said)
+
+found_by : (b : ℕ) (press : Press) → grounded b ≡ (place.Ground, Some press) → Finds press (bytes (b ∷ []))
+unfolding heard_by after after_byte after_ground
+found_by b press is = (rw is refl, rw is refl)
+
+not_escape : (b : ℕ) → is_text_byte b ≡ true → nat_eq b 27 ≡ false
+unfolding is_text_byte
+not_escape b is = grind (arith, nat_tests)
+
+character_grounded : (b : ℕ) → is_text_byte b ≡ true → grounded b ≡ (place.Ground, Some (Character b))
+unfolding grounded single
+character_grounded b is = rw (not_escape b is, is) refl
+
+low_byte : (b : ℕ) → nat_lt b 32 ≡ true → nat_eq b 127 ≡ false
+low_byte b low = grind (arith, nat_tests)
+
+control_grounded : (b : ℕ) → is_control b ≡ true → grounded b ≡ (place.Ground, Some (Control b))
+unfolding grounded single
+control_grounded b is =
+    let (low, others) = both (nat_lt b 32) (not (is_text_byte b || ((b == 8) || (b == 27)))) is in
+    let (no_text, keys) = neither (is_text_byte b) ((b == 8) || (b == 27)) others in
+    let (no_back, no_escape) = none_of (b == 8) (b == 27) keys in
+    rw (no_escape, no_text, no_back, low_byte b low, low) refl
+
+-- what is no text byte, no key of its own and no control
+high_byte : (b : ℕ) → 128 ≤ b
+    → (nat_eq b 27 ≡ false) × (is_text_byte b ≡ false) × (nat_eq b 8 ≡ false) × (nat_eq b 127 ≡ false)
+    × (nat_lt b 32 ≡ false)
+unfolding is_text_byte
+high_byte b high = (
+  grind (arith, nat_tests),
+  grind (arith, nat_tests),
+  grind (arith, nat_tests),
+  grind (arith, nat_tests),
+  grind (arith, nat_tests),
+)
+
+foreign_grounded : (b : ℕ) → 192 ≤ b → grounded b ≡ (place.Ground, Some Foreign)
+unfolding grounded single
+foreign_grounded b high =
+    let (a, c, d, e, f) = high_byte b (omega arith) in
+    let g : nat_lt b 192 ≡ false = grind (arith, nat_tests) in
+    rw (a, c, d, e, f, g) refl
+
+follower_grounded : (b : ℕ) → lies_within 128 191 b ≡ true → grounded b ≡ (place.Ground, None)
+unfolding grounded single
+follower_grounded b is =
+    let least : 128 ≤ b = grind (arith, nat_tests) in
+    let (a, c, d, e, f) = high_byte b least in
+    let g : nat_lt b 192 ≡ true = grind (arith, nat_tests) in
+    rw (a, c, d, e, f, g) refl
+
+-- a byte between two spellings, and then others
+byte_before : (b : ℕ) (o : Option Press) (more : List Heard) → grounded b ≡ (place.Ground, o)
+    → (parser_after at_rest (Byte b ∷ more) ≡ parser_after at_rest more)
+    × (pressed at_rest (Byte b ∷ more) ≡ in_some o ++ pressed at_rest more)
+byte_before b o more is =
+    let (at, said) = byte_heard b o is in (
+      ap (λ p. parser_after p more) at,
+      ap (λ l. l ++ pressed (heard_by at_rest (Byte b)).0 more) said ∙ ap (λ p. in_some o ++ pressed p more) at,
+    )
+
+followers_found : (rest : List ℕ) → list_all (lies_within 128 191) rest ≡ true
+    → (parser_after at_rest (bytes rest) ≡ at_rest) × (pressed at_rest (bytes rest) ≡ [])
+followers_found [] all = (refl, refl)
+followers_found (b ∷ rest) all =
+    let (one, others) = both (lies_within 128 191 b) (list_all (lies_within 128 191) rest) all in
+    let (parser, presses) = followers_found rest others in
+    let first = byte_before b None (bytes rest) (follower_grounded b one) in
+    (first.0 ∙ parser, first.1 ∙ presses)
+
+foreign_first : (first : ℕ) (rest : List ℕ) → 192 ≤ first → list_all (lies_within 128 191) rest ≡ true
+    → Finds Foreign (bytes (first ∷ rest))
+foreign_first first rest high all =
+    let (parser, presses) = followers_found rest all in
+    let one = byte_before first (Some Foreign) (bytes rest) (foreign_grounded first high) in
+    (one.0 ∙ parser, one.1 ∙ ap (λ l. Foreign ∷ l) presses)
+
+foreign_found : (text : List ℕ) → IsForeign text → Finds Foreign (bytes text)
+foreign_found text is =
+    subst (λ t. Finds Foreign (bytes t)) (sym is.parts) (foreign_first is.first is.rest is.high is.goes_on)
+
+-- ---- spellings as they stand
+
+abbrev AllFound : Press → List (List ℕ) → Type 0
+AllFound press [] = Unit {0}
+AllFound press (one ∷ others) = Finds press (bytes one) × AllFound press others
+
+one_found : (press : Press) (texts : List (List ℕ)) (text : List ℕ) → AllFound press texts → IsOneOf texts text
+    → Finds press (bytes text)
+one_found press [] text all is = absurd is
+one_found press (one ∷ others) text all (inl same) = subst (λ t. Finds press (bytes t)) (sym same) all.0
+one_found press (one ∷ others) text all (inr is) = one_found press others text all.1 is
+
+back_found : AllFound Back ((8 ∷ []) ∷ (127 ∷ []) ∷ [])
+unfolding heard_by after after_byte after_ground grounded single is_text_byte
+back_found = ((refl, refl), ((refl, refl), tt))
+
+escape_found : Finds Escape (Byte 27 ∷ Quiet ∷ [])
+unfolding heard_by after after_byte after_quiet after_ground grounded
+escape_found = (refl, refl)
+
+arrow_found : (key : ArrowKey)
+    → AllFound (Arrow key) (letter_alone (arrow_letter key) ∷ shifted (arrow_letter key) ∷ [])
+unfolding heard_by after after_byte after_ground grounded after_escape after_shift after_sequence is_digit ended plain lettered arrow_at
+arrow_found arrow.Up = ((refl, refl), ((refl, refl), tt))
+arrow_found arrow.Down = ((refl, refl), ((refl, refl), tt))
+arrow_found arrow.Right = ((refl, refl), ((refl, refl), tt))
+arrow_found arrow.Left = ((refl, refl), ((refl, refl), tt))
+
+page_found : (key : PageKey) → Finds (Page key) (bytes (page_spelling key))
+unfolding heard_by after after_byte after_ground grounded after_escape after_sequence is_digit with_digit longer ended plain numbered
+page_found page.Up = (refl, refl)
+page_found page.Down = (refl, refl)
+
+function_found : (key : FunctionKey) → AllFound (Function key) (function_spellings key)
+unfolding heard_by after after_byte after_ground grounded after_escape after_shift after_sequence after_console is_digit with_digit longer ended plain lettered numbered function_at
+function_found F1 = ((refl, refl), ((refl, refl), ((refl, refl), ((refl, refl), tt))))
+function_found F2 = ((refl, refl), ((refl, refl), ((refl, refl), ((refl, refl), tt))))
+function_found F3 = ((refl, refl), ((refl, refl), ((refl, refl), ((refl, refl), tt))))
+function_found F4 = ((refl, refl), ((refl, refl), ((refl, refl), ((refl, refl), tt))))
+function_found F5 = ((refl, refl), ((refl, refl), tt))
+function_found F6 = ((refl, refl), tt)
+function_found F7 = ((refl, refl), tt)
+function_found F8 = ((refl, refl), tt)
+function_found F9 = ((refl, refl), tt)
+function_found F10 = ((refl, refl), tt)
+
+pub paste_found : Finds PasteBegins (bytes (sequence (50 ∷ 48 ∷ 48 ∷ 126 ∷ [])))
+    × Finds PasteEnds (bytes (sequence (50 ∷ 48 ∷ 49 ∷ 126 ∷ [])))
+unfolding heard_by after after_byte after_ground grounded after_escape after_sequence is_digit with_digit longer ended plain numbered
+paste_found = ((refl, refl), (refl, refl))
+
+-- ---- numbers
+
+-- what is heard by one parser goes on as what is heard by another
+abbrev Goes : Parser → List Heard → Parser → List Heard → Type 0
+Goes p heard q more = (parser_after p heard ≡ parser_after q more) × (pressed p heard ≡ pressed q more)
+
+goes_on : (p : Parser) (a : List Heard) (q : Parser) (b : List Heard) (r : Parser) (c : List Heard)
+    → Goes p a q b → Goes q b r c → Goes p a r c
+goes_on p a q b r c first second = (first.0 ∙ second.0, first.1 ∙ second.1)
+
+abbrev numbers : Mark → ℕ → ℕ → ℕ → ℕ → Numbers
+numbers m last first second third = record {
+  mark = m;
+  last = last;
+  first = first;
+  second = second;
+  third = third;
+}
+
+abbrev amid : Numbers → Parser
+amid s = record { place = place.Sequence s }
+
+-- the numbers, with these digits more
+abbrev with_digits : Numbers → List ℕ → Numbers
+with_digits s [] = s
+with_digits s (b ∷ bs) = with_digits (with_digit s (b - 48)) bs
+
+digit_heard : (s : Numbers) (b : ℕ) → is_digit b ≡ true
+    → heard_by (amid s) (Byte b) ≡ (amid (with_digit s (b - 48)), Nothing)
+unfolding heard_by after after_byte after_sequence
+digit_heard s b is = rw is refl
+
+digits_go : (s : Numbers) (digits text : List ℕ) → list_all is_digit digits ≡ true
+    → Goes (amid s) (bytes (digits ++ text)) (amid (with_digits s digits)) (bytes text)
+digits_go s [] text all = (refl, refl)
+digits_go s (b ∷ bs) text all =
+    let (one, others) = both (is_digit b) (list_all is_digit bs) all in
+    let (parser, presses) = digits_go (with_digit s (b - 48)) bs text others in
+    let first = digit_heard s b one in (
+      ap (λ (x : Parser × Presses). parser_after x.0 (bytes (bs ++ text))) first ∙ parser,
+      ap (λ (x : Parser × Presses). in_order x.1 ++ pressed x.0 (bytes (bs ++ text))) first ∙ presses,
+    )
+
+-- the number that they make of one in front of them, as far as it is told apart
+abbrev grown : ℕ → List ℕ → ℕ
+grown n [] = n
+grown n (b ∷ bs) = grown (longer n (b - 48)) bs
+
+value_grows : (n : ℕ) (digits : List ℕ) → n ≤ value_from n digits
+value_grows n [] = omega arith
+value_grows n (b ∷ bs) = let h = value_grows (n * 10 + (b - 48)) bs in omega (arith, h)
+
+grown_is : (n : ℕ) (digits : List ℕ) → value_from n digits ≤ 65535 → grown n digits ≡ value_from n digits
+unfolding longer
+grown_is n [] most = refl
+grown_is n (b ∷ bs) most =
+    let h = value_grows (n * 10 + (b - 48)) bs in
+    let e : min (n * 10 + (b - 48)) 65535 ≡ n * 10 + (b - 48) = omega (arith, h, most) in
+    rw e (grown_is (n * 10 + (b - 48)) bs most)
+
+numeral_value : (n : ℕ) (digits : List ℕ) → IsNumeral n digits → grown 0 digits ≡ n
+numeral_value n digits is =
+    let most : value_from 0 digits ≤ 65535 = omega (arith, is.value, is.small) in
+    grown_is 0 digits most ∙ is.value
+
+first_digits : (m : Mark) (v x y : ℕ) (digits : List ℕ)
+    → with_digits (numbers m 0 v x y) digits ≡ numbers m 0 (grown v digits) x y
+unfolding with_digit
+first_digits m v x y [] = refl
+first_digits m v x y (b ∷ bs) = first_digits m (longer v (b - 48)) x y bs
+
+second_digits : (m : Mark) (x v y : ℕ) (digits : List ℕ)
+    → with_digits (numbers m 1 x v y) digits ≡ numbers m 1 x (grown v digits) y
+unfolding with_digit
+second_digits m x v y [] = refl
+second_digits m x v y (b ∷ bs) = second_digits m x (longer v (b - 48)) y bs
+
+third_digits : (m : Mark) (x y v : ℕ) (digits : List ℕ)
+    → with_digits (numbers m 2 x y v) digits ≡ numbers m 2 x y (grown v digits)
+unfolding with_digit
+third_digits m x y v [] = refl
+third_digits m x y v (b ∷ bs) = third_digits m x y (longer v (b - 48)) bs
+
+numeral_goes : (s t : Numbers) (n : ℕ) (digits text : List ℕ) → IsNumeral n digits → with_digits s digits ≡ t
+    → Goes (amid s) (bytes (digits ++ text)) (amid t) (bytes text)
+numeral_goes s t n digits text is so =
+    subst (λ u. Goes (amid s) (bytes (digits ++ text)) (amid u) (bytes text)) so (digits_go s digits text is.digits_all)
+
+first_goes : (m : Mark) (n : ℕ) (digits text : List ℕ) → IsNumeral n digits
+    → Goes (amid (numbers m 0 0 0 0)) (bytes (digits ++ 59 ∷ text)) (amid (numbers m 1 n 0 0)) (bytes text)
+unfolding heard_by after after_byte after_sequence is_digit with_number
+first_goes m n digits text is =
+    numeral_goes (numbers m 0 0 0 0) (numbers m 0 n 0 0) n digits (59 ∷ text) is
+    (first_digits m 0 0 0 digits ∙ ap (λ v. numbers m 0 v 0 0) (numeral_value n digits is))
+
+second_goes : (m : Mark) (x n : ℕ) (digits text : List ℕ) → IsNumeral n digits
+    → Goes (amid (numbers m 1 x 0 0)) (bytes (digits ++ 59 ∷ text)) (amid (numbers m 2 x n 0)) (bytes text)
+unfolding heard_by after after_byte after_sequence is_digit with_number
+second_goes m x n digits text is =
+    numeral_goes (numbers m 1 x 0 0) (numbers m 1 x n 0) n digits (59 ∷ text) is
+    (second_digits m x 0 0 digits ∙ ap (λ v. numbers m 1 x v 0) (numeral_value n digits is))
+
+third_goes : (m : Mark) (x y n : ℕ) (digits text : List ℕ) → IsNumeral n digits
+    → Goes (amid (numbers m 2 x y 0)) (bytes (digits ++ text)) (amid (numbers m 2 x y n)) (bytes text)
+third_goes m x y n digits text is =
+    numeral_goes (numbers m 2 x y 0) (numbers m 2 x y n) n digits text is
+    (third_digits m x y 0 digits ∙ ap (λ v. numbers m 2 x y v) (numeral_value n digits is))
+
+-- ---- mouse reports
+
+abbrev report_of : Button → Bool → Bool → Bool → ℕ → ℕ → MouseReport
+report_of button down alt control column row = record {
+  button = button;
+  is_down = down;
+  with_alt = alt;
+  with_control = control;
+  column = column;
+  row = row;
+}
+
+abbrev Again : Button → Bool → ℕ → ℕ → Bool → Bool → Bool → Type 0
+Again button down column row alt control shift =
+    reported (numbers mark.Mouse 2 (report_number (report_of button down alt control column row) shift) column row) down
+    ≡ Mouse (report_of button down alt control column row)
+
+by_bools : (P : Bool → Bool → Bool → Type 0) → P true true true → P true true false → P true false true
+    → P true false false → P false true true → P false true false → P false false true → P false false false
+    → (a b c : Bool) → P a b c
+by_bools P s t u v w x y z true true true = s
+by_bools P s t u v w x y z true true false = t
+by_bools P s t u v w x y z true false true = u
+by_bools P s t u v w x y z true false false = v
+by_bools P s t u v w x y z false true true = w
+by_bools P s t u v w x y z false true false = x
+by_bools P s t u v w x y z false false true = y
+by_bools P s t u v w x y z false false false = z
+
+reported_again : (button : Button) (down alt control shift : Bool) (column row : ℕ)
+    → Again button down column row alt control shift
+unfolding reported
+reported_again Left down alt control shift column row =
+    by_bools (Again Left down column row) refl refl refl refl refl refl refl refl alt control shift
+reported_again Middle down alt control shift column row =
+    by_bools (Again Middle down column row) refl refl refl refl refl refl refl refl alt control shift
+reported_again Right down alt control shift column row =
+    by_bools (Again Right down column row) refl refl refl refl refl refl refl refl alt control shift
+
+abbrev reporting : MouseReport → Bool → Parser
+reporting report shift = amid (numbers mark.Mouse 2 (report_number report shift) report.column report.row)
+
+abbrev ReportEnds : MouseReport → Bool → ℕ → Type 0
+ReportEnds report shift last =
+    (parser_after (reporting report shift) (bytes (last ∷ [])) ≡ at_rest)
+    × (pressed (reporting report shift) (bytes (last ∷ [])) ≡ Mouse report ∷ [])
+
+report_ends : (button : Button) (down alt control shift : Bool) (column row : ℕ)
+    → ReportEnds (report_of button down alt control column row) shift (report_end down)
+unfolding heard_by after after_byte after_sequence is_digit ended moused
+report_ends button true alt control shift column row =
+    (refl, rw (reported_again button true alt control shift column row) refl)
+report_ends button false alt control shift column row =
+    (refl, rw (reported_again button false alt control shift column row) refl)
+
+report_begins : (text : List ℕ)
+    → Goes at_rest (bytes (27 ∷ 91 ∷ 60 ∷ text)) (amid (numbers mark.Mouse 0 0 0 0)) (bytes text)
+unfolding heard_by after after_byte after_ground grounded after_escape after_sequence is_digit marked
+report_begins text = (refl, refl)
+
+report_found : (report : MouseReport) (text : List ℕ) → IsReport report text → Finds (Mouse report) (bytes text)
+report_found report text is =
+    let n = report_number report is.shift in
+    let end = report_end report.is_down ∷ [] in
+    let a = report_begins (is.number ++ 59 ∷ (is.column ++ 59 ∷ (is.row ++ end))) in
+    let b = first_goes mark.Mouse n is.number (is.column ++ 59 ∷ (is.row ++ end)) is.number_is in
+    let c = second_goes mark.Mouse n report.column is.column (is.row ++ end) is.column_is in
+    let d = third_goes mark.Mouse n report.column report.row is.row end is.row_is in
+    let e = report_ends report.button report.is_down report.with_alt report.with_control is.shift report.column
+    report.row in
+    subst (λ t. Finds (Mouse report) (bytes t)) (sym is.parts)
+    (a.0 ∙ b.0 ∙ c.0 ∙ d.0 ∙ e.0, a.1 ∙ b.1 ∙ c.1 ∙ d.1 ∙ e.1)
+
+-- ---- sizes
+
+size_begins : (text : List ℕ)
+    → Goes at_rest (bytes (27 ∷ 91 ∷ 56 ∷ 59 ∷ text)) (amid (numbers mark.Plain 1 8 0 0)) (bytes text)
+unfolding heard_by after after_byte after_ground grounded after_escape after_sequence is_digit with_digit longer with_number
+size_begins text = (refl, refl)
+
+size_ends : (rows columns : ℕ)
+    → (parser_after (amid (numbers mark.Plain 2 8 rows columns)) (bytes (116 ∷ [])) ≡ at_rest)
+    × (pressed (amid (numbers mark.Plain 2 8 rows columns)) (bytes (116 ∷ [])) ≡ Size rows columns ∷ [])
+unfolding heard_by after after_byte after_sequence is_digit ended plain sized
+size_ends rows columns = (refl, refl)
+
+size_found : (rows columns : ℕ) (text : List ℕ) → IsSize rows columns text → Finds (Size rows columns) (bytes text)
+size_found rows columns text is =
+    let a = size_begins (is.high ++ 59 ∷ (is.wide ++ 116 ∷ [])) in
+    let b = second_goes mark.Plain 8 rows is.high (is.wide ++ 116 ∷ []) is.rows_are in
+    let c = third_goes mark.Plain 8 rows columns is.wide (116 ∷ []) is.columns_are in
+    let d = size_ends rows columns in
+    subst (λ t. Finds (Size rows columns) (bytes t)) (sym is.parts)
+    (a.0 ∙ b.0 ∙ c.0 ∙ d.0, a.1 ∙ b.1 ∙ c.1 ∙ d.1)
+
+-- ---- presses
+
+spelled_found : (press : Press) (text : List ℕ) → Spells press text → Finds press (bytes text)
+spelled_found (Character b) text is =
+    subst (λ t. Finds (Character b) (bytes t)) (sym is.1) (found_by b (Character b) (character_grounded b is.0))
+spelled_found Foreign text is = foreign_found text is
+spelled_found (Control b) text is =
+    subst (λ t. Finds (Control b) (bytes t)) (sym is.1) (found_by b (Control b) (control_grounded b is.0))
+spelled_found Back text is = one_found Back ((8 ∷ []) ∷ (127 ∷ []) ∷ []) text back_found is
+spelled_found Escape text is = absurd is
+spelled_found (Arrow key) text is =
+    one_found (Arrow key) (letter_alone (arrow_letter key) ∷ shifted (arrow_letter key) ∷ []) text (arrow_found key) is
+spelled_found (Page key) text is = subst (λ t. Finds (Page key) (bytes t)) (sym is) (page_found key)
+spelled_found (Function key) text is = one_found (Function key) (function_spellings key) text (function_found key) is
+spelled_found (Mouse report) text is = report_found report text is
+spelled_found PasteBegins text is = subst (λ t. Finds PasteBegins (bytes t)) (sym is) paste_found.0
+spelled_found PasteEnds text is = subst (λ t. Finds PasteEnds (bytes t)) (sym is) paste_found.1
+spelled_found (Size rows columns) text is = size_found rows columns text is
+spelled_found Unknown text is = absurd is
+
+heard_found : (press : Press) (heard : List Heard) → IsHeard press heard → Finds press heard
+heard_found press heard (inl s) = subst (λ h. Finds press h) (sym s.is) (spelled_found press s.text s.spells)
+heard_found press heard (inr e) =
+    subst (λ p. Finds p heard) (sym e.0) (subst (λ h. Finds Escape h) (sym e.1) escape_found)
+
+pub all_found : (presses : List Press) (heard : List Heard) → AreHeard presses heard
+    → (parser_after at_rest heard ≡ at_rest) × (pressed at_rest heard ≡ presses)
+all_found [] heard is = (ap (λ h. parser_after at_rest h) is, ap (λ h. pressed at_rest h) is)
+all_found (press ∷ presses) heard is =
+    let (front, rest, one, others, parts) = is in
+    let first = heard_found press front one in
+    let more = all_found presses rest others in (
+      ap (λ h. parser_after at_rest h) parts ∙ parser_of_both at_rest front rest
+          ∙ ap (λ p. parser_after p rest) first.0 ∙ more.0,
+      ap (λ h. pressed at_rest h) parts ∙ pressed_of_both at_rest front rest
+          ∙ ap (λ l. l ++ pressed (parser_after at_rest front) rest) first.1
+          ∙ ap (λ p. press ∷ pressed p rest) first.0 ∙ ap (λ l. press ∷ l) more.1,
+    )
+
+-- ---- an escape byte that begins no other spelling
+
+preceded_is : (next : Place × Option Press)
+    → ((preceded Escape next).0 ≡ (alone next).0)
+    × (in_order (preceded Escape next).1 ≡ Escape ∷ in_order (alone next).1)
+unfolding preceded
+preceded_is (at, None) = (refl, refl)
+preceded_is (at, Some press) = (refl, refl)
+
+abbrev standing : Place → Parser
+standing at = record { place = at }
+
+pub escape_alone : (b : ℕ) (more : List Heard) → (b ≡ 91 → ⊥) → (b ≡ 79 → ⊥)
+    → pressed at_rest (Byte 27 ∷ Byte b ∷ more) ≡ Escape ∷ pressed at_rest (Byte b ∷ more)
+unfolding heard_by after after_byte after_ground grounded after_escape
+escape_alone b more no_bracket no_letter =
+    let p : nat_eq b 91 ≡ false = grind (arith, nat_tests) in
+    let q : nat_eq b 79 ≡ false = grind (arith, nat_tests) in
+    let e = preceded_is (grounded b) in
+    rw (p, q, e.0, e.1) refl
+
+-- ---- what is pasted
+
+single_grounded : (b : ℕ) → nat_eq b 27 ≡ false → grounded b ≡ (place.Ground, single b)
+unfolding grounded
+single_grounded b no_escape = rw no_escape refl
+
+some_first : (o : Option Press) (l : List Press) → in_some o ++ l ≡ cons_option o l
+some_first None l = refl
+some_first (Some press) l = refl
+
+pub is_not : (b : Bool) → not b ≡ true → b ≡ false
+is_not true is = absurd cc
+is_not false is = refl
+
+-- bytes among which no escape byte is are what each says by itself
+pub bytes_found : (text : List ℕ) → list_all (λ b. not (b == 27)) text ≡ true
+    → (parser_after at_rest (bytes text) ≡ at_rest) × (pressed at_rest (bytes text) ≡ filter_map single text)
+bytes_found [] all = (refl, refl)
+bytes_found (b ∷ text) all =
+    let (one, others) = both (not (b == 27)) (list_all (λ b. not (b == 27)) text) all in
+    let (parser, presses) = bytes_found text others in
+    let first = byte_before b (single b) (bytes text) (single_grounded b (is_not (nat_eq b 27) one)) in (
+      first.0 ∙ parser,
+      first.1 ∙ ap (λ l. in_some (single b) ++ l) presses ∙ some_first (single b) (filter_map single text),
+    )

@@ -1,0 +1,5 @@
+pub mod Clicks
+pub mod Found
+pub mod Pieces
+pub mod Spots
+pub mod Typing

@@ -1,0 +1,11 @@
+use Rattle.terminal_presses.proofs.Found.{all_found, escape_alone}
+use Rattle.terminal_presses.proofs.laws.spelled_presses_are_found.Goals as goal
+
+pub returns-clause-presses : goal.returns-clause-presses
+returns-clause-presses c presses heard are = (all_found presses heard are).1
+
+pub returns-clause-parser : goal.returns-clause-parser
+returns-clause-parser c presses heard are = (all_found presses heard are).0
+
+pub returns-clause-escape : goal.returns-clause-escape
+returns-clause-escape c = escape_alone

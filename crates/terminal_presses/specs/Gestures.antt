@@ -1,0 +1,89 @@
+-- Gestures of the mouse: from the first button that goes down to the last that goes up.
+use Rattle.std.specs.Prelude.{Bool, true, false, ◌||◌, not, Option, Some, None}
+use Rattle.event_bytes.specs.declared.event.Event.TheVariants.{Mark as MarkAt, Point}
+use Rattle.event_bytes.specs.declared.keys.Keys.{Keys as MouseKeys}
+use Rattle.event_bytes.specs.declared.keys.Keys.TheVariants.{Left, LeftMiddle, LeftRight, Middle, MiddleLeft}
+use Rattle.event_bytes.specs.declared.keys.Keys.TheVariants.{MiddleRight, Right, RightLeft, RightMiddle}
+use Rattle.terminal_presses.specs.declared.press.Button.{Button}
+use Rattle.terminal_presses.specs.declared.press.Button.TheVariants as button
+use Rattle.terminal_presses.specs.declared.spot.Spot.{Spot}
+use Rattle.terminal_presses.specs.declared.action.Click.{Click}
+use Rattle.terminal_presses.specs.declared.action.Click.TheVariants.{Mark, Keys}
+use Rattle.terminal_presses.specs.declared.action.Action.{Action}
+use Rattle.terminal_presses.specs.declared.action.Action.TheVariants.{Nothing, Post}
+use Rattle.terminal_presses.specs.declared.gesture.Buttons.{Buttons}
+use Rattle.terminal_presses.specs.declared.gesture.Gesture.{Gesture}
+
+-- ---- the buttons that are down
+
+abbrev pub no_buttons : Buttons
+no_buttons = record { left = false; middle = false; right = false }
+
+abbrev pub is_none_down : Buttons → Bool
+is_none_down down = not (down.left || (down.middle || down.right))
+
+abbrev pub is_down : Button → Buttons → Bool
+is_down button.Left down = down.left
+is_down button.Middle down = down.middle
+is_down button.Right down = down.right
+
+abbrev pub with_button : Button → Bool → Buttons → Buttons
+with_button button.Left is down = record down { left = is }
+with_button button.Middle is down = record down { middle = is }
+with_button button.Right is down = record down { right = is }
+
+-- ---- the keys of a gesture, in the order in which they went down; a third one calls it off
+
+unfoldable pub with_left : MouseKeys → Option MouseKeys
+with_left Middle = Some MiddleLeft
+with_left Right = Some RightLeft
+with_left MiddleRight = None
+with_left RightMiddle = None
+with_left keys = Some keys
+
+unfoldable pub with_middle : MouseKeys → Option MouseKeys
+with_middle Left = Some LeftMiddle
+with_middle Right = Some RightMiddle
+with_middle LeftRight = None
+with_middle RightLeft = None
+with_middle keys = Some keys
+
+unfoldable pub with_right : MouseKeys → Option MouseKeys
+with_right Left = Some LeftRight
+with_right Middle = Some MiddleRight
+with_right LeftMiddle = None
+with_right MiddleLeft = None
+with_right keys = Some keys
+
+unfoldable pub joined : Button → MouseKeys → Option MouseKeys
+joined button.Left keys = with_left keys
+joined button.Middle keys = with_middle keys
+joined button.Right keys = with_right keys
+
+abbrev pub as_click : Option MouseKeys → Option Click
+as_click None = None
+as_click (Some keys) = Some (Keys keys)
+
+-- what a gesture comes to in which another button goes down; none sets the marker and has two buttons
+unfoldable pub called : Button → Option Click → Option Click
+called another None = None
+called another (Some Mark) = None
+called another (Some (Keys keys)) = as_click (joined another keys)
+
+-- ---- gestures
+
+unfoldable pub pressed_more : Button → Gesture → Gesture
+pressed_more another gesture = record {
+  click = called another gesture.click;
+  start = gesture.start;
+  down = with_button another true gesture.down;
+}
+
+unfoldable pub released : Button → Gesture → Gesture
+released one gesture = record gesture { down = with_button one false gesture.down }
+
+-- what comes of it when the last button goes up
+unfoldable pub released_at : Option Click → Spot → Spot → Action
+released_at None start end = Nothing
+released_at (Some Mark) start end = Post (MarkAt start.x start.y)
+released_at (Some (Keys keys)) start end = Post (Point keys start.x start.y end.x end.y)

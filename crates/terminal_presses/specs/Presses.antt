@@ -1,0 +1,240 @@
+-- What was pressed, as a function of what was heard.
+use Rattle.std.specs.Prelude.{ℕ, ◌+◌, ◌-◌, ◌*◌, ◌/◌, ◌%◌, Bool, true, false, ◌==◌, ◌||◌, nat_lt, nat_le, min}
+use Rattle.std.specs.Prelude.{if◌then◌else◌, List, [], ◌∷◌, ◌++◌, Option, Some, None, slice_get}
+use Rattle.event_bytes.specs.Bytes.{lies_within, is_digit, is_text_byte}
+use Rattle.terminal_presses.specs.declared.press.Heard.{Heard}
+use Rattle.terminal_presses.specs.declared.press.Heard.TheVariants.{Byte, Quiet}
+use Rattle.terminal_presses.specs.declared.press.Button.{Button}
+use Rattle.terminal_presses.specs.declared.press.Button.TheVariants.{Left, Middle, Right}
+use Rattle.terminal_presses.specs.declared.press.Arrow.{Arrow as ArrowKey}
+use Rattle.terminal_presses.specs.declared.press.Arrow.TheVariants as arrow
+use Rattle.terminal_presses.specs.declared.press.Page.TheVariants as page
+use Rattle.terminal_presses.specs.declared.press.FunctionKey.{FunctionKey}
+use Rattle.terminal_presses.specs.declared.press.FunctionKey.TheVariants.{F1, F2, F3, F4, F5, F6, F7, F8, F9, F10}
+use Rattle.terminal_presses.specs.declared.press.Press.{Press}
+use Rattle.terminal_presses.specs.declared.press.Press.TheVariants.{Character, Foreign, Control, Back, Escape, Arrow}
+use Rattle.terminal_presses.specs.declared.press.Press.TheVariants.{Page, Function, Mouse, PasteBegins, PasteEnds, Size}
+use Rattle.terminal_presses.specs.declared.press.Press.TheVariants.{Unknown}
+use Rattle.terminal_presses.specs.declared.press.Presses.{Presses}
+use Rattle.terminal_presses.specs.declared.press.Presses.TheVariants.{Nothing, One, Two}
+use Rattle.terminal_presses.specs.declared.place.Mark.{Mark}
+use Rattle.terminal_presses.specs.declared.place.Mark.TheVariants as mark
+use Rattle.terminal_presses.specs.declared.place.Numbers.{Numbers}
+use Rattle.terminal_presses.specs.declared.place.Place.{Place}
+use Rattle.terminal_presses.specs.declared.place.Place.TheVariants as place
+use Rattle.terminal_presses.specs.declared.parser.Parser.{Parser}
+
+-- ---- bytes by themselves
+
+abbrev pub escape_byte : ℕ
+escape_byte = 27
+
+-- what a byte says that stands by itself. One from 128 to 191 goes on with a character of several bytes, which its
+-- first byte has told
+unfoldable pub single : ℕ → Option Press
+single b =
+    if b == escape_byte then Some Escape else
+    (if is_text_byte b then Some (Character b) else
+    (if (b == 8) || (b == 127) then Some Back else
+    (if nat_lt b 32 then Some (Control b) else
+    (if nat_lt b 192 then None else Some Foreign))))
+
+-- between two spellings a byte says what it says by itself, but that an escape byte may begin a longer spelling
+unfoldable pub grounded : ℕ → Place × Option Press
+grounded b = if b == escape_byte then (place.Escape, None) else (place.Ground, single b)
+
+-- one press, and what may come after it
+unfoldable pub preceded : Press → Place × Option Press → Place × Presses
+preceded press (at, None) = (at, One press)
+preceded press (at, Some next) = (at, Two press next)
+
+-- ---- keys
+
+abbrev pub function_keys : List FunctionKey
+function_keys = F1 ∷ F2 ∷ F3 ∷ F4 ∷ F5 ∷ F6 ∷ F7 ∷ F8 ∷ F9 ∷ F10 ∷ []
+
+abbrev pub arrows : List ArrowKey
+arrows = arrow.Up ∷ arrow.Down ∷ arrow.Right ∷ arrow.Left ∷ []
+
+abbrev pub buttons : List Button
+buttons = Left ∷ Middle ∷ Right ∷ []
+
+-- what a table has at a place, as a press
+abbrev pub listed : {A : Type 0} → (A → Press) → Option A → Press
+listed press None = Unknown
+listed press (Some a) = press a
+
+-- the function key at a place, counted from 0
+unfoldable pub function_at : ℕ → Press
+function_at n = listed Function (slice_get function_keys n)
+
+unfoldable pub arrow_at : ℕ → Press
+arrow_at n = listed Arrow (slice_get arrows n)
+
+-- A to D are the arrows, P to S the first four function keys
+unfoldable pub lettered : ℕ → Press
+lettered b =
+    if lies_within 65 68 b then arrow_at (b - 65) else
+    (if lies_within 80 83 b then function_at (b - 80) else Unknown)
+
+-- keys that are spelled by a number
+unfoldable pub numbered : ℕ → Press
+numbered n =
+    if lies_within 11 15 n then function_at (n - 11) else
+    (if lies_within 17 21 n then function_at (n - 12) else
+    (if n == 5 then Page page.Up else
+    (if n == 6 then Page page.Down else
+    (if n == 200 then PasteBegins else
+    (if n == 201 then PasteEnds else Unknown)))))
+
+-- ---- numbers of a sequence
+
+-- the greatest number that is told apart
+abbrev pub greatest : ℕ
+greatest = 65535
+
+-- a number with a digit more
+unfoldable pub longer : ℕ → ℕ → ℕ
+longer n digit = min (n * 10 + digit) greatest
+
+abbrev pub no_numbers : Numbers
+no_numbers = record { mark = mark.Plain; last = 0; first = 0; second = 0; third = 0 }
+
+-- the number that stands last has a digit more; those after the third don't count
+unfoldable pub with_digit : Numbers → ℕ → Numbers
+with_digit s digit =
+    if s.last == 0 then record s { first = longer s.first digit } else
+    (if s.last == 1 then record s { second = longer s.second digit } else
+    (if s.last == 2 then record s { third = longer s.third digit } else s))
+
+-- another number begins
+unfoldable pub with_number : Numbers → Numbers
+with_number s = record s { last = min (s.last + 1) 3 }
+
+-- the mark of mouse reports stands alone
+unfoldable pub marked : Numbers → Mark → Numbers
+marked s mark.Plain = record s { mark = mark.Mouse }
+marked s mark.Mouse = record s { mark = mark.Odd }
+marked s mark.Odd = record s { mark = mark.Odd }
+
+-- ---- what a whole sequence says
+
+-- a button's number has 8 more with Alt and 16 more with Ctrl; from 32 on it is a motion, a wheel or a further button
+unfoldable pub reported : Numbers → Bool → Press
+reported s is_down =
+    if nat_le 32 s.first then Unknown else
+    listed (λ button. Mouse (record {
+      button = button;
+      is_down = is_down;
+      with_alt = s.first / 8 % 2 == 1;
+      with_control = s.first / 16 % 2 == 1;
+      column = s.second;
+      row = s.third;
+    })) (slice_get buttons (s.first % 4))
+
+-- a mouse report ends with M for down and m for up
+unfoldable pub moused : Numbers → ℕ → Press
+moused s b = if b == 77 then reported s true else (if b == 109 then reported s false else Unknown)
+
+-- a size, as an answer or as news
+unfoldable pub sized : Numbers → Press
+sized s = if (s.first == 8) || (s.first == 48) then Size s.second s.third else Unknown
+
+-- a sequence with no mark ends with ~ after a key's number, with t after a size, or else with a key's letter
+unfoldable pub plain : Numbers → ℕ → Press
+plain s b = if b == 126 then numbered s.first else (if b == 116 then sized s else lettered b)
+
+-- a sequence ends with this byte. M with no mark begins a mouse report of the older form: three bytes follow
+unfoldable pub ended : Numbers → Mark → ℕ → Place × Presses
+ended s mark.Plain b = if b == 77 then (place.Report 3, Nothing) else (place.Ground, One (plain s b))
+ended s mark.Mouse b = (place.Ground, One (moused s b))
+ended s mark.Odd b = (place.Ground, One Unknown)
+
+-- ---- one byte more
+
+-- a byte that can't go on with a spelling cuts it off, and is heard anew
+unfoldable pub cut_off : ℕ → Place × Presses
+cut_off b = preceded Unknown (grounded b)
+
+abbrev pub alone : Place × Option Press → Place × Presses
+alone (at, None) = (at, Nothing)
+alone (at, Some press) = (at, One press)
+
+unfoldable pub after_ground : ℕ → Place × Presses
+after_ground b = alone (grounded b)
+
+-- the escape byte was a key of its own, unless [ or O follows
+unfoldable pub after_escape : ℕ → Place × Presses
+after_escape b =
+    if b == 91 then (place.Sequence no_numbers, Nothing) else
+    (if b == 79 then (place.Shift, Nothing) else preceded Escape (grounded b))
+
+unfoldable pub after_shift : ℕ → Place × Presses
+after_shift b = if lies_within 32 126 b then (place.Ground, One (lettered b)) else cut_off b
+
+unfoldable pub after_console : ℕ → Place × Presses
+after_console b =
+    if lies_within 65 69 b then (place.Ground, One (function_at (b - 65))) else
+    (if lies_within 32 126 b then (place.Ground, One Unknown) else cut_off b)
+
+unfoldable pub after_report : ℕ → ℕ → Place × Presses
+after_report missing b =
+    if nat_lt b 32 then cut_off b else
+    (if nat_le missing 1 then (place.Ground, One Unknown) else (place.Report (missing - 1), Nothing))
+
+-- digits, ; between numbers, < in front of a mouse report; from @ to ~ a byte ends a sequence, but [ leads to a
+-- spelling of another kind
+unfoldable pub after_sequence : Numbers → ℕ → Place × Presses
+after_sequence s b =
+    if is_digit b then (place.Sequence (with_digit s (b - 48)), Nothing) else
+    (if b == 59 then (place.Sequence (with_number s), Nothing) else
+    (if b == 60 then (place.Sequence (marked s s.mark), Nothing) else
+    (if b == 91 then (place.Console, Nothing) else
+    (if lies_within 64 126 b then ended s s.mark b else
+    (if lies_within 32 63 b then (place.Sequence (record s { mark = mark.Odd }), Nothing) else cut_off b)))))
+
+unfoldable pub after_byte : Place → ℕ → Place × Presses
+after_byte place.Ground b = after_ground b
+after_byte place.Escape b = after_escape b
+after_byte place.Shift b = after_shift b
+after_byte (place.Sequence s) b = after_sequence s b
+after_byte place.Console b = after_console b
+after_byte (place.Report missing) b = after_report missing b
+
+-- an escape byte after which no byte comes for a while was the key; all else waits for its next byte
+unfoldable pub after_quiet : Place → Place × Presses
+after_quiet place.Escape = (place.Ground, One Escape)
+after_quiet place.Ground = (place.Ground, Nothing)
+after_quiet place.Shift = (place.Shift, Nothing)
+after_quiet (place.Sequence s) = (place.Sequence s, Nothing)
+after_quiet place.Console = (place.Console, Nothing)
+after_quiet (place.Report missing) = (place.Report missing, Nothing)
+
+unfoldable pub after : Place → Heard → Place × Presses
+after at (Byte b) = after_byte at b
+after at Quiet = after_quiet at
+
+-- ---- a run
+
+-- the parser that has heard nothing
+abbrev pub at_rest : Parser
+at_rest = record { place = place.Ground }
+
+-- the parser after one thing more that it heard, and what that completes
+unfoldable pub heard_by : Parser → Heard → Parser × Presses
+heard_by parser heard = let next = after parser.place heard in (record { place = next.0 }, next.1)
+
+abbrev pub in_order : Presses → List Press
+in_order Nothing = []
+in_order (One press) = press ∷ []
+in_order (Two first second) = first ∷ second ∷ []
+
+-- the parser after all that it heard
+abbrev pub parser_after : Parser → List Heard → Parser
+parser_after parser [] = parser
+parser_after parser (heard ∷ more) = parser_after (heard_by parser heard).0 more
+
+-- what was pressed, by all that was heard
+abbrev pub pressed : Parser → List Heard → List Press
+pressed parser [] = []
+pressed parser (heard ∷ more) = in_order (heard_by parser heard).1 ++ pressed (heard_by parser heard).0 more

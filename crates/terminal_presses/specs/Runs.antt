@@ -1,0 +1,157 @@
+-- Presses one after another, and the events that they make.
+use Rattle.std.specs.Prelude.{◌≡◌, ℕ, ◌≤◌, Bool, true, false, ◌==◌, ◌||◌, if◌then◌else◌, List, [], ◌∷◌, ◌++◌}
+use Rattle.std.specs.Prelude.{length, Option, Some, None}
+use Rattle.std.specs.List.{filter_map}
+use Rattle.event_bytes.specs.Bytes.{lies_within, is_text_byte}
+use Rattle.event_bytes.specs.declared.event.Event.{Event}
+use Rattle.event_bytes.specs.declared.event.Event.TheVariants.{Typed, Mark as MarkAt, Point}
+use Rattle.event_bytes.specs.declared.keys.Keys.{Keys as MouseKeys}
+use Rattle.event_bytes.specs.declared.keys.Keys.TheVariants.{Left, LeftMiddle, LeftRight, Middle, MiddleLeft}
+use Rattle.event_bytes.specs.declared.keys.Keys.TheVariants.{MiddleRight, Right, RightLeft, RightMiddle}
+use Rattle.terminal_presses.specs.declared.press.Heard.{Heard}
+use Rattle.terminal_presses.specs.declared.press.Button.{Button}
+use Rattle.terminal_presses.specs.declared.press.Button.TheVariants as button
+use Rattle.terminal_presses.specs.declared.press.FunctionKey.{FunctionKey}
+use Rattle.terminal_presses.specs.declared.press.FunctionKey.TheVariants.{F1, F2, F3, F4, F5, F6, F7, F8, F9, F10}
+use Rattle.terminal_presses.specs.declared.press.Press.{Press}
+use Rattle.terminal_presses.specs.declared.press.Press.TheVariants.{Mouse, PasteBegins, PasteEnds}
+use Rattle.terminal_presses.specs.declared.sight.Sight.{Sight}
+use Rattle.terminal_presses.specs.declared.action.Click.{Click}
+use Rattle.terminal_presses.specs.declared.action.Click.TheVariants.{Mark, Keys}
+use Rattle.terminal_presses.specs.declared.action.Action.{Action}
+use Rattle.terminal_presses.specs.declared.action.Action.TheVariants.{Post}
+use Rattle.terminal_presses.specs.declared.hand.Hand.{Hand}
+use Rattle.terminal_presses.specs.Sights.{spot_in}
+use Rattle.terminal_presses.specs.Presses.{single}
+use Rattle.terminal_presses.specs.Hands.{handled}
+use Rattle.terminal_presses.specs.Spelling.{sequence, bytes}
+
+-- ---- runs of presses
+
+-- the hand after presses, while the same rows are in sight
+abbrev pub hand_after : Sight → Hand → List Press → Hand
+hand_after sight hand [] = hand
+hand_after sight hand (press ∷ more) = hand_after sight (handled sight press hand).0 more
+
+abbrev pub events_of : Action → List Event
+events_of (Post event) = event ∷ []
+events_of _ = []
+
+-- the events that presses make
+abbrev pub posted : Sight → Hand → List Press → List Event
+posted sight hand [] = []
+posted sight hand (press ∷ more) =
+    events_of (handled sight press hand).1 ++ posted sight (handled sight press hand).0 more
+
+-- the presses lead from one hand to the other, and make these events
+pub record Makes (sight : Sight) (hand : Hand) (presses : List Press) (next : Hand) (events : List Event) : Type 0 where
+  pub hand_is : hand_after sight hand presses ≡ next
+  pub events_are : posted sight hand presses ≡ events
+
+-- ---- buttons
+
+-- a column and a row of the terminal
+abbrev pub Corner : Type 0
+Corner = ℕ × ℕ
+
+-- a button goes down, with the keys Alt and Ctrl or without them
+abbrev pub down_with : Bool → Bool → Button → Corner → Press
+down_with alt control button at = Mouse (record {
+  button = button;
+  is_down = true;
+  with_alt = alt;
+  with_control = control;
+  column = at.0;
+  row = at.1;
+})
+
+abbrev pub down : Button → Corner → Press
+down button at = down_with false false button at
+
+abbrev pub up : Button → Corner → Press
+up button at = Mouse (record {
+  button = button;
+  is_down = false;
+  with_alt = false;
+  with_control = false;
+  column = at.0;
+  row = at.1;
+})
+
+abbrev pub alone : Button → MouseKeys
+alone button.Left = Left
+alone button.Middle = Middle
+alone button.Right = Right
+
+-- a button and another one, in the order in which they go down
+abbrev pub together : Button → Button → MouseKeys
+together button.Left button.Left = Left
+together button.Left button.Middle = LeftMiddle
+together button.Left button.Right = LeftRight
+together button.Middle button.Left = MiddleLeft
+together button.Middle button.Middle = Middle
+together button.Middle button.Right = MiddleRight
+together button.Right button.Left = RightLeft
+together button.Right button.Middle = RightMiddle
+together button.Right button.Right = Right
+
+-- the event of a click that begins and ends at these cells of the terminal
+abbrev pub clicked : Click → Sight → Corner → Corner → Event
+clicked Mark sight start end = MarkAt (spot_in sight start.0 start.1).x (spot_in sight start.0 start.1).y
+clicked (Keys keys) sight start end =
+    Point keys (spot_in sight start.0 start.1).x (spot_in sight start.0 start.1).y (spot_in sight end.0 end.1).x
+    (spot_in sight end.0 end.1).y
+
+-- the click that a function key says
+abbrev pub says : FunctionKey → Option Click
+says F1 = Some Mark
+says F2 = Some (Keys Middle)
+says F3 = Some (Keys Right)
+says F4 = Some (Keys LeftMiddle)
+says F5 = Some (Keys LeftRight)
+says F6 = Some (Keys RightLeft)
+says F7 = Some (Keys RightMiddle)
+says F8 = None
+says F9 = None
+says F10 = None
+
+-- three buttons, in some order
+pub record AreThree (a b c : Button) : Type 0 where
+  pub first_two : a ≡ b → ⊥
+  pub last_two : b ≡ c → ⊥
+  pub ends : a ≡ c → ⊥
+
+-- ---- pastes
+
+-- a byte of a text as it is pasted: a line feed and those that can be typed are themselves, and another one is a
+-- question mark; those that go on with a character of several bytes are part of its question mark
+abbrev pub typed_byte : ℕ → Option ℕ
+typed_byte b =
+    if (b == 10) || is_text_byte b then Some b else (if lies_within 128 191 b then None else Some 63)
+
+-- lines end with carriage returns: a line feed is one, but nothing right after one
+abbrev pub line_ends : Bool → List ℕ → List ℕ
+line_ends after_return [] = []
+line_ends after_return (b ∷ bs) =
+    if b == 10 then (if after_return then line_ends false bs else 13 ∷ line_ends false bs) else
+    b ∷ line_ends (b == 13) bs
+
+-- what is typed of a text that is pasted
+abbrev pub pasted_text : List ℕ → List ℕ
+pasted_text text = line_ends false (filter_map typed_byte text)
+
+-- what is heard of it
+abbrev pub pasted : List ℕ → List Heard
+pasted text = bytes (sequence (50 ∷ 48 ∷ 48 ∷ 126 ∷ [])) ++ (bytes text ++ bytes (sequence (50 ∷ 48 ∷ 49 ∷ 126 ∷ [])))
+
+-- what is pressed for it: each of its bytes as it is by itself
+abbrev pub paste_of : List ℕ → List Press
+paste_of text = PasteBegins ∷ filter_map single text ++ PasteEnds ∷ []
+
+-- the events type the text, each 900 bytes of it, but the last 1 to 900
+abbrev pub Types : List Event → List ℕ → Type 0
+Types [] text = text ≡ []
+Types (event ∷ []) text = (event ≡ Typed text) × (1 ≤ length text) × (length text ≤ 900)
+Types (event ∷ next ∷ events) text =
+    (front : List ℕ) × (rest : List ℕ) × (event ≡ Typed front) × (length front ≡ 900) × (text ≡ front ++ rest)
+    × Types (next ∷ events) rest

@@ -1,0 +1,13 @@
+-- The cells of the display that a terminal shows.
+use Rattle.std.specs.Prelude.{ℕ, ◌-◌, min}
+use Rattle.viewer_tracks.specs.declared.display.TheConstants.{COLUMNS}
+use Rattle.terminal_presses.specs.declared.sight.Sight.{Sight}
+use Rattle.terminal_presses.specs.declared.spot.Spot.{Spot}
+
+-- The cell in sight that is nearest to a column and a row of the terminal. Those count from 1 at the upper left, and
+-- the display's own from 0 at the lower left.
+unfoldable pub spot_in : Sight → ℕ → ℕ → Spot
+spot_in sight column row = record {
+  x = min (column - 1) (COLUMNS - 1);
+  y = sight.top - min (row - 1) (sight.rows - 1);
+}

@@ -1,0 +1,172 @@
+-- Which bytes spell a press.
+use Rattle.std.specs.Prelude.{◌≡◌, ℕ, ◌+◌, ◌-◌, ◌*◌, ◌<◌, ◌≤◌, ◌^◌, Bool, ◌==◌, ◌&&◌, ◌||◌, not, nat_lt}
+use Rattle.std.specs.Prelude.{if◌then◌else◌, ◌⊎◌, List, [], ◌∷◌, ◌++◌, IsTrue}
+use Rattle.std.specs.List.{list_all}
+use Rattle.event_bytes.specs.Bytes.{lies_within, is_digit, is_text_byte}
+use Rattle.terminal_presses.specs.declared.press.Heard.{Heard}
+use Rattle.terminal_presses.specs.declared.press.Heard.TheVariants.{Byte, Quiet}
+use Rattle.terminal_presses.specs.declared.press.Button.{Button}
+use Rattle.terminal_presses.specs.declared.press.Button.TheVariants.{Left, Middle, Right}
+use Rattle.terminal_presses.specs.declared.press.Arrow.{Arrow as ArrowKey}
+use Rattle.terminal_presses.specs.declared.press.Arrow.TheVariants as arrow
+use Rattle.terminal_presses.specs.declared.press.Page.{Page as PageKey}
+use Rattle.terminal_presses.specs.declared.press.Page.TheVariants as page
+use Rattle.terminal_presses.specs.declared.press.FunctionKey.{FunctionKey}
+use Rattle.terminal_presses.specs.declared.press.FunctionKey.TheVariants.{F1, F2, F3, F4, F5, F6, F7, F8, F9, F10}
+use Rattle.terminal_presses.specs.declared.press.MouseReport.{MouseReport}
+use Rattle.terminal_presses.specs.declared.press.Press.{Press}
+use Rattle.terminal_presses.specs.declared.press.Press.TheVariants.{Character, Foreign, Control, Back, Escape, Arrow}
+use Rattle.terminal_presses.specs.declared.press.Press.TheVariants.{Page, Function, Mouse, PasteBegins, PasteEnds, Size}
+use Rattle.terminal_presses.specs.declared.press.Press.TheVariants.{Unknown}
+
+-- ---- numbers
+
+-- the number that decimal digits make of one in front of them
+abbrev pub value_from : ℕ → List ℕ → ℕ
+value_from n [] = n
+value_from n (b ∷ bs) = value_from (n * 10 + (b - 48)) bs
+
+-- decimal digits, and the number that they spell
+pub record IsNumeral (n : ℕ) (digits : List ℕ) : Type 0 where
+  pub small : n < 2 ^ 16
+  pub digits_all : IsTrue (list_all is_digit digits)
+  pub value : value_from 0 digits ≡ n
+
+-- ---- forms of several numbers
+
+-- the number of a button, and 4 more with Shift, 8 with Alt, 16 with Ctrl
+abbrev pub button_number : Button → ℕ
+button_number Left = 0
+button_number Middle = 1
+button_number Right = 2
+
+abbrev pub report_number : MouseReport → Bool → ℕ
+report_number report shift =
+    button_number report.button + (if shift then 4 else 0) + (if report.with_alt then 8 else 0)
+    + (if report.with_control then 16 else 0)
+
+-- M for down, m for up
+abbrev pub report_end : Bool → ℕ
+report_end down = if down then 77 else 109
+
+-- an escape byte, [ and <, the number of what is pressed, the column, the row, and the end
+pub record IsReport (report : MouseReport) (text : List ℕ) : Type 0 where
+  pub shift : Bool
+  pub number : List ℕ
+  pub column : List ℕ
+  pub row : List ℕ
+  pub number_is : IsNumeral (report_number report shift) number
+  pub column_is : IsNumeral report.column column
+  pub row_is : IsNumeral report.row row
+  pub parts : text
+      ≡ 27 ∷ 91 ∷ 60 ∷ number ++ 59 ∷ (column ++ 59 ∷ (row ++ report_end report.is_down ∷ []))
+
+-- an escape byte, [, the number 8, the rows, the columns, and t
+pub record IsSize (rows columns : ℕ) (text : List ℕ) : Type 0 where
+  pub high : List ℕ
+  pub wide : List ℕ
+  pub rows_are : IsNumeral rows high
+  pub columns_are : IsNumeral columns wide
+  pub parts : text ≡ 27 ∷ 91 ∷ 56 ∷ 59 ∷ high ++ 59 ∷ (wide ++ 116 ∷ [])
+
+-- a character of several bytes: the first is from 192 on, and those that go on with it are from 128 to 191
+pub record IsForeign (text : List ℕ) : Type 0 where
+  pub first : ℕ
+  pub rest : List ℕ
+  pub high : 192 ≤ first
+  pub goes_on : IsTrue (list_all (lies_within 128 191) rest)
+  pub parts : text ≡ first ∷ rest
+
+-- ---- keys
+
+-- a byte that is no key of its own and can't be typed
+abbrev pub is_control : ℕ → Bool
+is_control b = nat_lt b 32 && not (is_text_byte b || ((b == 8) || (b == 27)))
+
+-- an escape byte and [, and those bytes
+abbrev pub sequence : List ℕ → List ℕ
+sequence bytes = 27 ∷ 91 ∷ bytes
+
+-- an escape byte and O, and that letter
+abbrev pub shifted : ℕ → List ℕ
+shifted letter = 27 ∷ 79 ∷ letter ∷ []
+
+-- an escape byte and [, and that letter
+abbrev pub letter_alone : ℕ → List ℕ
+letter_alone letter = sequence (letter ∷ [])
+
+abbrev pub arrow_letter : ArrowKey → ℕ
+arrow_letter arrow.Up = 65
+arrow_letter arrow.Down = 66
+arrow_letter arrow.Right = 67
+arrow_letter arrow.Left = 68
+
+abbrev pub page_spelling : PageKey → List ℕ
+page_spelling page.Up = sequence (53 ∷ 126 ∷ [])
+page_spelling page.Down = sequence (54 ∷ 126 ∷ [])
+
+-- the first four keys have a letter, which terminals spell in two ways
+abbrev pub by_letter : ℕ → List (List ℕ) → List (List ℕ)
+by_letter letter others = shifted letter ∷ letter_alone letter ∷ others
+
+-- a number of two digits
+abbrev pub by_number : ℕ → ℕ → List ℕ
+by_number ten one = sequence (ten ∷ one ∷ 126 ∷ [])
+
+-- the console of Linux has letters of its own for the first five
+abbrev pub by_console : ℕ → List ℕ
+by_console letter = sequence (91 ∷ letter ∷ [])
+
+abbrev pub function_spellings : FunctionKey → List (List ℕ)
+function_spellings F1 = by_letter 80 (by_number 49 49 ∷ by_console 65 ∷ [])
+function_spellings F2 = by_letter 81 (by_number 49 50 ∷ by_console 66 ∷ [])
+function_spellings F3 = by_letter 82 (by_number 49 51 ∷ by_console 67 ∷ [])
+function_spellings F4 = by_letter 83 (by_number 49 52 ∷ by_console 68 ∷ [])
+function_spellings F5 = by_number 49 53 ∷ by_console 69 ∷ []
+function_spellings F6 = by_number 49 55 ∷ []
+function_spellings F7 = by_number 49 56 ∷ []
+function_spellings F8 = by_number 49 57 ∷ []
+function_spellings F9 = by_number 50 48 ∷ []
+function_spellings F10 = by_number 50 49 ∷ []
+
+-- ---- presses
+
+abbrev pub IsOneOf : List (List ℕ) → List ℕ → Type 0
+IsOneOf [] text = ⊥
+IsOneOf (one ∷ others) text = (text ≡ one) ⊎ IsOneOf others text
+
+-- the bytes that spell a press; those of the key Escape are told apart by what comes after them
+abbrev pub Spells : Press → List ℕ → Type 0
+Spells (Character b) text = IsTrue (is_text_byte b) × (text ≡ b ∷ [])
+Spells Foreign text = IsForeign text
+Spells (Control b) text = IsTrue (is_control b) × (text ≡ b ∷ [])
+Spells Back text = IsOneOf ((8 ∷ []) ∷ (127 ∷ []) ∷ []) text
+Spells Escape text = ⊥
+Spells (Arrow key) text = IsOneOf (letter_alone (arrow_letter key) ∷ shifted (arrow_letter key) ∷ []) text
+Spells (Page key) text = text ≡ page_spelling key
+Spells (Function key) text = IsOneOf (function_spellings key) text
+Spells (Mouse report) text = IsReport report text
+Spells PasteBegins text = text ≡ sequence (50 ∷ 48 ∷ 48 ∷ 126 ∷ [])
+Spells PasteEnds text = text ≡ sequence (50 ∷ 48 ∷ 49 ∷ 126 ∷ [])
+Spells (Size rows columns) text = IsSize rows columns text
+Spells Unknown text = ⊥
+
+-- bytes, as they are heard one after another
+abbrev pub bytes : List ℕ → List Heard
+bytes [] = []
+bytes (b ∷ bs) = Byte b ∷ bytes bs
+
+-- What is heard of one press: the bytes that spell it, or of the key Escape its byte before a quiet while.
+pub record IsSpelled (press : Press) (heard : List Heard) : Type 0 where
+  pub text : List ℕ
+  pub spells : Spells press text
+  pub is : heard ≡ bytes text
+
+abbrev pub IsHeard : Press → List Heard → Type 0
+IsHeard press heard = IsSpelled press heard ⊎ ((press ≡ Escape) × (heard ≡ Byte 27 ∷ Quiet ∷ []))
+
+-- what is heard of presses, one after another
+abbrev pub AreHeard : List Press → List Heard → Type 0
+AreHeard [] heard = heard ≡ []
+AreHeard (press ∷ presses) heard =
+    (front : List Heard) × (rest : List Heard) × IsHeard press front × AreHeard presses rest × (heard ≡ front ++ rest)

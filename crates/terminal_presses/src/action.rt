@@ -1,0 +1,36 @@
+//! What a press comes to.
+
+use crate::press::{Arrow, Page};
+use event_bytes::{Event, Keys};
+
+/// What the next click is to be, or one that has begun.
+#[derive(Clone, Copy, Debug, PartialEq, Eq)]
+pub enum Click {
+    /// It sets the marker.
+    Mark,
+    /// It is a click with these keys of the mouse.
+    Keys(Keys),
+}
+
+/// What a press comes to.
+#[derive(Debug, PartialEq, Eq, Drop)]
+pub enum Action {
+    /// Nothing yet, or nothing at all.
+    Nothing,
+    /// The event happens to the desktop.
+    Post(Event),
+    /// It can't be done: the terminal rings.
+    Ring,
+    /// All that the terminal shows is shown anew, and its size is asked for.
+    LookAnew,
+    /// The person leaves.
+    Leave,
+    /// The person is asked for a host file, which is typed at the caret.
+    AskFile,
+    /// Other rows of the display come into sight.
+    Move(Page),
+    /// A click beside the caret, as the screen has it.
+    Step(Arrow),
+    /// The terminal has so many rows, and so many columns.
+    Fit(u16, u16),
+}

@@ -1,0 +1,258 @@
+//! The events that presses make.
+ghost use Rattle.std.specs.Prelude.{◌≡◌};
+ghost use Rattle.terminal_presses.specs.Hands.{new_hand, handled, pasting as pasting_by, fresh, escaped as escaped_by};
+ghost use Rattle.terminal_presses.specs.Hands.{controlled as controlled_by, control as control_says, by_function};
+ghost use Rattle.terminal_presses.specs.Hands.{reported as reported_by, gone_down, gone_up, begun};
+ghost use Rattle.terminal_presses.specs.Hands.{meant as click_meant};
+
+use crate::action::{Action, Click};
+use crate::gesture::{Buttons, Gesture};
+use crate::paste::{LINE_FEED, Paste, typed};
+use crate::press::{Button, FunctionKey, MouseReport, Press};
+use crate::sight::Sight;
+use crate::spot::Spot;
+use event_bytes::{CARRIAGE_RETURN, Event, Key, Keys};
+
+/// The byte of Ctrl-C.
+const CONTROL_C: u8 = 3;
+/// The byte of Ctrl-G.
+const CONTROL_G: u8 = 7;
+/// The byte of Ctrl-L.
+const CONTROL_L: u8 = 12;
+/// The byte of Ctrl-O.
+const CONTROL_O: u8 = 15;
+/// The byte of Ctrl-Q.
+const CONTROL_Q: u8 = 17;
+/// The byte of Ctrl-V.
+const CONTROL_V: u8 = 22;
+/// The byte of Ctrl-X.
+const CONTROL_X: u8 = 24;
+
+/// What was pressed so far, as far as later events depend on it.
+#[derive(Debug, PartialEq, Eq, Drop)]
+pub struct Hand {
+    armed: Option<Click>,
+    gesture: Option<Gesture>,
+    paste: Option<Paste>,
+}
+
+impl Hand {
+    /// A hand that has pressed nothing.
+    pub fn new() -> Hand
+        ensures { result ≡ new_hand }
+    {
+        Hand {
+            armed: None,
+            gesture: None,
+            paste: None,
+        }
+    }
+
+    /// What the next click is to be, where a function key has said so.
+    pub fn armed(&self) -> Option<Click>
+        ensures { result ≡ self.now.armed }
+    {
+        self.armed
+    }
+
+    /// What a press comes to, where this part of the display is in sight.
+    #[tactic(auto, unfolding(crate::specs::Hands::handled))]
+    pub fn take(&mut self, sight: Sight, press: Press) -> Action
+        ensures hand { self.new ≡ (handled sight press self.old).0 }
+        ensures action { result ≡ (handled sight press self.old).1 }
+    {
+        if self.paste.is_some() {
+            self.pasting(press)
+        } else {
+            self.fresh(sight, press)
+        }
+    }
+
+    /// What a press comes to while a paste goes on.
+    #[tactic(auto, unfolding(crate::specs::Hands::pasting))]
+    fn pasting(&mut self, press: Press) -> Action
+        ensures hand { self.new ≡ (pasting_by self.old.paste press self.old).0 }
+        ensures action { result ≡ (pasting_by self.old.paste press self.old).1 }
+    {
+        let Some(paste) = &mut self.paste else {
+            return Action::Nothing;
+        };
+        if !matches!(press, Press::PasteEnds) {
+            return paste.take(press);
+        }
+        let action = paste.ended();
+        self.paste = None;
+        action
+    }
+
+    /// What a press comes to while nothing is pasted.
+    #[tactic(auto, unfolding(crate::specs::Hands::fresh))]
+    fn fresh(&mut self, sight: Sight, press: Press) -> Action
+        ensures hand { self.new ≡ (fresh sight press self.old).0 }
+        ensures action { result ≡ (fresh sight press self.old).1 }
+    {
+        match press {
+            Press::Character(byte) => typed(&[byte]),
+            Press::Foreign => Action::Ring,
+            Press::Control(byte) => self.controlled(byte),
+            Press::Back => Action::Post(Event::Key(Key::Back)),
+            Press::Escape => self.escaped(),
+            Press::Arrow(arrow) => Action::Step(arrow),
+            Press::Page(page) => Action::Move(page),
+            Press::Function(key) => self.function(key),
+            Press::Mouse(report) => self.reported(sight, report),
+            Press::PasteBegins => {
+                self.paste = Some(Paste::new());
+                Action::Nothing
+            }
+            Press::PasteEnds | Press::Unknown => Action::Nothing,
+            Press::Size(rows, columns) => Action::Fit(rows, columns),
+        }
+    }
+
+    /// The key Escape. The next click is what it says by itself.
+    #[tactic(auto, unfolding(crate::specs::Hands::escaped))]
+    fn escaped(&mut self) -> Action
+        ensures hand { self.new ≡ (escaped_by self.old).0 }
+        ensures action { result ≡ (escaped_by self.old).1 }
+    {
+        self.armed = None;
+        Action::Post(Event::Key(Key::Escape))
+    }
+
+    /// What the key Ctrl comes to with a letter.
+    #[tactic(auto, unfolding(crate::specs::Hands::controlled))]
+    fn controlled(&mut self, byte: u8) -> Action
+        ensures hand { self.new ≡ (controlled_by byte self.old).0 }
+        ensures action { result ≡ (controlled_by byte self.old).1 }
+    {
+        if byte == CONTROL_G {
+            self.escaped()
+        } else {
+            control(byte)
+        }
+    }
+
+    /// What a function key comes to.
+    #[tactic(auto, unfolding(crate::specs::Hands::by_function))]
+    fn function(&mut self, key: FunctionKey) -> Action
+        ensures hand { self.new ≡ (by_function key self.old).0 }
+        ensures action { result ≡ (by_function key self.old).1 }
+    {
+        let click = match key {
+            FunctionKey::F1 => Click::Mark,
+            FunctionKey::F2 => Click::Keys(Keys::Middle),
+            FunctionKey::F3 => Click::Keys(Keys::Right),
+            FunctionKey::F4 => Click::Keys(Keys::LeftMiddle),
+            FunctionKey::F5 => Click::Keys(Keys::LeftRight),
+            FunctionKey::F6 => Click::Keys(Keys::RightLeft),
+            FunctionKey::F7 => Click::Keys(Keys::RightMiddle),
+            FunctionKey::F8 => return Action::AskFile,
+            FunctionKey::F9 => return Action::LookAnew,
+            FunctionKey::F10 => return Action::Leave,
+        };
+        self.armed = Some(click);
+        Action::Nothing
+    }
+
+    /// What a report of the mouse comes to.
+    #[tactic(auto, unfolding(crate::specs::Hands::reported))]
+    fn reported(&mut self, sight: Sight, report: MouseReport) -> Action
+        ensures hand { self.new ≡ (reported_by sight report self.old).0 }
+        ensures action { result ≡ (reported_by sight report self.old).1 }
+    {
+        let spot = Spot::nearest(sight, report.column, report.row);
+        if report.is_down {
+            self.go_down(report, spot);
+            Action::Nothing
+        } else {
+            self.go_up(report.button, spot)
+        }
+    }
+
+    /// A button goes down.
+    #[tactic(auto, unfolding(crate::specs::Hands::gone_down))]
+    fn go_down(&mut self, report: MouseReport, spot: Spot)
+        ensures { self.new ≡ gone_down self.old.gesture report spot self.old }
+    {
+        let Some(gesture) = self.gesture else {
+            self.begin(report, spot);
+            return;
+        };
+        if gesture.down.has(report.button) {
+            self.begin(report, spot);
+        } else {
+            self.gesture = Some(gesture.pressed(report.button));
+        }
+    }
+
+    /// A gesture begins. One whose end was lost is forgotten.
+    #[tactic(auto, unfolding(crate::specs::Hands::begun))]
+    fn begin(&mut self, report: MouseReport, spot: Spot)
+        ensures { self.new ≡ begun report spot self.old }
+    {
+        let click = meant(self.armed, report);
+        self.armed = None;
+        self.gesture = Some(Gesture {
+            click: Some(click),
+            start: spot,
+            down: Buttons::none().with(report.button, true),
+        });
+    }
+
+    /// A button goes up.
+    #[tactic(auto, unfolding(crate::specs::Hands::gone_up, crate::specs::Hands::rested))]
+    fn go_up(&mut self, button: Button, spot: Spot) -> Action
+        ensures hand { self.new ≡ (gone_up self.old.gesture button spot self.old).0 }
+        ensures action { result ≡ (gone_up self.old.gesture button spot self.old).1 }
+    {
+        let Some(gesture) = self.gesture else {
+            return Action::Nothing;
+        };
+        let gesture = gesture.released(button);
+        if gesture.down.is_empty() {
+            self.gesture = None;
+            return gesture.ended_at(spot);
+        }
+        self.gesture = Some(gesture);
+        Action::Nothing
+    }
+}
+
+/// What a click is that begins so: the left button is the middle one with Alt and the right one with Ctrl, and is
+/// without them what a function key has said.
+#[tactic(auto, unfolding(crate::specs::Hands::meant))]
+fn meant(armed: Option<Click>, report: MouseReport) -> Click
+    ensures { result ≡ click_meant report.button report armed }
+{
+    match report.button {
+        Button::Left => {
+            if report.with_alt {
+                Click::Keys(Keys::Middle)
+            } else if report.with_control {
+                Click::Keys(Keys::Right)
+            } else {
+                armed.unwrap_or(Click::Keys(Keys::Left))
+            }
+        }
+        Button::Middle => Click::Keys(Keys::Middle),
+        Button::Right => Click::Keys(Keys::Right),
+    }
+}
+
+/// What the key Ctrl comes to with a letter that says nothing to the hand itself.
+#[tactic(auto, unfolding(crate::specs::Hands::control))]
+fn control(byte: u8) -> Action
+    ensures { result ≡ control_says byte }
+{
+    match byte {
+        CONTROL_C => Action::Post(Event::Key(Key::Copy)),
+        LINE_FEED => typed(&[CARRIAGE_RETURN]),
+        CONTROL_L => Action::LookAnew,
+        CONTROL_O => Action::AskFile,
+        CONTROL_Q => Action::Leave,
+        CONTROL_V => Action::Post(Event::Key(Key::Paste)),
+        CONTROL_X => Action::Post(Event::Key(Key::Cut)),
+        _ => Action::Ring,
+    }
+}

@@ -1,0 +1,107 @@
+//! What holds of all presses.
+ghost use Rattle.std.specs.Prelude.{◌≡◌, ℕ, ◌+◌, ◌<◌, ◌≤◌, Bool, true, false, ◌==◌, not, List, [], ◌∷◌, ◌++◌};
+ghost use Rattle.std.specs.Prelude.{IsTrue, Some};
+ghost use Rattle.std.specs.List.{list_all};
+ghost use Rattle.event_bytes.specs.declared.keys.Keys.TheVariants as keys;
+ghost use Rattle.terminal_presses.specs.declared.press.Heard.{Heard};
+ghost use Rattle.terminal_presses.specs.declared.press.Heard.TheVariants.{Byte};
+ghost use Rattle.terminal_presses.specs.declared.press.Button.{Button};
+ghost use Rattle.terminal_presses.specs.declared.press.Button.TheVariants.{Left};
+ghost use Rattle.terminal_presses.specs.declared.press.FunctionKey.{FunctionKey};
+ghost use Rattle.terminal_presses.specs.declared.press.Press.{Press};
+ghost use Rattle.terminal_presses.specs.declared.press.Press.TheVariants.{Escape, Function};
+ghost use Rattle.terminal_presses.specs.declared.action.Click.{Click};
+ghost use Rattle.terminal_presses.specs.declared.action.Click.TheVariants.{Keys};
+ghost use Rattle.terminal_presses.specs.declared.sight.Sight.{Sight};
+ghost use Rattle.terminal_presses.specs.declared.parser.Parser.{Parser};
+ghost use Rattle.terminal_presses.specs.declared.hand.Hand.{Hand};
+ghost use Rattle.viewer_tracks.specs.declared.display.TheConstants.{COLUMNS};
+ghost use Rattle.terminal_presses.specs.Sights.{spot_in};
+ghost use Rattle.terminal_presses.specs.Presses.{at_rest, parser_after, pressed};
+ghost use Rattle.terminal_presses.specs.Spelling.{AreHeard};
+ghost use Rattle.terminal_presses.specs.Hands.{new_hand, idle};
+ghost use Rattle.terminal_presses.specs.Runs.{hand_after, posted, Makes, Corner, down_with, down, up, alone, together};
+ghost use Rattle.terminal_presses.specs.Runs.{clicked, says, AreThree, paste_of, pasted_text, pasted, Types};
+
+/// It is one whether what is heard comes in one piece or in two, and so in many: what is pressed of both is what is
+/// pressed of the first, and then what the parser that has heard it makes of the second. So are the events of presses.
+pub fn pieces_do_not_matter()
+    ensures presses { (parser : Parser) (first second : List Heard)
+        → pressed parser (first ++ second) ≡ pressed parser first ++ pressed (parser_after parser first) second }
+    ensures parser { (parser : Parser) (first second : List Heard)
+        → parser_after parser (first ++ second) ≡ parser_after (parser_after parser first) second }
+    ensures events { (sight : Sight) (hand : Hand) (first second : List Press)
+        → posted sight hand (first ++ second)
+        ≡ posted sight hand first ++ posted sight (hand_after sight hand first) second }
+    ensures hand { (sight : Sight) (hand : Hand) (first second : List Press)
+        → hand_after sight hand (first ++ second) ≡ hand_after sight (hand_after sight hand first) second }
+{}
+
+/// Presses that are spelled one after another are found again, and nothing of them is left in the parser. The key
+/// Escape is found without a quiet while too, where neither `[` nor `O` follows.
+pub fn spelled_presses_are_found()
+    ensures presses { (presses : List Press) (heard : List Heard) → AreHeard presses heard
+        → pressed at_rest heard ≡ presses }
+    ensures parser { (presses : List Press) (heard : List Heard) → AreHeard presses heard
+        → parser_after at_rest heard ≡ at_rest }
+    ensures escape { (b : ℕ) (more : List Heard) → (b ≡ 91 → ⊥) → (b ≡ 79 → ⊥)
+        → pressed at_rest (Byte 27 ∷ Byte b ∷ more) ≡ Escape ∷ pressed at_rest (Byte b ∷ more) }
+{}
+
+/// The cell that a terminal's column and row mean is in sight; where they show a cell, it is that one.
+pub fn spots_are_in_sight()
+    ensures column { (sight : Sight) (column row : ℕ) → (spot_in sight column row).x < COLUMNS }
+    ensures row { (sight : Sight) (column row : ℕ) → (spot_in sight column row).y ≤ sight.top
+        × sight.top < (spot_in sight column row).y + sight.rows }
+    ensures same_column { (sight : Sight) (column row : ℕ) → 1 ≤ column → column ≤ COLUMNS
+        → (spot_in sight column row).x + 1 ≡ column }
+    ensures same_row { (sight : Sight) (column row : ℕ) → 1 ≤ row → row ≤ sight.rows
+        → (spot_in sight column row).y + row ≡ sight.top + 1 }
+{}
+
+/// One or two buttons that go down and are all up again, whichever goes up first, are one event: the keys as they went
+/// down, the cell of the first press and that of the last release. Three are none. The hand is then as it was.
+pub fn buttons_make_one_point()
+    ensures one { (sight : Sight) (button : Button) (start end : Corner)
+        → Makes sight new_hand (down button start ∷ up button end ∷ []) new_hand
+        (clicked (Keys (alone button)) sight start end ∷ []) }
+    ensures two { (sight : Sight) (first second : Button) (start p q end : Corner) → (first ≡ second → ⊥)
+        → Makes sight new_hand (down first start ∷ down second p ∷ up first q ∷ up second end ∷ []) new_hand
+        (clicked (Keys (together first second)) sight start end ∷ []) }
+    ensures two_turned { (sight : Sight) (first second : Button) (start p q end : Corner) → (first ≡ second → ⊥)
+        → Makes sight new_hand (down first start ∷ down second p ∷ up second q ∷ up first end ∷ []) new_hand
+        (clicked (Keys (together first second)) sight start end ∷ []) }
+    ensures three { (sight : Sight) (a b c x y z : Button) (start p q r s end : Corner)
+        → AreThree a b c → AreThree x y z
+        → Makes sight new_hand (down a start ∷ down b p ∷ down c q ∷ up x r ∷ up y s ∷ up z end ∷ []) new_hand [] }
+{}
+
+/// With the left button alone there is every click: with Alt it is the middle one, with Ctrl the right one, and after a
+/// function key it is what that says.
+pub fn one_button_is_enough()
+    ensures alt { (sight : Sight) (control : Bool) (start end : Corner)
+        → Makes sight new_hand (down_with true control Left start ∷ up Left end ∷ []) new_hand
+        (clicked (Keys keys.Middle) sight start end ∷ []) }
+    ensures control { (sight : Sight) (start end : Corner)
+        → Makes sight new_hand (down_with false true Left start ∷ up Left end ∷ []) new_hand
+        (clicked (Keys keys.Right) sight start end ∷ []) }
+    ensures function { (sight : Sight) (key : FunctionKey) (click : Click) (start end : Corner)
+        → says key ≡ Some click
+        → Makes sight new_hand (Function key ∷ down Left start ∷ up Left end ∷ []) new_hand
+        (clicked click sight start end ∷ []) }
+{}
+
+/// The events of a paste type the pasted text, each 900 bytes of it, but the last. So do those of a host file, whose
+/// bytes are what each says by itself. Nothing of the text is left, and the hand is as it was.
+pub fn pastes_are_typed()
+    ensures paste { (sight : Sight) (hand : Hand) (text : List ℕ) → IsTrue (list_all (λ b. not (b == 27)) text)
+        → Types (posted sight (idle hand) (pressed at_rest (pasted text))) (pasted_text text) }
+    ensures presses { (text : List ℕ) → IsTrue (list_all (λ b. not (b == 27)) text)
+        → pressed at_rest (pasted text) ≡ paste_of text }
+    ensures parser { (text : List ℕ) → IsTrue (list_all (λ b. not (b == 27)) text)
+        → parser_after at_rest (pasted text) ≡ at_rest }
+    ensures file { (sight : Sight) (hand : Hand) (text : List ℕ)
+        → Types (posted sight (idle hand) (paste_of text)) (pasted_text text) }
+    ensures hand { (sight : Sight) (hand : Hand) (text : List ℕ)
+        → hand_after sight (idle hand) (paste_of text) ≡ idle hand }
+{}

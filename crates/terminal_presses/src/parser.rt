@@ -1,0 +1,187 @@
+//! The bytes of a terminal, told apart as presses one by one: so it is one whether they come in one piece or in many.
+ghost use Rattle.std.specs.Prelude.{◌≡◌};
+ghost use Rattle.terminal_presses.specs.Presses.{grounded, preceded, cut_off, after_ground, after_escape, after_shift};
+ghost use Rattle.terminal_presses.specs.Presses.{after_console, after_report, after_sequence, after_byte, after_quiet};
+ghost use Rattle.terminal_presses.specs.Presses.{at_rest, heard_by};
+
+use crate::place::{Mark, Numbers, Place};
+use crate::press::{Heard, Press, Presses};
+use crate::sequence::{function, lettered};
+use crate::single::ESCAPE;
+use event_bytes::is_digit;
+
+/// What was heard of a terminal so far, as far as later presses depend on it.
+#[derive(Clone, Copy, Debug, PartialEq, Eq)]
+pub struct Parser {
+    place: Place,
+}
+
+impl Parser {
+    /// A parser that has heard nothing.
+    pub fn new() -> Parser
+        ensures { result ≡ at_rest }
+    {
+        Parser {
+            place: Place::Ground,
+        }
+    }
+
+    /// Hears a byte, or that none came for a while. Returns what that completes.
+    #[tactic(auto, unfolding(crate::specs::Presses::heard_by, crate::specs::Presses::after))]
+    pub fn take(&mut self, heard: Heard) -> Presses
+        ensures parser { self.new ≡ (heard_by self.old heard).0 }
+        ensures presses { result ≡ (heard_by self.old heard).1 }
+    {
+        let (place, presses) = match heard {
+            Heard::Byte(byte) => after_byte(self.place, byte),
+            Heard::Quiet => after_quiet(self.place),
+        };
+        self.place = place;
+        presses
+    }
+}
+
+/// Where one stands after a byte more, and what it completes.
+#[tactic(auto, unfolding(crate::specs::Presses::after_byte))]
+fn after_byte(place: Place, byte: u8) -> (Place, Presses)
+    ensures { result ≡ after_byte place byte }
+{
+    match place {
+        Place::Ground => after_ground(byte),
+        Place::Escape => after_escape(byte),
+        Place::Shift => after_shift(byte),
+        Place::Sequence(numbers) => after_sequence(numbers, byte),
+        Place::Console => after_console(byte),
+        Place::Report(missing) => after_report(missing, byte),
+    }
+}
+
+/// Where one stands after a quiet while: an escape byte was the key, and all else waits for its next byte.
+#[tactic(auto, unfolding(crate::specs::Presses::after_quiet))]
+fn after_quiet(place: Place) -> (Place, Presses)
+    ensures { result ≡ after_quiet place }
+{
+    match place {
+        Place::Escape => (Place::Ground, Presses::One(Press::Escape)),
+        waiting => (waiting, Presses::Nothing),
+    }
+}
+
+/// What a byte says between two spellings.
+#[tactic(auto, unfolding(crate::specs::Presses::grounded))]
+fn grounded(byte: u8) -> (Place, Option<Press>)
+    ensures { result ≡ grounded byte }
+{
+    if byte == ESCAPE {
+        (Place::Escape, None)
+    } else {
+        (Place::Ground, Press::of_byte(byte))
+    }
+}
+
+/// One press, and what may come after it.
+#[tactic(auto, unfolding(crate::specs::Presses::preceded))]
+fn preceded(press: Press, next: (Place, Option<Press>)) -> (Place, Presses)
+    ensures { result ≡ preceded press next }
+{
+    match next {
+        (place, None) => (place, Presses::One(press)),
+        (place, Some(second)) => (place, Presses::Two(press, second)),
+    }
+}
+
+/// The byte can't go on with the spelling that it stands in, and is heard anew.
+#[tactic(auto, unfolding(crate::specs::Presses::cut_off))]
+fn cut_off(byte: u8) -> (Place, Presses)
+    ensures { result ≡ cut_off byte }
+{
+    preceded(Press::Unknown, grounded(byte))
+}
+
+#[tactic(auto, unfolding(crate::specs::Presses::after_ground))]
+fn after_ground(byte: u8) -> (Place, Presses)
+    ensures { result ≡ after_ground byte }
+{
+    match grounded(byte) {
+        (place, None) => (place, Presses::Nothing),
+        (place, Some(press)) => (place, Presses::One(press)),
+    }
+}
+
+#[tactic(auto, unfolding(crate::specs::Presses::after_escape))]
+fn after_escape(byte: u8) -> (Place, Presses)
+    ensures { result ≡ after_escape byte }
+{
+    if byte == b'[' {
+        (Place::Sequence(Numbers::none()), Presses::Nothing)
+    } else if byte == b'O' {
+        (Place::Shift, Presses::Nothing)
+    } else {
+        preceded(Press::Escape, grounded(byte))
+    }
+}
+
+#[tactic(auto, unfolding(crate::specs::Presses::after_shift))]
+fn after_shift(byte: u8) -> (Place, Presses)
+    ensures { result ≡ after_shift byte }
+{
+    if 32 <= byte && byte <= 126 {
+        (Place::Ground, Presses::One(lettered(byte)))
+    } else {
+        cut_off(byte)
+    }
+}
+
+#[tactic(auto, unfolding(crate::specs::Presses::after_console))]
+fn after_console(byte: u8) -> (Place, Presses)
+    ensures { result ≡ after_console byte }
+{
+    if b'A' <= byte && byte <= b'E' {
+        (Place::Ground, Presses::One(function(byte - b'A')))
+    } else if 32 <= byte && byte <= 126 {
+        (Place::Ground, Presses::One(Press::Unknown))
+    } else {
+        cut_off(byte)
+    }
+}
+
+#[tactic(auto, unfolding(crate::specs::Presses::after_report))]
+fn after_report(missing: u8, byte: u8) -> (Place, Presses)
+    ensures { result ≡ after_report missing byte }
+{
+    if byte < 32 {
+        cut_off(byte)
+    } else if missing <= 1 {
+        (Place::Ground, Presses::One(Press::Unknown))
+    } else {
+        (Place::Report(missing - 1), Presses::Nothing)
+    }
+}
+
+#[tactic(auto, unfolding(crate::specs::Presses::after_sequence, event_bytes::specs::Bytes::is_digit))]
+fn after_sequence(numbers: Numbers, byte: u8) -> (Place, Presses)
+    ensures { result ≡ after_sequence numbers byte }
+{
+    if is_digit(byte) {
+        (
+            Place::Sequence(numbers.with_digit(byte - b'0')),
+            Presses::Nothing,
+        )
+    } else if byte == b';' {
+        (Place::Sequence(numbers.with_number()), Presses::Nothing)
+    } else if byte == b'<' {
+        (Place::Sequence(numbers.marked()), Presses::Nothing)
+    } else if byte == b'[' {
+        (Place::Console, Presses::Nothing)
+    } else if 64 <= byte && byte <= 126 {
+        numbers.ended(byte)
+    } else if 32 <= byte && byte <= 63 {
+        let odd = Numbers {
+            mark: Mark::Odd,
+            ..numbers
+        };
+        (Place::Sequence(odd), Presses::Nothing)
+    } else {
+        cut_off(byte)
+    }
+}

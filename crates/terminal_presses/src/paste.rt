@@ -1,0 +1,178 @@
+//! What is pasted, on its way into events.
+ghost use Rattle.std.specs.Prelude.{◌≡◌, [], IsTrue};
+ghost use Rattle.event_bytes.specs.Bytes.{is_text_byte as text_byte};
+ghost use Rattle.terminal_presses.specs.Pastes.{typed as typed_by, added, in_profile as profile_byte, pasted_byte};
+ghost use Rattle.terminal_presses.specs.Pastes.{new_paste, with_byte, fed as line_fed, pasted_more, pasted_if_any};
+
+use crate::action::Action;
+use crate::press::Press;
+use arrayvec::ArrayVec;
+use event_bytes::{CARRIAGE_RETURN, Event, TypedBytes, is_text_byte};
+use std::marker::Model;
+
+/// The most bytes that one event types.
+const MOST: usize = 900;
+
+/// The byte of a line feed.
+pub(crate) const LINE_FEED: u8 = 10;
+
+/// Bytes that can be typed, too few for an event of their own unless nothing follows. A clause sees the list of them.
+#[derive(Debug, PartialEq, Eq, Drop)]
+pub(crate) struct Pasted {
+    bytes: ArrayVec<u8, MOST>,
+}
+
+impl Model for Pasted {
+    ghost use Rattle.std.specs.Prelude.{ℕ, List, IsTrue, length, ◌<◌};
+    ghost use Rattle.event_bytes.specs.Bytes.{is_file_bytes};
+
+    ghost Value = { List ℕ };
+
+    ghost view = { λ p. p.bytes.items };
+
+    ghost invariant = { λ p. IsTrue (is_file_bytes p.bytes.items) × (length p.bytes.items < 900) };
+
+    ghost inverse = { λ bytes. record { bytes = record { items = bytes } } };
+}
+
+impl Pasted {
+    /// No bytes.
+    pub fn none() -> Pasted
+        ensures { result ≡ [] }
+    {
+        Pasted {
+            bytes: ArrayVec::new(),
+        }
+    }
+
+    /// Adds a byte. With 900 bytes they are what is typed, and none are left.
+    #[tactic(auto, unfolding(crate::specs::Pastes::added))]
+    pub fn add(&mut self, byte: u8) -> Action
+        requires { IsTrue (text_byte byte) }
+        ensures bytes { self.new ≡ (added byte self.old).0 }
+        ensures action { result ≡ (added byte self.old).1 }
+    {
+        self.bytes.push(byte);
+        if self.bytes.len() < MOST {
+            return Action::Nothing;
+        }
+        let action = typed(self.bytes.as_slice());
+        self.bytes.clear();
+        action
+    }
+
+    /// The bytes are what is typed; nothing where there are none.
+    pub fn typed(&self) -> Action
+        ensures { result ≡ typed_by self.now }
+    {
+        typed(self.bytes.as_slice())
+    }
+}
+
+/// What is pasted, as far as it is in no event yet.
+#[derive(Debug, PartialEq, Eq, Drop)]
+pub(crate) struct Paste {
+    /// Whether a carriage return came last, so that a line feed is nothing more.
+    after_return: bool,
+    bytes: Pasted,
+}
+
+impl Paste {
+    /// Nothing is pasted yet.
+    pub fn new() -> Paste
+        ensures { result ≡ new_paste }
+    {
+        Paste {
+            after_return: false,
+            bytes: Pasted::none(),
+        }
+    }
+
+    /// Something is pressed while a paste goes on.
+    pub fn take(&mut self, press: Press) -> Action
+        ensures paste { self.new ≡ (pasted_if_any (pasted_byte press) self.old).0 }
+        ensures action { result ≡ (pasted_if_any (pasted_byte press) self.old).1 }
+    {
+        match byte_of(press) {
+            None => Action::Nothing,
+            Some(byte) => self.add(byte),
+        }
+    }
+
+    /// A byte more is pasted.
+    #[tactic(auto, unfolding(crate::specs::Pastes::pasted_more))]
+    fn add(&mut self, byte: u8) -> Action
+        ensures paste { self.new ≡ (pasted_more byte self.old).0 }
+        ensures action { result ≡ (pasted_more byte self.old).1 }
+    {
+        if byte == LINE_FEED {
+            self.feed()
+        } else {
+            self.add_typed(in_profile(byte), byte == CARRIAGE_RETURN)
+        }
+    }
+
+    /// A line feed is a carriage return, but nothing right after one.
+    #[tactic(auto, unfolding(crate::specs::Pastes::fed, event_bytes::specs::Bytes::is_text_byte))]
+    fn feed(&mut self) -> Action
+        ensures paste { self.new ≡ (line_fed self.old).0 }
+        ensures action { result ≡ (line_fed self.old).1 }
+    {
+        if self.after_return {
+            self.after_return = false;
+            return Action::Nothing;
+        }
+        self.add_typed(CARRIAGE_RETURN, false)
+    }
+
+    /// A byte that can be typed.
+    #[tactic(auto, unfolding(crate::specs::Pastes::with_byte))]
+    fn add_typed(&mut self, byte: u8, is_return: bool) -> Action
+        requires { IsTrue (text_byte byte) }
+        ensures paste { self.new ≡ (with_byte byte is_return self.old).0 }
+        ensures action { result ≡ (with_byte byte is_return self.old).1 }
+    {
+        self.after_return = is_return;
+        self.bytes.add(byte)
+    }
+
+    /// What is in no event yet is typed, as the paste ends.
+    pub fn ended(&self) -> Action
+        ensures { result ≡ typed_by self.now.bytes }
+    {
+        self.bytes.typed()
+    }
+}
+
+/// The event that types the bytes; nothing where there are none, or they can't be typed.
+#[tactic(auto, unfolding(crate::specs::Pastes::typed))]
+pub(crate) fn typed(bytes: &[u8]) -> Action
+    ensures { result ≡ typed_by bytes.now }
+{
+    match TypedBytes::new(bytes) {
+        None => Action::Nothing,
+        Some(bytes) => Action::Post(Event::Typed(bytes)),
+    }
+}
+
+/// A byte that can be typed: this one, or else a question mark.
+#[tactic(auto, unfolding(crate::specs::Pastes::in_profile, event_bytes::specs::Bytes::is_text_byte))]
+fn in_profile(byte: u8) -> u8
+    ensures byte { result ≡ profile_byte byte }
+    ensures typed { IsTrue (text_byte result) }
+{
+    if is_text_byte(byte) { byte } else { b'?' }
+}
+
+/// The byte that a press is within what is pasted. None where it was no part of that.
+#[tactic(auto, unfolding(crate::specs::Pastes::pasted_byte))]
+fn byte_of(press: Press) -> Option<u8>
+    ensures { result ≡ pasted_byte press }
+{
+    match press {
+        Press::Character(byte) | Press::Control(byte) => Some(byte),
+        Press::Foreign | Press::Back | Press::Escape => Some(b'?'),
+        Press::Arrow(_) | Press::Page(_) | Press::Function(_) | Press::Mouse(_) => None,
+        Press::PasteBegins | Press::PasteEnds | Press::Size(_, _) | Press::Unknown => None,
+    }
+}
