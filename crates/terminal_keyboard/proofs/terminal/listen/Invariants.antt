@@ -1,0 +1,7 @@
+use Rattle.std.proofs.Common.{◌≡◌, []}
+use Rattle.std.specs.Io.KnownBytes.{Consumes}
+use Rattle.terminal_keyboard.proofs.terminal.listen.Given as goal
+
+abbrev pub invariant-loop : goal.invariant-loop
+invariant-loop g l =
+    (Consumes (g.R.Read.remaining l.fn.reader) (g.R.Read.remaining l.reader) []) × (l.was_quiet ≡ l.fn.was_quiet)
