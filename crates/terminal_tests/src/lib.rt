@@ -1,0 +1,7 @@
+//! The tests of what lies between a terminal and the desktop.
+//!
+//! They stand in a crate of their own, since a crate with tests is proved twice.
+#![tactic(auto)]
+
+#[cfg(test)]
+mod presses;

@@ -1,0 +1,379 @@
+//! Worked bytes of terminals, what they press, and what that comes to, whatever pieces they come in; and what a
+//! terminal tells whose reads are interrupted, give nothing or fail.
+
+use std::alloc::{AllocError, Global};
+use std::io::{self, ErrorKind, IsTerminal, Read};
+use std::test::Fail;
+use terminal_keyboard::{Keyboard, KeyboardEnd, MOST_HEARD, ScriptedKeyboard, TerminalInput};
+use terminal_presses::{
+    Action, Arrow, Button, FunctionKey, Hand, Heard, MouseReport, Page, Parser, Press, Presses,
+    Sight,
+};
+
+/// What stands for a quiet while in the tables. No terminal sends this byte.
+const QUIET: u8 = 255;
+
+/// How many bytes come at one time.
+const PIECES: [usize; 4] = [1, 2, 3, MOST_HEARD];
+
+fn heard_of(byte: u8) -> Heard {
+    if byte == QUIET {
+        Heard::Quiet
+    } else {
+        Heard::Byte(byte)
+    }
+}
+
+fn script_of(alloc: Global, bytes: &[u8]) -> Result<Vec<Heard>, AllocError> {
+    bytes.iter().map(|byte| heard_of(*byte)).collect(alloc)
+}
+
+fn add_presses(found: &mut Vec<Press>, presses: Presses) -> Result<(), AllocError> {
+    match presses {
+        Presses::Nothing => {}
+        Presses::One(press) => found.push(press)?,
+        Presses::Two(first, second) => {
+            found.push(first)?;
+            found.push(second)?;
+        }
+    }
+    Ok(())
+}
+
+/// What is pressed by these bytes, where so many come at one time.
+fn pressed(alloc: Global, bytes: &[u8], piece: usize) -> Result<Vec<Press>, AllocError> {
+    let script = script_of(alloc, bytes)?;
+    let mut keyboard = ScriptedKeyboard::new(&script, piece.clamp(1, MOST_HEARD));
+    let mut parser = Parser::new();
+    let mut found = Vec::new(alloc);
+    for _ in 0..bytes.len() {
+        let Ok(hearing) = keyboard.hear() else {
+            return Ok(found);
+        };
+        for heard in hearing.as_slice() {
+            add_presses(&mut found, parser.take(*heard))?;
+        }
+    }
+    Ok(found)
+}
+
+fn mouse(button: Button, is_down: bool, column: u16, row: u16) -> Press {
+    Press::Mouse(MouseReport {
+        button,
+        is_down,
+        with_alt: false,
+        with_control: false,
+        column,
+        row,
+    })
+}
+
+#[test]
+fn bytes_press(rt: HostRuntime) -> Result<(), Fail> {
+    let table: [(&[u8], &[Press]); 13] = [
+        (
+            b"aZ ~",
+            &[
+                Press::Character(97),
+                Press::Character(90),
+                Press::Character(32),
+                Press::Character(126),
+            ],
+        ),
+        (
+            b"\t\r\n\x03",
+            &[
+                Press::Character(9),
+                Press::Character(13),
+                Press::Control(10),
+                Press::Control(3),
+            ],
+        ),
+        (
+            b"\x08\x7f\xc3\xa4",
+            &[Press::Back, Press::Back, Press::Foreign],
+        ),
+        (b"\x1b\xff", &[Press::Escape]),
+        (
+            b"\x1bx\x1b\x1b\xff",
+            &[
+                Press::Escape,
+                Press::Character(120),
+                Press::Escape,
+                Press::Escape,
+            ],
+        ),
+        (
+            b"\x1b[A\x1bOB\x1b[C\x1bOD",
+            &[
+                Press::Arrow(Arrow::Up),
+                Press::Arrow(Arrow::Down),
+                Press::Arrow(Arrow::Right),
+                Press::Arrow(Arrow::Left),
+            ],
+        ),
+        (
+            b"\x1bOP\x1b[[B\x1b[13~\x1b[21~",
+            &[
+                Press::Function(FunctionKey::F1),
+                Press::Function(FunctionKey::F2),
+                Press::Function(FunctionKey::F3),
+                Press::Function(FunctionKey::F10),
+            ],
+        ),
+        (
+            b"\x1b[5~\x1b[\xff6~",
+            &[Press::Page(Page::Up), Press::Page(Page::Down)],
+        ),
+        (
+            b"\x1b[<0;1;1M\x1b[<2;223;300m",
+            &[
+                mouse(Button::Left, true, 1, 1),
+                mouse(Button::Right, false, 223, 300),
+            ],
+        ),
+        (b"\x1b[<64;5;5M\x1b[M !!", &[Press::Unknown, Press::Unknown]),
+        (b"\x1b[8;24;80t", &[Press::Size(24, 80)]),
+        (
+            b"\x1b[200~a\x1b[201~",
+            &[Press::PasteBegins, Press::Character(97), Press::PasteEnds],
+        ),
+        (b"\x1b[9\x1b[A", &[Press::Unknown, Press::Arrow(Arrow::Up)]),
+    ];
+    for piece in PIECES {
+        for (bytes, wanted) in table {
+            let found = pressed(rt.alloc(), bytes, piece)?;
+            assert!(rt; found.as_slice() == wanted);
+        }
+    }
+    Ok(())
+}
+
+/// The letter that stands for an action in the tables; None for an event, and for nothing.
+fn letter(action: &Action) -> Option<u8> {
+    match action {
+        Action::Nothing | Action::Post(_) => None,
+        Action::Ring => Some(b'R'),
+        Action::LookAnew => Some(b'N'),
+        Action::Leave => Some(b'L'),
+        Action::AskFile => Some(b'F'),
+        Action::Move(Page::Up) => Some(b'U'),
+        Action::Move(Page::Down) => Some(b'D'),
+        Action::Step(_) => Some(b'S'),
+        Action::Fit(_, _) => Some(b'Z'),
+    }
+}
+
+/// Adds what an action is: the spelling of its event, or else its letter.
+fn add_action(found: &mut Vec<u8>, action: &Action) -> Result<(), AllocError> {
+    if let Action::Post(event) = action {
+        found.extend_from_slice(event.encode().as_slice())?;
+    }
+    if let Some(letter) = letter(action) {
+        found.push(letter)?;
+    }
+    Ok(())
+}
+
+fn take_press(
+    hand: &mut Hand,
+    sight: Sight,
+    press: Press,
+    found: &mut Vec<u8>,
+) -> Result<(), AllocError> {
+    let action = hand.take(sight, press);
+    add_action(found, &action)
+}
+
+/// What these bytes come to, one action after another.
+fn acted(alloc: Global, bytes: &[u8], sight: Sight) -> Result<Vec<u8>, AllocError> {
+    let presses = pressed(alloc, bytes, MOST_HEARD)?;
+    let mut hand = Hand::new();
+    let mut found = Vec::new(alloc);
+    for press in presses.as_slice() {
+        take_press(&mut hand, sight, *press, &mut found)?;
+    }
+    Ok(found)
+}
+
+#[test]
+fn presses_make_events(rt: HostRuntime) -> Result<(), Fail> {
+    let table: [(&[u8], &[u8]); 16] = [
+        (b"a", b"\x01\x00\x01a"),
+        (b"\n", b"\x01\x00\x01\x0d"),
+        (b"\x08\x03\x18\x16", b"\x02\x00\x02\x01\x02\x03\x02\x02"),
+        (b"\x1b\xff\x07", b"\x02\x04\x02\x04"),
+        (b"\x0c\x0f\x11\x01", b"NFLR"),
+        (b"\x1b[5~\x1b[6~\x1b[A\x1b[8;24;80t", b"UDSZ"),
+        // A click, and a drag from a corner to beyond the opposite one.
+        (b"\x1b[<0;2;2M\x1b[<0;2;2m", b"\x04\x00\x01\x1e\x01\x1e"),
+        (b"\x1b[<2;1;1M\x1b[<2;200;99m", b"\x04\x06\x00\x1f\x4f\x00"),
+        // Two buttons, then three.
+        (
+            b"\x1b[<0;1;1M\x1b[<1;3;1M\x1b[<1;3;1m\x1b[<0;5;2m",
+            b"\x04\x01\x00\x1f\x04\x1e",
+        ),
+        (
+            b"\x1b[<1;1;1M\x1b[<2;3;1M\x1b[<1;3;1m\x1b[<2;5;2m",
+            b"\x04\x05\x00\x1f\x04\x1e",
+        ),
+        (
+            b"\x1b[<0;1;1M\x1b[<1;1;1M\x1b[<2;1;1M\x1b[<2;1;1m\x1b[<1;1;1m\x1b[<0;1;1m",
+            b"",
+        ),
+        // The left button with Alt, with Ctrl, after F2 and after F1.
+        (b"\x1b[<8;1;1M\x1b[<0;1;1m", b"\x04\x03\x00\x1f\x00\x1f"),
+        (b"\x1b[<16;1;1M\x1b[<0;1;1m", b"\x04\x06\x00\x1f\x00\x1f"),
+        (
+            b"\x1b[12~\x1b[<0;1;1M\x1b[<0;1;1m",
+            b"\x04\x03\x00\x1f\x00\x1f",
+        ),
+        (b"\x1bOP\x1b[<0;3;32M\x1b[<0;1;1m", b"\x03\x02\x00"),
+        (
+            b"\x1b[200~a\r\nb\nc\xc3\xa4\x07\x1b[201~",
+            b"\x01\x00\x07a\rb\rc??",
+        ),
+    ];
+    for (bytes, wanted) in table {
+        let found = acted(rt.alloc(), bytes, Sight::whole())?;
+        assert!(rt; found.as_slice() == wanted);
+    }
+    Ok(())
+}
+
+#[test]
+fn clicks_go_to_the_rows_in_sight(rt: HostRuntime) -> Result<(), Fail> {
+    let sight = Sight { top: 26, rows: 23 };
+    let found = acted(rt.alloc(), b"\x1b[<0;1;1M\x1b[<0;1;30m", sight)?;
+    assert!(rt; found.as_slice() == b"\x04\x00\x00\x1a\x00\x04".as_slice());
+    Ok(())
+}
+
+/// A paste of so many letters, as a terminal sends it.
+fn paste_of(alloc: Global, count: usize) -> Result<Vec<u8>, AllocError> {
+    let mut bytes = Vec::new(alloc);
+    bytes.extend_from_slice(b"\x1b[200~")?;
+    for _ in 0..count {
+        bytes.push(b'x')?;
+    }
+    bytes.extend_from_slice(b"\x1b[201~")?;
+    Ok(bytes)
+}
+
+/// The events that type so many letters, 900 at a time.
+fn typed(alloc: Global, count: usize) -> Result<Vec<u8>, AllocError> {
+    let mut bytes = Vec::new(alloc);
+    for i in 0..count {
+        if i % 900 == 0 {
+            let length = (count - i).min(900) as u16;
+            bytes.extend_from_slice(&[1, (length / 256) as u8, (length % 256) as u8])?;
+        }
+        bytes.push(b'x')?;
+    }
+    Ok(bytes)
+}
+
+#[test]
+fn long_pastes(rt: HostRuntime) -> Result<(), Fail> {
+    for count in [0, 1, 899, 900, 901, 2000] {
+        let bytes = paste_of(rt.alloc(), count)?;
+        let found = acted(rt.alloc(), &bytes, Sight::whole())?;
+        assert!(rt; found == typed(rt.alloc(), count)?);
+    }
+    Ok(())
+}
+
+/// What one read of a terminal gives.
+#[derive(Clone, Copy)]
+enum Step {
+    Bytes(&'static [u8]),
+    Nothing,
+    Interrupted,
+    Broken,
+}
+
+/// A terminal that gives these, and hangs up then.
+#[derive(Drop)]
+struct Line {
+    steps: &'static [Step],
+}
+
+impl Read for Line {
+    fn read(&mut self, buf: &mut [u8]) -> io::Result<usize> {
+        let Some((step, more)) = self.steps.split_first() else {
+            return Ok(0);
+        };
+        self.steps = more;
+        match *step {
+            Step::Bytes(bytes) => {
+                let count = bytes.len().min(buf.len());
+                buf[..count].copy_from_slice(&bytes[..count]);
+                Ok(count)
+            }
+            Step::Nothing => Ok(0),
+            Step::Interrupted => Err(io::Error::from(ErrorKind::Interrupted)),
+            Step::Broken => Err(io::Error::from(ErrorKind::Other)),
+        }
+    }
+}
+
+impl IsTerminal for Line {
+    fn is_terminal(&self) -> bool {
+        !self.steps.is_empty()
+    }
+}
+
+/// What such a terminal tells, with 255 for a quiet while, and C or F where it ends.
+fn told(alloc: Global, steps: &'static [Step]) -> Result<Vec<u8>, AllocError> {
+    let mut keyboard = TerminalInput::new(Line { steps });
+    let mut found = Vec::new(alloc);
+    for _ in 0..100 {
+        match keyboard.hear() {
+            Ok(hearing) => add_heard(&mut found, hearing.as_slice())?,
+            Err(KeyboardEnd::Closed) => {
+                found.push(b'C')?;
+                return Ok(found);
+            }
+            Err(KeyboardEnd::Fault) => {
+                found.push(b'F')?;
+                return Ok(found);
+            }
+        }
+    }
+    Ok(found)
+}
+
+fn add_heard(found: &mut Vec<u8>, heard: &[Heard]) -> Result<(), AllocError> {
+    for one in heard {
+        match one {
+            Heard::Byte(byte) => found.push(*byte)?,
+            Heard::Quiet => found.push(QUIET)?,
+        }
+    }
+    Ok(())
+}
+
+#[test]
+fn terminals_tell(rt: HostRuntime) -> Result<(), Fail> {
+    let table: [(&[Step], &[u8]); 3] = [
+        (
+            &[
+                Step::Nothing,
+                Step::Nothing,
+                Step::Interrupted,
+                Step::Bytes(b"ab"),
+                Step::Nothing,
+                Step::Nothing,
+                Step::Bytes(b"c"),
+            ],
+            b"\xffab\xffcC",
+        ),
+        (&[Step::Bytes(b"a"), Step::Broken], b"aF"),
+        (&[], b"C"),
+    ];
+    for (steps, wanted) in table {
+        let found = told(rt.alloc(), steps)?;
+        assert!(rt; found.as_slice() == wanted);
+    }
+    Ok(())
+}
