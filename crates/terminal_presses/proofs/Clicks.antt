@@ -7,11 +7,10 @@ use Rattle.terminal_presses.specs.declared.press.Button.TheVariants.{Left, Middl
 use Rattle.terminal_presses.specs.declared.press.FunctionKey.{FunctionKey}
 use Rattle.terminal_presses.specs.declared.press.FunctionKey.TheVariants.{F1, F2, F3, F4, F5, F6, F7, F8, F9, F10}
 use Rattle.terminal_presses.specs.declared.press.Press.TheVariants.{Function}
-use Rattle.terminal_presses.specs.declared.sight.Sight.{Sight}
+use Rattle.terminal_presses.specs.Sights.{Sight, spot_in}
 use Rattle.terminal_presses.specs.declared.action.Click.{Click}
 use Rattle.terminal_presses.specs.declared.action.Click.TheVariants.{Keys}
 use Rattle.terminal_presses.specs.declared.hand.Hand.{Hand}
-use Rattle.terminal_presses.specs.Sights.{spot_in}
 use Rattle.terminal_presses.specs.Gestures.{with_left, with_middle, with_right, joined, called, pressed_more, released}
 use Rattle.terminal_presses.specs.Gestures.{released_at}
 use Rattle.terminal_presses.specs.Hands.{new_hand, by_function, meant, begun, gone_down, rested, gone_up, reported}

@@ -12,7 +12,7 @@ use Rattle.event_bytes.specs.declared.event.Event.{Event}
 use Rattle.event_bytes.specs.declared.event.Event.TheVariants.{Typed}
 use Rattle.terminal_presses.specs.declared.press.Press.{Press}
 use Rattle.terminal_presses.specs.declared.press.Press.TheVariants.{PasteBegins, PasteEnds}
-use Rattle.terminal_presses.specs.declared.sight.Sight.{Sight}
+use Rattle.terminal_presses.specs.Sights.{Sight}
 use Rattle.terminal_presses.specs.declared.action.Action.{Action}
 use Rattle.terminal_presses.specs.declared.action.Action.TheVariants.{Nothing, Post}
 use Rattle.terminal_presses.specs.declared.paste.Paste.{Paste}

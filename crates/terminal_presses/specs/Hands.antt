@@ -12,7 +12,7 @@ use Rattle.terminal_presses.specs.declared.press.Press.{Press}
 use Rattle.terminal_presses.specs.declared.press.Press.TheVariants.{Character, Foreign, Control, Back, Escape, Arrow}
 use Rattle.terminal_presses.specs.declared.press.Press.TheVariants.{Page, Function, Mouse, PasteBegins, PasteEnds, Size}
 use Rattle.terminal_presses.specs.declared.press.Press.TheVariants.{Unknown}
-use Rattle.terminal_presses.specs.declared.sight.Sight.{Sight}
+use Rattle.terminal_presses.specs.Sights.{Sight, spot_in}
 use Rattle.terminal_presses.specs.declared.spot.Spot.{Spot}
 use Rattle.terminal_presses.specs.declared.action.Click.{Click}
 use Rattle.terminal_presses.specs.declared.action.Click.TheVariants.{Mark, Keys}
@@ -22,7 +22,6 @@ use Rattle.terminal_presses.specs.declared.action.Action.TheVariants.{Move, Step
 use Rattle.terminal_presses.specs.declared.gesture.Gesture.{Gesture}
 use Rattle.terminal_presses.specs.declared.paste.Paste.{Paste}
 use Rattle.terminal_presses.specs.declared.hand.Hand.{Hand}
-use Rattle.terminal_presses.specs.Sights.{spot_in}
 use Rattle.terminal_presses.specs.Gestures.{no_buttons, is_none_down, is_down, with_button, pressed_more, released}
 use Rattle.terminal_presses.specs.Gestures.{released_at}
 use Rattle.terminal_presses.specs.Pastes.{return, typed, new_paste, pasted_byte, pasted_if_any}

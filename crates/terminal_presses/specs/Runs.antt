@@ -15,13 +15,12 @@ use Rattle.terminal_presses.specs.declared.press.FunctionKey.{FunctionKey}
 use Rattle.terminal_presses.specs.declared.press.FunctionKey.TheVariants.{F1, F2, F3, F4, F5, F6, F7, F8, F9, F10}
 use Rattle.terminal_presses.specs.declared.press.Press.{Press}
 use Rattle.terminal_presses.specs.declared.press.Press.TheVariants.{Mouse, PasteBegins, PasteEnds}
-use Rattle.terminal_presses.specs.declared.sight.Sight.{Sight}
+use Rattle.terminal_presses.specs.Sights.{Sight, spot_in}
 use Rattle.terminal_presses.specs.declared.action.Click.{Click}
 use Rattle.terminal_presses.specs.declared.action.Click.TheVariants.{Mark, Keys}
 use Rattle.terminal_presses.specs.declared.action.Action.{Action}
 use Rattle.terminal_presses.specs.declared.action.Action.TheVariants.{Post}
 use Rattle.terminal_presses.specs.declared.hand.Hand.{Hand}
-use Rattle.terminal_presses.specs.Sights.{spot_in}
 use Rattle.terminal_presses.specs.Presses.{single}
 use Rattle.terminal_presses.specs.Hands.{handled}
 use Rattle.terminal_presses.specs.Spelling.{sequence, bytes}

@@ -1,8 +1,18 @@
 -- The cells of the display that a terminal shows.
-use Rattle.std.specs.Prelude.{ℕ, ◌-◌, min}
-use Rattle.viewer_tracks.specs.declared.display.TheConstants.{COLUMNS}
-use Rattle.terminal_presses.specs.declared.sight.Sight.{Sight}
+use Rattle.std.specs.Prelude.{ℕ, ◌+◌, ◌-◌, ◌<◌, ◌≤◌, min}
+use Rattle.viewer_tracks.specs.declared.display.TheConstants.{COLUMNS, ROWS}
 use Rattle.terminal_presses.specs.declared.spot.Spot.{Spot}
+
+-- the row of the display that the terminal's first row shows, and how many rows are in sight
+pub record Sight : Type 0 where
+  pub top : ℕ
+  pub rows : ℕ
+
+-- they are rows of the display, at least one
+pub record IsSight (sight : Sight) : Type 0 where
+  pub top_in : sight.top < ROWS
+  pub rows_least : 1 ≤ sight.rows
+  pub rows_in : sight.rows ≤ sight.top + 1
 
 -- The cell in sight that is nearest to a column and a row of the terminal. Those count from 1 at the upper left, and
 -- the display's own from 0 at the lower left.

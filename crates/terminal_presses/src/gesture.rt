@@ -10,7 +10,7 @@ use crate::spot::Spot;
 use event_bytes::{Event, Keys};
 
 /// Which buttons are down.
-#[derive(Clone, Copy, Debug, PartialEq, Eq)]
+#[derive(Clone, Copy)]
 pub(crate) struct Buttons {
     pub left: bool,
     pub middle: bool,
@@ -18,7 +18,7 @@ pub(crate) struct Buttons {
 }
 
 /// A gesture that has begun.
-#[derive(Clone, Copy, Debug, PartialEq, Eq)]
+#[derive(Clone, Copy)]
 pub(crate) struct Gesture {
     /// What it comes to; None where it is called off.
     pub click: Option<Click>,

@@ -29,7 +29,7 @@ const CONTROL_V: u8 = 22;
 const CONTROL_X: u8 = 24;
 
 /// What was pressed so far, as far as later events depend on it.
-#[derive(Debug, PartialEq, Eq, Drop)]
+#[derive(Drop)]
 pub struct Hand {
     armed: Option<Click>,
     gesture: Option<Gesture>,

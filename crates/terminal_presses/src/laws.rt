@@ -12,11 +12,10 @@ ghost use Rattle.terminal_presses.specs.declared.press.Press.{Press};
 ghost use Rattle.terminal_presses.specs.declared.press.Press.TheVariants.{Escape, Function};
 ghost use Rattle.terminal_presses.specs.declared.action.Click.{Click};
 ghost use Rattle.terminal_presses.specs.declared.action.Click.TheVariants.{Keys};
-ghost use Rattle.terminal_presses.specs.declared.sight.Sight.{Sight};
+ghost use Rattle.terminal_presses.specs.Sights.{Sight, IsSight, spot_in};
 ghost use Rattle.terminal_presses.specs.declared.parser.Parser.{Parser};
 ghost use Rattle.terminal_presses.specs.declared.hand.Hand.{Hand};
 ghost use Rattle.viewer_tracks.specs.declared.display.TheConstants.{COLUMNS};
-ghost use Rattle.terminal_presses.specs.Sights.{spot_in};
 ghost use Rattle.terminal_presses.specs.Presses.{at_rest, parser_after, pressed};
 ghost use Rattle.terminal_presses.specs.Spelling.{AreHeard};
 ghost use Rattle.terminal_presses.specs.Hands.{new_hand, idle};
@@ -51,11 +50,11 @@ pub fn spelled_presses_are_found()
 /// The cell that a terminal's column and row mean is in sight; where they show a cell, it is that one.
 pub fn spots_are_in_sight()
     ensures column { (sight : Sight) (column row : ℕ) → (spot_in sight column row).x < COLUMNS }
-    ensures row { (sight : Sight) (column row : ℕ) → (spot_in sight column row).y ≤ sight.top
+    ensures row { (sight : Sight) (column row : ℕ) → IsSight sight → (spot_in sight column row).y ≤ sight.top
         × sight.top < (spot_in sight column row).y + sight.rows }
     ensures same_column { (sight : Sight) (column row : ℕ) → 1 ≤ column → column ≤ COLUMNS
         → (spot_in sight column row).x + 1 ≡ column }
-    ensures same_row { (sight : Sight) (column row : ℕ) → 1 ≤ row → row ≤ sight.rows
+    ensures same_row { (sight : Sight) (column row : ℕ) → IsSight sight → 1 ≤ row → row ≤ sight.rows
         → (spot_in sight column row).y + row ≡ sight.top + 1 }
 {}
 

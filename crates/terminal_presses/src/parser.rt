@@ -11,7 +11,7 @@ use crate::single::ESCAPE;
 use event_bytes::is_digit;
 
 /// What was heard of a terminal so far, as far as later presses depend on it.
-#[derive(Clone, Copy, Debug, PartialEq, Eq)]
+#[derive(Clone, Copy)]
 pub struct Parser {
     place: Place,
 }

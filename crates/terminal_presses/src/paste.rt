@@ -17,7 +17,7 @@ const MOST: usize = 900;
 pub(crate) const LINE_FEED: u8 = 10;
 
 /// Bytes that can be typed, too few for an event of their own unless nothing follows. A clause sees the list of them.
-#[derive(Debug, PartialEq, Eq, Drop)]
+#[derive(Drop)]
 pub(crate) struct Pasted {
     bytes: ArrayVec<u8, MOST>,
 }
@@ -31,8 +31,6 @@ impl Model for Pasted {
     ghost view = { λ p. p.bytes.items };
 
     ghost invariant = { λ p. IsTrue (is_file_bytes p.bytes.items) × (length p.bytes.items < 900) };
-
-    ghost inverse = { λ bytes. record { bytes = record { items = bytes } } };
 }
 
 impl Pasted {
@@ -70,7 +68,7 @@ impl Pasted {
 }
 
 /// What is pasted, as far as it is in no event yet.
-#[derive(Debug, PartialEq, Eq, Drop)]
+#[derive(Drop)]
 pub(crate) struct Paste {
     /// Whether a carriage return came last, so that a line feed is nothing more.
     after_return: bool,

@@ -1,7 +1,7 @@
 //! Where in the spelling of a press one stands.
 
 /// The character in front of the numbers of a sequence.
-#[derive(Clone, Copy, Debug, PartialEq, Eq)]
+#[derive(Clone, Copy)]
 pub(crate) enum Mark {
     /// There is none.
     Plain,
@@ -12,7 +12,7 @@ pub(crate) enum Mark {
 }
 
 /// The numbers of a sequence as far as it is heard: the first three, and which of them, counted from 0, stands last.
-#[derive(Clone, Copy, Debug, PartialEq, Eq)]
+#[derive(Clone, Copy)]
 pub(crate) struct Numbers {
     pub mark: Mark,
     pub last: u8,
@@ -22,7 +22,7 @@ pub(crate) struct Numbers {
 }
 
 /// Where in the spelling of a press one stands.
-#[derive(Clone, Copy, Debug, PartialEq, Eq)]
+#[derive(Clone, Copy)]
 pub(crate) enum Place {
     /// Between two spellings.
     Ground,

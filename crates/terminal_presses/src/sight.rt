@@ -1,30 +1,62 @@
 //! The part of the display that a terminal shows.
-ghost use Rattle.std.specs.Prelude.{◌≡◌, ◌+◌, ◌<◌, ◌≤◌, length};
+ghost use Rattle.std.specs.Prelude.{◌≡◌, ◌+◌, ◌-◌, ◌<◌, ◌≤◌};
 ghost use Rattle.viewer_tracks.specs.declared.display.TheConstants.{ROWS};
+ghost use Rattle.terminal_presses.specs.Sights.{IsSight};
 
+use std::marker::Model;
 use viewer_tracks::ROWS;
 
-/// The rows of the display that a terminal shows, from its own first row downward. All columns are shown.
+/// The rows of the display that a terminal shows, from its own first row downward, at least one. All columns are shown.
+/// A clause sees `top`, the row of the display that the terminal's first row shows, counted upward from 0 at the
+/// bottom, and how many `rows` are in sight.
 #[derive(Clone, Copy, Debug, PartialEq, Eq)]
 pub struct Sight {
-    /// The row of the display that the terminal's first row shows. Rows count upward from 0 at the bottom.
-    pub top: u8,
-    /// How many rows are in sight, at least one.
-    pub rows: u8,
-    ghost top_in: { top < ROWS },
-    ghost rows_least: { 1 ≤ rows },
-    ghost rows_in: { rows ≤ top + 1 },
+    top: u8,
+    rows: u8,
+}
+
+impl Model for Sight {
+    ghost use Rattle.std.specs.Prelude.{◌≡◌};
+    ghost use Rattle.terminal_presses.specs.Sights.{IsSight, Sight as SightView};
+
+    ghost Value = { SightView };
+
+    ghost view = { λ s. record { top = s.top; rows = s.rows } };
+
+    ghost inverse = { λ s. record { top = s.top; rows = s.rows } };
+
+    ghost invariant = { λ s. IsSight (record { top = s.top; rows = s.rows }) };
 }
 
 impl Sight {
+    /// The rows from `top` downward.
+    pub fn new(top: u8, rows: u8) -> Sight
+        requires { IsSight (record { top = top; rows = rows }) }
+        ensures { result ≡ record { top = top; rows = rows } }
+    {
+        Sight { top, rows }
+    }
+
     /// The whole display.
     pub fn whole() -> Sight
-        ensures top { result.top + 1 ≡ ROWS }
-        ensures rows { result.rows ≡ ROWS }
+        ensures { result ≡ record { top = ROWS - 1; rows = ROWS } }
     {
-        Sight {
-            top: ROWS - 1,
-            rows: ROWS,
-        }
+        Sight::new(ROWS - 1, ROWS)
+    }
+
+    /// The row of the display in the terminal's first row.
+    pub fn top(self) -> u8
+        ensures top { result ≡ self.top }
+        ensures within { IsSight self }
+    {
+        self.top
+    }
+
+    /// How many rows are in sight.
+    pub fn rows(self) -> u8
+        ensures rows { result ≡ self.rows }
+        ensures within { IsSight self }
+    {
+        self.rows
     }
 }

@@ -19,10 +19,10 @@ impl Spot {
         ensures { result ≡ spot_in sight column row }
     {
         let right = column.saturating_sub(1).min(COLUMNS as u16 - 1);
-        let down = row.saturating_sub(1).min(sight.rows as u16 - 1);
+        let down = row.saturating_sub(1).min(sight.rows() as u16 - 1);
         Spot {
             x: right as u8,
-            y: sight.top - down as u8,
+            y: sight.top() - down as u8,
         }
     }
 }

@@ -243,7 +243,7 @@ fn presses_make_events(rt: HostRuntime) -> Result<(), Fail> {
 
 #[test]
 fn clicks_go_to_the_rows_in_sight(rt: HostRuntime) -> Result<(), Fail> {
-    let sight = Sight { top: 26, rows: 23 };
+    let sight = Sight::new(26, 23);
     let found = acted(rt.alloc(), b"\x1b[<0;1;1M\x1b[<0;1;30m", sight)?;
     assert!(rt; found.as_slice() == b"\x04\x00\x00\x1a\x00\x04".as_slice());
     Ok(())
