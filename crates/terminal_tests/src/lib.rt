@@ -4,4 +4,6 @@
 #![tactic(auto)]
 
 #[cfg(test)]
+mod paintings;
+#[cfg(test)]
 mod presses;

@@ -1,0 +1,80 @@
+-- What a grid that shows rows shows in each cell.
+use Rattle.std.proofs.Common.{◌≡◌, ◌<◌, ◌+◌, ◌≤◌, ℕ, List, [], ◌∷◌, ap, ◌∙◌, arith, true, false, cond, length, get_or}
+use Rattle.std.proofs.Common.{suc, zero, subst}
+use Rattle.std.specs.Prelude.{nat_lt}
+use Rattle.std.proofs.lemmas.Bool.Decides.{nat_tests}
+use Rattle.std.proofs.lemmas.List.FromFn.{get_or-map-range_with_len, length-map-range_with_len}
+use Rattle.viewer_tracks.specs.declared.display.TheConstants.{COLUMNS}
+use Rattle.screen_pictures.specs.Screen.{column_at, values}
+use Rattle.terminal_painting.specs.declared.face.Face.{Face}
+use Rattle.terminal_painting.specs.declared.frame.Frame.{Frame}
+use Rattle.terminal_painting.specs.declared.pen.TheConstants.{WHITE}
+use Rattle.terminal_painting.specs.Frame.{frame_row, frame_rows, height_of, letter_face, row_of_cells, row_of_text}
+use Rattle.terminal_painting.specs.Frame.{seen_row, text_of}
+use Rattle.terminal_painting.specs.Grid.{Grid}
+use Rattle.terminal_painting.specs.Pen.{blank, face_of}
+use Rattle.terminal_painting.specs.Shows.{Shows, ShowsFrom}
+
+-- the cell at an index of a row that is shown
+read : (row column k u : ℕ) (fs : List Face) (g : Grid) (d : Face) → ShowsFrom row column fs g → k < length fs
+    → u ≡ column + k → g.cells u row ≡ get_or fs k d
+read row column k u [] g d s h e = absurd (omega (arith, h))
+read row column zero u (f ∷ fs) g d s h e =
+    let here : u ≡ column = omega (arith, e) in
+    ap (λ c. g.cells c row) here ∙ s.0
+read row column (suc k) u (f ∷ fs) g d s h e =
+    read row (column + 1) k u fs g d s.1 (omega (arith, h)) (omega (arith, e))
+
+-- and of a row of values
+module _ {X : Type 0} where
+  at : (n : ℕ) (f : ℕ → X) (k : ℕ) (d : X) → k < n → get_or (values n f) k d ≡ f k
+  unfolding values
+  at n f k d h = get_or-map-range_with_len f 0 n k k d h (omega arith)
+
+  long : (n : ℕ) (f : ℕ → X) → length (values n f) ≡ n
+  unfolding values
+  long n f = length-map-range_with_len f 0 n
+
+read_value : (row x : ℕ) (f : ℕ → Face) (g : Grid) → ShowsFrom row 1 (values COLUMNS f) g → x < COLUMNS
+    → g.cells (x + 1) row ≡ f x
+read_value row x f g s h =
+    let inside : x < length (values COLUMNS f) = omega (arith, h, long COLUMNS f) in
+    read row 1 x (x + 1) (values COLUMNS f) g (blank WHITE) s inside (omega arith) ∙ at COLUMNS f x (blank WHITE) h
+
+frame_row_shown : (frame : Frame) (g : Grid) (y : ℕ) → Shows (frame_rows frame) g → y < height_of frame
+    → ShowsFrom (y + 1) 1 (frame_row frame y) g
+unfolding frame_rows
+frame_row_shown frame g y s h =
+    let inside : y < length (values (height_of frame) (frame_row frame)) =
+    omega (arith, h, long (height_of frame) (frame_row frame)) in
+    subst (λ l. ShowsFrom (y + 1) 1 l g) (at (height_of frame) (frame_row frame) y [] h) (s y inside)
+
+above : (y n : ℕ) → y < n → nat_lt y n ≡ true
+above y n h = grind (arith, nat_tests)
+
+not_above : (y n : ℕ) → n ≤ y → nat_lt y n ≡ false
+not_above y n h = grind (arith, nat_tests)
+
+seen : (frame : Frame) (y : ℕ) → y < frame.rows → frame_row frame y ≡ row_of_cells (seen_row frame y)
+unfolding frame_row
+seen frame y h =
+    ap (λ b. cond b (row_of_cells (seen_row frame y)) (row_of_text (text_of frame.below))) (above y frame.rows h)
+
+told_below : (frame : Frame) (y : ℕ) → frame.rows ≤ y → frame_row frame y ≡ row_of_text (text_of frame.below)
+unfolding frame_row
+told_below frame y h =
+    ap (λ b. cond b (row_of_cells (seen_row frame y)) (row_of_text (text_of frame.below))) (not_above y frame.rows h)
+
+pub cell_shown : (frame : Frame) (g : Grid) (x y : ℕ) → Shows (frame_rows frame) g → x < COLUMNS → y < frame.rows
+    → g.cells (x + 1) (y + 1) ≡ face_of x (column_at (seen_row frame y) x)
+cell_shown frame g x y s inside within =
+    let up : y < height_of frame = omega arith in
+    read_value (y + 1) x (λ k. face_of k (column_at (seen_row frame y) k)) g
+    (subst (λ l. ShowsFrom (y + 1) 1 l g) (seen frame y within) (frame_row_shown frame g y s up)) inside
+
+pub letter_shown : (frame : Frame) (g : Grid) (x : ℕ) → Shows (frame_rows frame) g → x < COLUMNS
+    → frame.rows < height_of frame → g.cells (x + 1) (frame.rows + 1) ≡ letter_face (text_of frame.below) x
+letter_shown frame g x s inside line =
+    read_value (frame.rows + 1) x (letter_face (text_of frame.below)) g
+    (subst (λ l. ShowsFrom (frame.rows + 1) 1 l g) (told_below frame frame.rows (omega arith))
+    (frame_row_shown frame g frame.rows s line)) inside

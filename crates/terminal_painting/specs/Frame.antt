@@ -1,0 +1,60 @@
+-- What a terminal is to show: rows of a screen that are in sight, and a line of text below them.
+use Rattle.std.specs.Prelude.{◌≡◌, ℕ, ◌+◌, ◌-◌, ◌<◌, ◌≤◌, nat_lt, if◌then◌else◌, List, [], Option, Some, None}
+use Rattle.std.specs.Prelude.{slice_get, unwrap_or}
+use denote.Bor.{Bor}
+use Rattle.viewer_tracks.specs.declared.display.TheConstants.{COLUMNS, ROWS}
+use Rattle.screen_pictures.specs.declared.cell.Mark.TheVariants.{Caret}
+use Rattle.screen_pictures.specs.declared.cell.Cell.{Cell}
+use Rattle.screen_pictures.specs.Bytes.{space}
+use Rattle.screen_pictures.specs.Screen.{column_at, row_at, values}
+use Rattle.terminal_painting.specs.declared.face.Face.{Face}
+use Rattle.terminal_painting.specs.declared.frame.Frame.{Frame}
+use Rattle.terminal_painting.specs.declared.pen.TheConstants.{WHITE}
+use Rattle.terminal_painting.specs.Pen.{face_of, plain, sent_byte}
+
+-- the rows in sight are rows of the screen
+abbrev pub IsInSight : Frame → Type 0
+IsInSight frame = frame.first + frame.rows ≤ ROWS
+
+-- the text of the line below, and how many rows it takes
+abbrev pub text_of : Option (Bor (List ℕ)) → List ℕ
+text_of None = []
+text_of (Some text) = text.now
+
+abbrev pub line_height : Option (Bor (List ℕ)) → ℕ
+line_height None = 0
+line_height (Some text) = 1
+
+abbrev pub height_of : Frame → ℕ
+height_of frame = frame.rows + line_height frame.below
+
+-- the row of the screen that is in sight in this row from the top
+abbrev pub seen_row : Frame → ℕ → List Cell
+seen_row frame y = row_at frame.screen.now (ROWS - 1 - frame.first - y)
+
+-- what a terminal shows for a text at a column
+abbrev pub letter_face : List ℕ → ℕ → Face
+letter_face text x = record { byte = sent_byte (unwrap_or (slice_get text x) space); pen = plain WHITE }
+
+-- a row of cells, and a text, as a terminal shows them
+abbrev pub row_of_cells : List Cell → List Face
+row_of_cells cells = values COLUMNS (λ x. face_of x (column_at cells x))
+
+abbrev pub row_of_text : List ℕ → List Face
+row_of_text text = values COLUMNS (letter_face text)
+
+-- its rows, from the top
+unfoldable pub frame_row : Frame → ℕ → List Face
+frame_row frame y =
+    if nat_lt y frame.rows then row_of_cells (seen_row frame y) else row_of_text (text_of frame.below)
+
+unfoldable pub frame_rows : Frame → List (List Face)
+frame_rows frame = values (height_of frame) (frame_row frame)
+
+-- a cell in sight at which a caret stands, or none where there is none
+abbrev pub HasCaret : Frame → ℕ → ℕ → Type 0
+HasCaret frame x y = (column_at (seen_row frame y) x).mark ≡ Caret
+
+abbrev pub IsCaret : Frame → Option (ℕ × ℕ) → Type 0
+IsCaret frame None = (x y : ℕ) → x < COLUMNS → y < frame.rows → HasCaret frame x y → ⊥
+IsCaret frame (Some place) = (place.0 < COLUMNS) × (place.1 < frame.rows) × HasCaret frame place.0 place.1

@@ -1,0 +1,7 @@
+pub mod Pen
+pub mod Grid
+pub mod Spelling
+pub mod Changes
+pub mod Shows
+pub mod Frame
+pub mod Painting

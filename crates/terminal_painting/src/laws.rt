@@ -1,0 +1,58 @@
+//! What holds of all operations and grids.
+ghost use Rattle.std.specs.Prelude.{◌≡◌, ◌++◌, ◌<◌, ◌≤◌, ◌+◌, ℕ, List, [], Option, Some, length};
+ghost use Rattle.terminal_painting.specs.declared.face.Face.{Face as AFace};
+ghost use Rattle.terminal_painting.specs.declared.frame.Frame.{Frame as AFrame};
+ghost use Rattle.terminal_painting.specs.declared.operation.Operation.{Operation as AnOperation};
+ghost use Rattle.screen_pictures.specs.Screen.{column_at};
+ghost use Rattle.viewer_tracks.specs.declared.display.TheConstants.{COLUMNS as columns};
+ghost use Rattle.terminal_painting.specs.Changes.{changes};
+ghost use Rattle.terminal_painting.specs.Grid.{Grid, done};
+ghost use Rattle.terminal_painting.specs.Frame.{frame_rows, height_of, letter_face, seen_row, text_of};
+ghost use Rattle.terminal_painting.specs.Painting.{HasRoom, painting};
+ghost use Rattle.terminal_painting.specs.Pen.{face_of};
+ghost use Rattle.terminal_painting.specs.Shows.{Shows, ShowsFrom};
+ghost use Rattle.terminal_painting.specs.Spelling.{AreSendable, IsSendable, spelled, spelled_all, told};
+
+/// Bytes that begin with the spelling of an operation are told as that operation, whatever follows.
+pub fn spelled_is_told()
+    ensures { (operation : AnOperation) (rest : List ℕ) → IsSendable operation
+        → told (spelled operation ++ rest) ≡ Some (operation, rest) }
+{}
+
+/// Bytes are the spelling of at most one list of operations.
+pub fn one_telling()
+    ensures { (a b : List AnOperation) → AreSendable a → AreSendable b → spelled_all a ≡ spelled_all b → a ≡ b }
+{}
+
+/// A grid that shows the old cells of a row shows the new ones after what changes them, and other rows as before.
+pub fn rows_are_shown()
+    ensures shown { (row : ℕ) (olds news : List AFace) (g : Grid) → length olds ≡ length news → length news ≤ g.width
+        → row ≤ g.height → ShowsFrom row 1 olds g → ShowsFrom row 1 news (done (changes row olds news) g) }
+    ensures kept { (row : ℕ) (olds news : List AFace) (g : Grid) (x y : ℕ) → length news ≤ g.width → row ≤ g.height
+        → (y ≡ row → x < 1) → (done (changes row olds news) g).cells x y ≡ g.cells x y }
+{}
+
+/// Where nothing changed, nothing is sent of a row.
+pub fn same_rows_change_nothing()
+    ensures { (row : ℕ) (faces : List AFace) → changes row faces faces ≡ [] }
+{}
+
+/// After a painting over known rows, what a grid shows below the frame is as before.
+pub fn rest_is_kept()
+    ensures { (known : List (List AFace)) (frame : AFrame) (caret : Option (ℕ × ℕ)) (g : Grid) (x y : ℕ)
+        → HasRoom (height_of frame) g → length known ≡ height_of frame → height_of frame < y
+        → (done (painting known frame caret) g).cells x y ≡ g.cells x y }
+{}
+
+/// A grid that shows the rows of a frame shows each cell in sight, and the text of the line below.
+pub fn cells_are_shown()
+    ensures cells { (frame : AFrame) (g : Grid) (x y : ℕ) → Shows (frame_rows frame) g → x < columns → y < frame.rows
+        → g.cells (x + 1) (y + 1) ≡ face_of x (column_at (seen_row frame y) x) }
+    ensures below { (frame : AFrame) (g : Grid) (x : ℕ) → Shows (frame_rows frame) g → x < columns
+        → frame.rows < height_of frame → g.cells (x + 1) (frame.rows + 1) ≡ letter_face (text_of frame.below) x }
+{}
+
+/// Where no row is known, every grid shows the known rows.
+pub fn nothing_is_shown()
+    ensures { (g : Grid) → Shows [] g }
+{}
