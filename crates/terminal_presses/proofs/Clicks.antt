@@ -14,7 +14,7 @@ use Rattle.terminal_presses.specs.declared.hand.Hand.{Hand}
 use Rattle.terminal_presses.specs.Gestures.{with_left, with_middle, with_right, joined, called, pressed_more, released}
 use Rattle.terminal_presses.specs.Gestures.{released_at}
 use Rattle.terminal_presses.specs.Hands.{new_hand, by_function, meant, begun, gone_down, rested, gone_up, reported}
-use Rattle.terminal_presses.specs.Hands.{fresh, handled}
+use Rattle.terminal_presses.specs.Hands.{fresh, unpasted, handled}
 use Rattle.terminal_presses.specs.Runs.{hand_after, posted, Makes, Corner, down_with, down, up, alone, together}
 use Rattle.terminal_presses.specs.Runs.{clicked, says, AreThree}
 use Rattle.terminal_presses.proofs.Pieces.{posted_of_both}
@@ -22,7 +22,7 @@ use Rattle.terminal_presses.proofs.Pieces.{posted_of_both}
 pub one_button : (sight : Sight) (button : Button) (start end : Corner)
     → Makes sight new_hand (down button start ∷ up button end ∷ []) new_hand
     (clicked (Keys (alone button)) sight start end ∷ [])
-unfolding handled fresh reported gone_down begun meant gone_up rested released released_at
+unfolding handled unpasted fresh reported gone_down begun meant gone_up rested released released_at
 one_button sight Left start end = record { hand_is = refl; events_are = refl }
 one_button sight Middle start end = record { hand_is = refl; events_are = refl }
 one_button sight Right start end = record { hand_is = refl; events_are = refl }
@@ -36,7 +36,7 @@ pub record Both (sight : Sight) (first second : Button) (start p q end : Corner)
 
 pub two_buttons : (sight : Sight) (first second : Button) (start p q end : Corner) → (first ≡ second → ⊥)
     → Both sight first second start p q end
-unfolding handled fresh reported gone_down begun meant gone_up rested released released_at pressed_more called joined with_left with_middle with_right
+unfolding handled unpasted fresh reported gone_down begun meant gone_up rested released released_at pressed_more called joined with_left with_middle with_right
 two_buttons sight Left Left start p q end other = absurd (other refl)
 two_buttons sight Left Middle start p q end other = record {
   in_turn = record { hand_is = refl; events_are = refl };
@@ -102,6 +102,7 @@ off sight start = record {
     down = record { left = true; middle = true; right = true };
   });
   paste = None;
+  asked = None;
 }
 
 abbrev Falls : Sight → Corner → Corner → Corner → Button → Button → Button → Type 0
@@ -109,7 +110,7 @@ Falls sight start p q a b c =
     Makes sight new_hand (down a start ∷ down b p ∷ down c q ∷ []) (off sight start) []
 
 fallen : (sight : Sight) (start p q : Corner) (a b c : Button) → AreThree a b c → Falls sight start p q a b c
-unfolding handled fresh reported gone_down begun meant pressed_more called joined with_left with_middle with_right
+unfolding handled unpasted fresh reported gone_down begun meant pressed_more called joined with_left with_middle with_right
 fallen sight start p q a b c are =
     by_orders (Falls sight start p q) (record { hand_is = refl; events_are = refl })
     (record { hand_is = refl; events_are = refl }) (record { hand_is = refl; events_are = refl })
@@ -120,7 +121,7 @@ abbrev Rises : Sight → Corner → Corner → Corner → Corner → Button → 
 Rises sight start p q r x y z = Makes sight (off sight start) (up x p ∷ up y q ∷ up z r ∷ []) new_hand []
 
 risen : (sight : Sight) (start p q r : Corner) (x y z : Button) → AreThree x y z → Rises sight start p q r x y z
-unfolding handled fresh reported gone_up rested released released_at
+unfolding handled unpasted fresh reported gone_up rested released released_at
 risen sight start p q r x y z are =
     by_orders (Rises sight start p q r) (record { hand_is = refl; events_are = refl })
     (record { hand_is = refl; events_are = refl }) (record { hand_is = refl; events_are = refl })
@@ -152,7 +153,7 @@ Says sight key start end (Some click) =
     (clicked click sight start end ∷ [])
 
 each_says : (sight : Sight) (key : FunctionKey) (start end : Corner) → Says sight key start end (says key)
-unfolding handled fresh by_function reported gone_down begun meant gone_up rested released released_at
+unfolding handled unpasted fresh by_function reported gone_down begun meant gone_up rested released released_at
 each_says sight F1 start end = record { hand_is = refl; events_are = refl }
 each_says sight F2 start end = record { hand_is = refl; events_are = refl }
 each_says sight F3 start end = record { hand_is = refl; events_are = refl }
@@ -173,11 +174,11 @@ said_click sight key click start end is =
 pub held_click : (sight : Sight) (control : Bool) (start end : Corner)
     → Makes sight new_hand (down_with true control Left start ∷ up Left end ∷ []) new_hand
     (clicked (Keys keys.Middle) sight start end ∷ [])
-unfolding handled fresh reported gone_down begun meant gone_up rested released released_at
+unfolding handled unpasted fresh reported gone_down begun meant gone_up rested released released_at
 held_click sight control start end = record { hand_is = refl; events_are = refl }
 
 pub control_click : (sight : Sight) (start end : Corner)
     → Makes sight new_hand (down_with false true Left start ∷ up Left end ∷ []) new_hand
     (clicked (Keys keys.Right) sight start end ∷ [])
-unfolding handled fresh reported gone_down begun meant gone_up rested released released_at
+unfolding handled unpasted fresh reported gone_down begun meant gone_up rested released released_at
 control_click sight start end = record { hand_is = refl; events_are = refl }

@@ -1,5 +1,6 @@
 pub mod Clicks
 pub mod Found
+pub mod Names
 pub mod Pieces
 pub mod Spots
 pub mod Typing

@@ -20,7 +20,7 @@ use Rattle.terminal_presses.specs.declared.hand.Hand.{Hand}
 use Rattle.terminal_presses.specs.Presses.{single, at_rest, parser_after, pressed}
 use Rattle.terminal_presses.specs.Pastes.{typed, added, in_profile, pasted_byte, with_byte, fed, pasted_more}
 use Rattle.terminal_presses.specs.Pastes.{pasted_if_any}
-use Rattle.terminal_presses.specs.Hands.{idle, ends_paste, pasting, fresh, handled}
+use Rattle.terminal_presses.specs.Hands.{idle, ends_paste, pasting, fresh, unpasted, handled}
 use Rattle.terminal_presses.specs.Spelling.{bytes, sequence}
 use Rattle.terminal_presses.specs.Runs.{events_of, hand_after, posted, Makes, typed_byte, line_ends, pasted_text}
 use Rattle.terminal_presses.specs.Runs.{pasted, paste_of, Types}
@@ -199,6 +199,9 @@ typed_types (c ∷ cs) after_return waiting waits =
 abbrev amid : Hand → Paste → Hand
 amid hand p = record hand { paste = Some p }
 
+abbrev after_paste : Hand → Hand
+after_paste hand = record hand { paste = None }
+
 amid_handled : (sight : Sight) (press : Press) (hand : Hand) (p : Paste) → not (ends_paste press) ≡ true
     → handled sight press (amid hand p)
     ≡ (amid hand (pasted_if_any (pasted_byte press) p).0, (pasted_if_any (pasted_byte press) p).1)
@@ -213,7 +216,7 @@ next_events (Some c) cs p = refl
 
 presses_make : (sight : Sight) (hand : Hand) (p : Paste) (presses : List Press)
     → list_all (λ q. not (ends_paste q)) presses ≡ true
-    → Makes sight (amid hand p) (presses ++ PasteEnds ∷ []) (idle hand)
+    → Makes sight (amid hand p) (presses ++ PasteEnds ∷ []) (after_paste hand)
     (typed_events (filter_map pasted_byte presses) p)
 unfolding handled pasting
 presses_make sight hand p [] all = record {
@@ -388,11 +391,11 @@ text_is (b ∷ text) =
 
 pub paste_typed : (sight : Sight) (hand : Hand) (text : List ℕ)
     → Types (posted sight (idle hand) (paste_of text)) (pasted_text text)
-unfolding handled fresh
+unfolding handled unpasted fresh
 paste_typed sight hand text =
     let (are, all) = text_is text in
     let presses = filter_map single text in
-    let m = presses_make sight hand (paste false []) presses all in
+    let m = presses_make sight (idle hand) (paste false []) presses all in
     let cs = filter_map pasted_byte presses in
     let t = typed_types cs false [] (record { text = refl; short = omega arith }) in
     subst (λ es. Types es (pasted_text text)) (sym m.events_are)
@@ -400,9 +403,9 @@ paste_typed sight hand text =
 
 pub paste_leaves : (sight : Sight) (hand : Hand) (text : List ℕ)
     → hand_after sight (idle hand) (paste_of text) ≡ idle hand
-unfolding handled fresh
+unfolding handled unpasted fresh
 paste_leaves sight hand text =
-    (presses_make sight hand (paste false []) (filter_map single text) (text_is text).1).hand_is
+    (presses_make sight (idle hand) (paste false []) (filter_map single text) (text_is text).1).hand_is
 
 pub paste_pressed : (text : List ℕ) → list_all (λ b. not (b == 27)) text ≡ true
     → (parser_after at_rest (pasted text) ≡ at_rest) × (pressed at_rest (pasted text) ≡ paste_of text)

@@ -1,5 +1,5 @@
 -- What presses come to.
-use Rattle.std.specs.Prelude.{ℕ, Bool, true, false, ◌==◌, if◌then◌else◌, [], ◌∷◌, Option, Some, None, unwrap_or}
+use Rattle.std.specs.Prelude.{ℕ, Bool, true, false, ◌==◌, if◌then◌else◌, List, [], ◌∷◌, Option, Some, None, unwrap_or}
 use Rattle.event_bytes.specs.declared.event.Event.TheVariants.{Key}
 use Rattle.event_bytes.specs.declared.keys.Key.TheVariants as key
 use Rattle.event_bytes.specs.declared.keys.Keys.TheVariants as keys
@@ -17,48 +17,56 @@ use Rattle.terminal_presses.specs.declared.spot.Spot.{Spot}
 use Rattle.terminal_presses.specs.declared.action.Click.{Click}
 use Rattle.terminal_presses.specs.declared.action.Click.TheVariants.{Mark, Keys}
 use Rattle.terminal_presses.specs.declared.action.Action.{Action}
-use Rattle.terminal_presses.specs.declared.action.Action.TheVariants.{Nothing, Post, Ring, LookAnew, Leave, AskFile}
+use Rattle.terminal_presses.specs.declared.action.Action.TheVariants.{Nothing, Post, Ring, LookAnew, Leave}
 use Rattle.terminal_presses.specs.declared.action.Action.TheVariants.{Move, Step, Fit}
 use Rattle.terminal_presses.specs.declared.gesture.Gesture.{Gesture}
 use Rattle.terminal_presses.specs.declared.paste.Paste.{Paste}
 use Rattle.terminal_presses.specs.declared.hand.Hand.{Hand}
 use Rattle.terminal_presses.specs.Gestures.{no_buttons, is_none_down, is_down, with_button, pressed_more, released}
 use Rattle.terminal_presses.specs.Gestures.{released_at}
+use Rattle.terminal_presses.specs.Asking.{Asked, answered}
 use Rattle.terminal_presses.specs.Pastes.{return, typed, new_paste, pasted_byte, pasted_if_any}
 
 -- the hand that has pressed nothing
 abbrev pub new_hand : Hand
-new_hand = record { armed = None; gesture = None; paste = None }
+new_hand = record { armed = None; gesture = None; paste = None; asked = None }
 
--- a hand that isn't amid a paste
+-- a hand that isn't amid a paste, nor amid the name of a host file
 abbrev pub idle : Hand → Hand
-idle hand = record hand { paste = None }
+idle hand = record hand { paste = None; asked = None }
+
+-- a hand of which a name is asked for, as far as it is typed
+abbrev pub asking : List ℕ → Hand → Hand
+asking name hand = record hand { paste = None; asked = Some name }
 
 -- ---- keys
 
--- what Ctrl comes to with C, J, L, O, Q, V and X; another letter rings
+-- what Ctrl comes to with C, J, L, Q, V and X; another letter rings
 unfoldable pub control : ℕ → Action
 control b =
     if b == 3 then Post (Key key.Copy) else
     (if b == 10 then typed (return ∷ []) else
     (if b == 12 then LookAnew else
-    (if b == 15 then AskFile else
     (if b == 17 then Leave else
     (if b == 22 then Post (Key key.Paste) else
-    (if b == 24 then Post (Key key.Cut) else Ring))))))
+    (if b == 24 then Post (Key key.Cut) else Ring)))))
 
 -- the next click is what it says by itself
 unfoldable pub escaped : Hand → Hand × Action
 escaped hand = (record hand { armed = None }, Post (Key key.Escape))
 
--- Ctrl-G is Escape too
+-- the name of a host file is asked for
+abbrev pub asks : Hand → Hand × Action
+asks hand = (record hand { asked = Some [] }, Nothing)
+
+-- Ctrl-G is Escape too, and Ctrl-O asks for a name
 unfoldable pub controlled : ℕ → Hand → Hand × Action
-controlled b hand = if b == 7 then escaped hand else (hand, control b)
+controlled b hand = if b == 7 then escaped hand else (if b == 15 then asks hand else (hand, control b))
 
 abbrev pub armed_with : Click → Hand → Hand × Action
 armed_with click hand = (record hand { armed = Some click }, Nothing)
 
--- F1 to F7 say what the next click is
+-- F1 to F7 say what the next click is, and F8 asks for a name
 unfoldable pub by_function : FunctionKey → Hand → Hand × Action
 by_function F1 hand = armed_with Mark hand
 by_function F2 hand = armed_with (Keys keys.Middle) hand
@@ -67,7 +75,7 @@ by_function F4 hand = armed_with (Keys keys.LeftMiddle) hand
 by_function F5 hand = armed_with (Keys keys.LeftRight) hand
 by_function F6 hand = armed_with (Keys keys.RightLeft) hand
 by_function F7 hand = armed_with (Keys keys.RightMiddle) hand
-by_function F8 hand = (hand, AskFile)
+by_function F8 hand = asks hand
 by_function F9 hand = (hand, LookAnew)
 by_function F10 hand = (hand, Leave)
 
@@ -151,6 +159,15 @@ abbrev pub is_pasting : Option Paste → Bool
 is_pasting None = false
 is_pasting (Some paste) = true
 
+abbrev pub with_asked : Asked → Hand → Hand × Action
+with_asked next hand = (record hand { asked = next.0 }, next.1)
+
+-- what a press comes to while no paste goes on: the name that is asked for comes first
+unfoldable pub unpasted : Sight → Option (List ℕ) → Press → Hand → Hand × Action
+unpasted sight None press hand = fresh sight press hand
+unpasted sight (Some name) press hand = with_asked (answered press name) hand
+
 -- a hand and a press give a hand and an action, where this part of the display is in sight
 unfoldable pub handled : Sight → Press → Hand → Hand × Action
-handled sight press hand = if is_pasting hand.paste then pasting hand.paste press hand else fresh sight press hand
+handled sight press hand =
+    if is_pasting hand.paste then pasting hand.paste press hand else unpasted sight hand.asked press hand

@@ -1,5 +1,7 @@
+pub mod Asking
 pub mod Gestures
 pub mod Hands
+pub mod HostNames
 pub mod Pastes
 pub mod Presses
 pub mod Runs

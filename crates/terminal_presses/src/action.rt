@@ -1,5 +1,6 @@
 //! What a press comes to.
 
+use crate::host_name::HostName;
 use crate::press::{Arrow, Page};
 use event_bytes::{Event, Keys};
 
@@ -25,8 +26,8 @@ pub enum Action {
     LookAnew,
     /// The person leaves.
     Leave,
-    /// The person is asked for a host file, which is typed at the caret.
-    AskFile,
+    /// The text of the host file of that name, which has at least one byte, is typed at the caret.
+    TypeFile(HostName),
     /// Other rows of the display come into sight.
     Move(Page),
     /// A click beside the caret, as the screen has it.

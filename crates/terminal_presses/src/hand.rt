@@ -1,12 +1,15 @@
 //! The events that presses make.
-ghost use Rattle.std.specs.Prelude.{◌≡◌};
+ghost use Rattle.std.specs.Prelude.{◌≡◌, ◌↔◌, Some, None, IsNone, IfSome};
 ghost use Rattle.terminal_presses.specs.Hands.{new_hand, handled, pasting as pasting_by, fresh, escaped as escaped_by};
 ghost use Rattle.terminal_presses.specs.Hands.{controlled as controlled_by, control as control_says, by_function};
 ghost use Rattle.terminal_presses.specs.Hands.{reported as reported_by, gone_down, gone_up, begun};
-ghost use Rattle.terminal_presses.specs.Hands.{meant as click_meant};
+ghost use Rattle.terminal_presses.specs.Hands.{meant as click_meant, unpasted as unpasted_by, with_asked, asks};
+ghost use Rattle.terminal_presses.specs.Asking.{answered, entered, spelled, shortened, controlled_name};
+ghost use Rattle.terminal_presses.specs.Asking.{by_function_amid};
 
 use crate::action::{Action, Click};
 use crate::gesture::{Buttons, Gesture};
+use crate::host_name::{HostName, is_host_byte};
 use crate::paste::{LINE_FEED, Paste, typed};
 use crate::press::{Button, FunctionKey, MouseReport, Press};
 use crate::sight::Sight;
@@ -34,6 +37,7 @@ pub struct Hand {
     armed: Option<Click>,
     gesture: Option<Gesture>,
     paste: Option<Paste>,
+    asked: Option<HostName>,
 }
 
 impl Hand {
@@ -45,6 +49,7 @@ impl Hand {
             armed: None,
             gesture: None,
             paste: None,
+            asked: None,
         }
     }
 
@@ -53,6 +58,17 @@ impl Hand {
         ensures { result ≡ self.now.armed }
     {
         self.armed
+    }
+
+    /// The name of a host file as far as it is typed, where one is asked for.
+    pub fn asked(&self) -> Option<&[u8]>
+        ensures none { IsNone result ↔ (self.now.asked ≡ None) }
+        ensures name { IfSome result (λ name. self.now.asked ≡ Some name.now) }
+    {
+        match &self.asked {
+            None => None,
+            Some(name) => Some(name.as_bytes()),
+        }
     }
 
     /// What a press comes to, where this part of the display is in sight.
@@ -64,8 +80,128 @@ impl Hand {
         if self.paste.is_some() {
             self.pasting(press)
         } else {
-            self.fresh(sight, press)
+            self.unpasted(sight, press)
         }
+    }
+
+    /// What a press comes to while no paste goes on.
+    #[tactic(auto, unfolding(crate::specs::Hands::unpasted))]
+    fn unpasted(&mut self, sight: Sight, press: Press) -> Action
+        ensures hand { self.new ≡ (unpasted_by sight self.old.asked press self.old).0 }
+        ensures action { result ≡ (unpasted_by sight self.old.asked press self.old).1 }
+    {
+        match self.asked.take() {
+            None => self.fresh(sight, press),
+            Some(name) => self.answered(name, press),
+        }
+    }
+
+    /// What a press comes to while a name is asked for that is typed as far as this.
+    #[tactic(auto, unfolding(crate::specs::Asking::answered))]
+    fn answered(&mut self, name: HostName, press: Press) -> Action
+        ensures hand { self.new ≡ (with_asked (answered press name) self.old).0 }
+        ensures action { result ≡ (with_asked (answered press name) self.old).1 }
+    {
+        match press {
+            Press::Character(byte) => self.spelled(name, byte),
+            Press::Control(byte) => self.controlled_name(name, byte),
+            Press::Back => self.shortened(name),
+            Press::Escape => {
+                self.asked = None;
+                Action::Nothing
+            }
+            Press::Foreign | Press::Arrow(_) => self.keep(name, Action::Ring),
+            Press::Page(page) => self.keep(name, Action::Move(page)),
+            Press::Function(key) => self.keep(name, function_amid(key)),
+            Press::Mouse(_) | Press::PasteBegins | Press::PasteEnds | Press::Unknown => self.keep(
+                name,
+                Action::Nothing,
+            ),
+            Press::Size(rows, columns) => self.keep(name, Action::Fit(rows, columns)),
+        }
+    }
+
+    /// The name is still asked for.
+    fn keep(&mut self, name: HostName, action: Action) -> Action
+        ensures hand { self.new ≡ (with_asked (Some name, action) self.old).0 }
+        ensures action { result ≡ action }
+    {
+        self.asked = Some(name);
+        action
+    }
+
+    /// A byte of the name, or a carriage return, which ends it.
+    #[tactic(auto, unfolding(crate::specs::Asking::spelled))]
+    fn spelled(&mut self, name: HostName, byte: u8) -> Action
+        ensures hand { self.new ≡ (with_asked (spelled byte name) self.old).0 }
+        ensures action { result ≡ (with_asked (spelled byte name) self.old).1 }
+    {
+        let mut name = name;
+        if byte == CARRIAGE_RETURN {
+            self.entered(name)
+        } else if is_host_byte(byte) && name.has_room() {
+            name.add(byte);
+            self.keep(name, Action::Nothing)
+        } else {
+            self.keep(name, Action::Ring)
+        }
+    }
+
+    /// The last byte of the name is taken off.
+    #[tactic(auto, unfolding(crate::specs::Asking::shortened))]
+    fn shortened(&mut self, name: HostName) -> Action
+        ensures hand { self.new ≡ (with_asked (shortened name) self.old).0 }
+        ensures action { result ≡ (with_asked (shortened name) self.old).1 }
+    {
+        let mut name = name;
+        if name.as_bytes().is_empty() {
+            return self.keep(name, Action::Ring);
+        }
+        name.shorten();
+        self.keep(name, Action::Nothing)
+    }
+
+    /// What the key Ctrl comes to with a letter while a name is asked for.
+    #[tactic(auto, unfolding(crate::specs::Asking::controlled_name))]
+    fn controlled_name(&mut self, name: HostName, byte: u8) -> Action
+        ensures hand { self.new ≡ (with_asked (controlled_name byte name) self.old).0 }
+        ensures action { result ≡ (with_asked (controlled_name byte name) self.old).1 }
+    {
+        if byte == CONTROL_G {
+            self.asked = None;
+            Action::Nothing
+        } else if byte == LINE_FEED {
+            self.entered(name)
+        } else if byte == CONTROL_L {
+            self.keep(name, Action::LookAnew)
+        } else if byte == CONTROL_Q {
+            self.keep(name, Action::Leave)
+        } else {
+            self.keep(name, Action::Ring)
+        }
+    }
+
+    /// The name is whole. One with no byte is none.
+    #[tactic(auto, unfolding(crate::specs::Asking::entered))]
+    fn entered(&mut self, name: HostName) -> Action
+        ensures hand { self.new ≡ (with_asked (entered name) self.old).0 }
+        ensures action { result ≡ (with_asked (entered name) self.old).1 }
+    {
+        self.asked = None;
+        if name.as_bytes().is_empty() {
+            Action::Nothing
+        } else {
+            Action::TypeFile(name)
+        }
+    }
+
+    /// The name of a host file is asked for.
+    fn ask(&mut self) -> Action
+        ensures hand { self.new ≡ (asks self.old).0 }
+        ensures action { result ≡ (asks self.old).1 }
+    {
+        self.asked = Some(HostName::none());
+        Action::Nothing
     }
 
     /// What a press comes to while a paste goes on.
@@ -128,6 +264,8 @@ impl Hand {
     {
         if byte == CONTROL_G {
             self.escaped()
+        } else if byte == CONTROL_O {
+            self.ask()
         } else {
             control(byte)
         }
@@ -147,7 +285,7 @@ impl Hand {
             FunctionKey::F5 => Click::Keys(Keys::LeftRight),
             FunctionKey::F6 => Click::Keys(Keys::RightLeft),
             FunctionKey::F7 => Click::Keys(Keys::RightMiddle),
-            FunctionKey::F8 => return Action::AskFile,
+            FunctionKey::F8 => return self.ask(),
             FunctionKey::F9 => return Action::LookAnew,
             FunctionKey::F10 => return Action::Leave,
         };
@@ -249,10 +387,28 @@ fn control(byte: u8) -> Action
         CONTROL_C => Action::Post(Event::Key(Key::Copy)),
         LINE_FEED => typed(&[CARRIAGE_RETURN]),
         CONTROL_L => Action::LookAnew,
-        CONTROL_O => Action::AskFile,
         CONTROL_Q => Action::Leave,
         CONTROL_V => Action::Post(Event::Key(Key::Paste)),
         CONTROL_X => Action::Post(Event::Key(Key::Cut)),
         _ => Action::Ring,
+    }
+}
+
+/// What a function key comes to while a name is asked for.
+#[tactic(auto, unfolding(crate::specs::Asking::by_function_amid))]
+fn function_amid(key: FunctionKey) -> Action
+    ensures { result ≡ by_function_amid key }
+{
+    match key {
+        FunctionKey::F9 => Action::LookAnew,
+        FunctionKey::F10 => Action::Leave,
+        FunctionKey::F1
+        | FunctionKey::F2
+        | FunctionKey::F3
+        | FunctionKey::F4
+        | FunctionKey::F5
+        | FunctionKey::F6
+        | FunctionKey::F7
+        | FunctionKey::F8 => Action::Ring,
     }
 }

@@ -1,6 +1,6 @@
 //! What holds of all presses.
 ghost use Rattle.std.specs.Prelude.{◌≡◌, ℕ, ◌+◌, ◌<◌, ◌≤◌, Bool, true, false, ◌==◌, not, List, [], ◌∷◌, ◌++◌};
-ghost use Rattle.std.specs.Prelude.{IsTrue, Some};
+ghost use Rattle.std.specs.Prelude.{IsTrue, Some, length, map};
 ghost use Rattle.std.specs.List.{list_all};
 ghost use Rattle.event_bytes.specs.declared.keys.Keys.TheVariants as keys;
 ghost use Rattle.terminal_presses.specs.declared.press.Heard.{Heard};
@@ -9,7 +9,8 @@ ghost use Rattle.terminal_presses.specs.declared.press.Button.{Button};
 ghost use Rattle.terminal_presses.specs.declared.press.Button.TheVariants.{Left};
 ghost use Rattle.terminal_presses.specs.declared.press.FunctionKey.{FunctionKey};
 ghost use Rattle.terminal_presses.specs.declared.press.Press.{Press};
-ghost use Rattle.terminal_presses.specs.declared.press.Press.TheVariants.{Escape, Function};
+ghost use Rattle.terminal_presses.specs.declared.press.Press.TheVariants.{Character, Escape, Function};
+ghost use Rattle.terminal_presses.specs.declared.action.Action.TheVariants.{Nothing, TypeFile};
 ghost use Rattle.terminal_presses.specs.declared.action.Click.{Click};
 ghost use Rattle.terminal_presses.specs.declared.action.Click.TheVariants.{Keys};
 ghost use Rattle.terminal_presses.specs.Sights.{Sight, IsSight, spot_in};
@@ -18,7 +19,9 @@ ghost use Rattle.terminal_presses.specs.declared.hand.Hand.{Hand};
 ghost use Rattle.viewer_tracks.specs.declared.display.TheConstants.{COLUMNS};
 ghost use Rattle.terminal_presses.specs.Presses.{at_rest, parser_after, pressed};
 ghost use Rattle.terminal_presses.specs.Spelling.{AreHeard};
-ghost use Rattle.terminal_presses.specs.Hands.{new_hand, idle};
+ghost use Rattle.terminal_presses.specs.Hands.{new_hand, idle, asking, handled};
+ghost use Rattle.terminal_presses.specs.HostNames.{is_host_name};
+ghost use Rattle.terminal_presses.specs.Pastes.{return};
 ghost use Rattle.terminal_presses.specs.Runs.{hand_after, posted, Makes, Corner, down_with, down, up, alone, together};
 ghost use Rattle.terminal_presses.specs.Runs.{clicked, says, AreThree, paste_of, pasted_text, pasted, Types};
 
@@ -103,4 +106,15 @@ pub fn pastes_are_typed()
         → Types (posted sight (idle hand) (paste_of text)) (pasted_text text) }
     ensures hand { (sight : Sight) (hand : Hand) (text : List ℕ)
         → hand_after sight (idle hand) (paste_of text) ≡ idle hand }
+{}
+
+/// The bytes of a host file's name that is asked for are typed one after another, and make no event. A carriage return
+/// then says that the file is typed; the key Escape calls it off. The hand asks no more then.
+pub fn names_are_typed()
+    ensures typed { (sight : Sight) (hand : Hand) (name : List ℕ) → IsTrue (is_host_name name)
+        → Makes sight (asking [] hand) (map Character name) (asking name hand) [] }
+    ensures entered { (sight : Sight) (hand : Hand) (name : List ℕ) → 1 ≤ length name
+        → handled sight (Character return) (asking name hand) ≡ (idle hand, TypeFile name) }
+    ensures called_off { (sight : Sight) (hand : Hand) (name : List ℕ)
+        → handled sight Escape (asking name hand) ≡ (idle hand, Nothing) }
 {}

@@ -98,7 +98,7 @@ pub enum Press {
 }
 
 /// What one byte, or a quiet while, completes: no press, one, or two in that order.
-#[derive(Clone, Copy, Debug, PartialEq, Eq)]
+#[derive(Clone, Copy)]
 pub enum Presses {
     Nothing,
     One(Press),

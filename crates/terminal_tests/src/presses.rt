@@ -149,14 +149,13 @@ fn bytes_press(rt: HostRuntime) -> Result<(), Fail> {
     Ok(())
 }
 
-/// The letter that stands for an action in the tables; None for an event, and for nothing.
+/// The letter that stands for an action in the tables; None for an event, a file, and for nothing.
 fn letter(action: &Action) -> Option<u8> {
     match action {
-        Action::Nothing | Action::Post(_) => None,
+        Action::Nothing | Action::Post(_) | Action::TypeFile(_) => None,
         Action::Ring => Some(b'R'),
         Action::LookAnew => Some(b'N'),
         Action::Leave => Some(b'L'),
-        Action::AskFile => Some(b'F'),
         Action::Move(Page::Up) => Some(b'U'),
         Action::Move(Page::Down) => Some(b'D'),
         Action::Step(_) => Some(b'S'),
@@ -164,10 +163,14 @@ fn letter(action: &Action) -> Option<u8> {
     }
 }
 
-/// Adds what an action is: the spelling of its event, or else its letter.
+/// Adds what an action is: the spelling of its event, T and the name of its file, or else its letter.
 fn add_action(found: &mut Vec<u8>, action: &Action) -> Result<(), AllocError> {
     if let Action::Post(event) = action {
         found.extend_from_slice(event.encode().as_slice())?;
+    }
+    if let Action::TypeFile(name) = action {
+        found.push(b'T')?;
+        found.extend_from_slice(name.as_bytes())?;
     }
     if let Some(letter) = letter(action) {
         found.push(letter)?;
@@ -198,12 +201,12 @@ fn acted(alloc: Global, bytes: &[u8], sight: Sight) -> Result<Vec<u8>, AllocErro
 
 #[test]
 fn presses_make_events(rt: HostRuntime) -> Result<(), Fail> {
-    let table: [(&[u8], &[u8]); 16] = [
+    let table: [(&[u8], &[u8]); 20] = [
         (b"a", b"\x01\x00\x01a"),
         (b"\n", b"\x01\x00\x01\x0d"),
         (b"\x08\x03\x18\x16", b"\x02\x00\x02\x01\x02\x03\x02\x02"),
         (b"\x1b\xff\x07", b"\x02\x04\x02\x04"),
-        (b"\x0c\x0f\x11\x01", b"NFLR"),
+        (b"\x0c\x11\x01", b"NLR"),
         (b"\x1b[5~\x1b[6~\x1b[A\x1b[8;24;80t", b"UDSZ"),
         // A click, and a drag from a corner to beyond the opposite one.
         (b"\x1b[<0;2;2M\x1b[<0;2;2m", b"\x04\x00\x01\x1e\x01\x1e"),
@@ -229,6 +232,11 @@ fn presses_make_events(rt: HostRuntime) -> Result<(), Fail> {
             b"\x04\x03\x00\x1f\x00\x1f",
         ),
         (b"\x1bOP\x1b[<0;3;32M\x1b[<0;1;1m", b"\x03\x02\x00"),
+        // The name of a host file, one with no byte, one that is called off, and what rings meanwhile.
+        (b"\x0fa.tx~\x08t\r", b"Ta.txt"),
+        (b"\x1b[19~\r\x08", b"\x02\x00"),
+        (b"\x0fab\x1b\xffc", b"\x01\x00\x01c"),
+        (b"\x0f\x08\t\xc3\xa4\x1b[A\x1b[21~", b"RRRRL"),
         (
             b"\x1b[200~a\r\nb\nc\xc3\xa4\x07\x1b[201~",
             b"\x01\x00\x07a\rb\rc??",

@@ -1,0 +1,67 @@
+-- The name of a host file, as it is asked for and typed.
+use Rattle.std.specs.Prelude.{ℕ, ◌==◌, ◌&&◌, nat_lt, if◌then◌else◌, List, [], ◌∷◌, ◌++◌, length, Option, Some, None}
+use Rattle.terminal_presses.specs.declared.press.FunctionKey.{FunctionKey}
+use Rattle.terminal_presses.specs.declared.press.FunctionKey.TheVariants.{F1, F2, F3, F4, F5, F6, F7, F8, F9, F10}
+use Rattle.terminal_presses.specs.declared.press.Press.{Press}
+use Rattle.terminal_presses.specs.declared.press.Press.TheVariants.{Character, Foreign, Control, Back, Escape, Arrow}
+use Rattle.terminal_presses.specs.declared.press.Press.TheVariants.{Page, Function, Mouse, PasteBegins, PasteEnds, Size}
+use Rattle.terminal_presses.specs.declared.press.Press.TheVariants.{Unknown}
+use Rattle.terminal_presses.specs.declared.action.Action.{Action}
+use Rattle.terminal_presses.specs.declared.action.Action.TheVariants.{Nothing, Ring, LookAnew, Leave, TypeFile, Move, Fit}
+use Rattle.terminal_presses.specs.HostNames.{is_host_byte, but_last}
+
+-- the name as far as it is typed, where one is still asked for, and what is done
+abbrev pub Asked : Type 0
+Asked = Option (List ℕ) × Action
+
+-- a name with no byte is none
+unfoldable pub entered : List ℕ → Asked
+entered [] = (None, Nothing)
+entered (b ∷ name) = (None, TypeFile (b ∷ name))
+
+-- a carriage return ends the name
+unfoldable pub spelled : ℕ → List ℕ → Asked
+spelled b name =
+    if b == 13 then entered name else
+    (if is_host_byte b && nat_lt (length name) 255 then (Some (name ++ b ∷ []), Nothing) else (Some name, Ring))
+
+-- the last byte is taken off
+unfoldable pub shortened : List ℕ → Asked
+shortened [] = (Some [], Ring)
+shortened (b ∷ name) = (Some (but_last (b ∷ name)), Nothing)
+
+-- what Ctrl comes to with G, J, L and Q; another letter rings
+unfoldable pub controlled_name : ℕ → List ℕ → Asked
+controlled_name b name =
+    if b == 7 then (None, Nothing) else
+    (if b == 10 then entered name else
+    (if b == 12 then (Some name, LookAnew) else
+    (if b == 17 then (Some name, Leave) else (Some name, Ring))))
+
+unfoldable pub by_function_amid : FunctionKey → Action
+by_function_amid F1 = Ring
+by_function_amid F2 = Ring
+by_function_amid F3 = Ring
+by_function_amid F4 = Ring
+by_function_amid F5 = Ring
+by_function_amid F6 = Ring
+by_function_amid F7 = Ring
+by_function_amid F8 = Ring
+by_function_amid F9 = LookAnew
+by_function_amid F10 = Leave
+
+-- what a press comes to while a name is asked for
+unfoldable pub answered : Press → List ℕ → Asked
+answered (Character b) name = spelled b name
+answered Foreign name = (Some name, Ring)
+answered (Control b) name = controlled_name b name
+answered Back name = shortened name
+answered Escape name = (None, Nothing)
+answered (Arrow arrow) name = (Some name, Ring)
+answered (Page page) name = (Some name, Move page)
+answered (Function key) name = (Some name, by_function_amid key)
+answered (Mouse report) name = (Some name, Nothing)
+answered PasteBegins name = (Some name, Nothing)
+answered PasteEnds name = (Some name, Nothing)
+answered (Size rows columns) name = (Some name, Fit rows columns)
+answered Unknown name = (Some name, Nothing)
