@@ -52,7 +52,8 @@ fn listen<R: Read + IsTerminal>(
     reader: &mut R,
     was_quiet: &mut bool,
 ) -> Result<Hearing, KeyboardEnd>
-    ensures bytes { IfOk result (λ told. Consumes (R.remaining reader.old) (R.remaining reader.new) (heard_bytes told)) }
+    ensures bytes { IfOk result
+        (λ told. Consumes (R.remaining reader.old) (R.remaining reader.new) (heard_bytes told)) }
     ensures none { OnErr result (Consumes (R.remaining reader.old) (R.remaining reader.new) []) }
     ensures quiet { IfOk result (λ told. is_quiet_while told ≡ was_quiet.new) }
     ensures once { IfOk result (λ told. is_quiet_while told ≡ true → was_quiet.old ≡ false) }

@@ -36,7 +36,8 @@ pub record Both (sight : Sight) (first second : Button) (start p q end : Corner)
 
 pub two_buttons : (sight : Sight) (first second : Button) (start p q end : Corner) → (first ≡ second → ⊥)
     → Both sight first second start p q end
-unfolding handled unpasted fresh reported gone_down begun meant gone_up rested released released_at pressed_more called joined with_left with_middle with_right
+unfolding handled unpasted fresh reported gone_down begun meant gone_up rested released released_at pressed_more
+    called joined with_left with_middle with_right
 two_buttons sight Left Left start p q end other = absurd (other refl)
 two_buttons sight Left Middle start p q end other = record {
   in_turn = record { hand_is = refl; events_are = refl };
@@ -110,7 +111,8 @@ Falls sight start p q a b c =
     Makes sight new_hand (down a start ∷ down b p ∷ down c q ∷ []) (off sight start) []
 
 fallen : (sight : Sight) (start p q : Corner) (a b c : Button) → AreThree a b c → Falls sight start p q a b c
-unfolding handled unpasted fresh reported gone_down begun meant pressed_more called joined with_left with_middle with_right
+unfolding handled unpasted fresh reported gone_down begun meant pressed_more called joined with_left with_middle
+    with_right
 fallen sight start p q a b c are =
     by_orders (Falls sight start p q) (record { hand_is = refl; events_are = refl })
     (record { hand_is = refl; events_are = refl }) (record { hand_is = refl; events_are = refl })

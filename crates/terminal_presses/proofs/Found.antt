@@ -180,19 +180,22 @@ escape_found = (refl, refl)
 
 arrow_found : (key : ArrowKey)
     → AllFound (Arrow key) (letter_alone (arrow_letter key) ∷ shifted (arrow_letter key) ∷ [])
-unfolding heard_by after after_byte after_ground grounded after_escape after_shift after_sequence is_digit ended plain lettered arrow_at
+unfolding heard_by after after_byte after_ground grounded after_escape after_shift after_sequence is_digit ended
+    plain lettered arrow_at
 arrow_found arrow.Up = ((refl, refl), ((refl, refl), tt))
 arrow_found arrow.Down = ((refl, refl), ((refl, refl), tt))
 arrow_found arrow.Right = ((refl, refl), ((refl, refl), tt))
 arrow_found arrow.Left = ((refl, refl), ((refl, refl), tt))
 
 page_found : (key : PageKey) → Finds (Page key) (bytes (page_spelling key))
-unfolding heard_by after after_byte after_ground grounded after_escape after_sequence is_digit with_digit longer ended plain numbered
+unfolding heard_by after after_byte after_ground grounded after_escape after_sequence is_digit with_digit longer
+    ended plain numbered
 page_found page.Up = (refl, refl)
 page_found page.Down = (refl, refl)
 
 function_found : (key : FunctionKey) → AllFound (Function key) (function_spellings key)
-unfolding heard_by after after_byte after_ground grounded after_escape after_shift after_sequence after_console is_digit with_digit longer ended plain lettered numbered function_at
+unfolding heard_by after after_byte after_ground grounded after_escape after_shift after_sequence after_console
+    is_digit with_digit longer ended plain lettered numbered function_at
 function_found F1 = ((refl, refl), ((refl, refl), ((refl, refl), ((refl, refl), tt))))
 function_found F2 = ((refl, refl), ((refl, refl), ((refl, refl), ((refl, refl), tt))))
 function_found F3 = ((refl, refl), ((refl, refl), ((refl, refl), ((refl, refl), tt))))
@@ -206,7 +209,8 @@ function_found F10 = ((refl, refl), tt)
 
 pub paste_found : Finds PasteBegins (bytes (sequence (50 ∷ 48 ∷ 48 ∷ 126 ∷ [])))
     × Finds PasteEnds (bytes (sequence (50 ∷ 48 ∷ 49 ∷ 126 ∷ [])))
-unfolding heard_by after after_byte after_ground grounded after_escape after_sequence is_digit with_digit longer ended plain numbered
+unfolding heard_by after after_byte after_ground grounded after_escape after_sequence is_digit with_digit longer
+    ended plain numbered
 paste_found = ((refl, refl), (refl, refl))
 
 -- ---- numbers
@@ -394,7 +398,8 @@ report_found report text is =
 
 size_begins : (text : List ℕ)
     → Goes at_rest (bytes (27 ∷ 91 ∷ 56 ∷ 59 ∷ text)) (amid (numbers mark.Plain 1 8 0 0)) (bytes text)
-unfolding heard_by after after_byte after_ground grounded after_escape after_sequence is_digit with_digit longer with_number
+unfolding heard_by after after_byte after_ground grounded after_escape after_sequence is_digit with_digit longer
+    with_number
 size_begins text = (refl, refl)
 
 size_ends : (rows columns : ℕ)

@@ -7,7 +7,8 @@ use Rattle.terminal_presses.specs.declared.press.Press.TheVariants.{Character, F
 use Rattle.terminal_presses.specs.declared.press.Press.TheVariants.{Page, Function, Mouse, PasteBegins, PasteEnds, Size}
 use Rattle.terminal_presses.specs.declared.press.Press.TheVariants.{Unknown}
 use Rattle.terminal_presses.specs.declared.action.Action.{Action}
-use Rattle.terminal_presses.specs.declared.action.Action.TheVariants.{Nothing, Ring, LookAnew, Leave, TypeFile, Move, Fit}
+use Rattle.terminal_presses.specs.declared.action.Action.TheVariants.{Nothing, Ring, LookAnew}
+use Rattle.terminal_presses.specs.declared.action.Action.TheVariants.{Leave, TypeFile, Move, Fit}
 use Rattle.terminal_presses.specs.HostNames.{is_host_byte, but_last}
 
 -- the name as far as it is typed, where one is still asked for, and what is done
