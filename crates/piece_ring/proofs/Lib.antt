@@ -1,3 +1,4 @@
+pub mod Adding
 pub mod Blocks
 pub mod Dividing
 pub mod Joins

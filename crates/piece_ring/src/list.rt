@@ -6,7 +6,7 @@ ghost use Rattle.std.specs.Prelude.{OnErr};
 ghost use Rattle.piece_ring.specs.declared.place.Seam.{Seam as ASeam};
 ghost use Rattle.piece_ring.specs.Flat.{flat, relooked_piece, IsWhole};
 ghost use Rattle.piece_ring.specs.Kept.{IsKeptAt, IsSettledAt, kept_pieces};
-ghost use Rattle.piece_ring.specs.Merging.{Continues, IsMergedAt};
+ghost use Rattle.piece_ring.specs.Merging.{Continues, IsMergedAt, UnitesAtMost};
 ghost use Rattle.piece_ring.specs.Nodes.{places, pieces, with_put_in, with_range};
 ghost use Rattle.piece_ring.specs.Place.{pieces_of, text_of, IsSeam, IsFound, IsPlace};
 ghost use Rattle.piece_ring.specs.PieceList.{IsPieceList, IsStretch};
@@ -393,6 +393,7 @@ impl PieceList {
         ensures merged { IsMergedAt (pieces_of self.new.chain.nodes) seam.pos }
         ensures elsewhere { (pos : ℕ) → seam.pos < pos → IsMergedAt (pieces_of self.old.chain.nodes) pos
             → IsMergedAt (pieces_of self.new.chain.nodes) pos }
+        ensures pieces { UnitesAtMost (pieces_of self.old.chain.nodes) (pieces_of self.new.chain.nodes) }
     {
         let Seam { at, index, pos } = seam;
         let len = first.len + second.len;
@@ -417,6 +418,7 @@ impl PieceList {
         ensures merged { IsMergedAt (pieces_of self.new.chain.nodes) seam.pos }
         ensures elsewhere { (pos : ℕ) → seam.pos < pos → IsMergedAt (pieces_of self.old.chain.nodes) pos
             → IsMergedAt (pieces_of self.new.chain.nodes) pos }
+        ensures pieces { UnitesAtMost (pieces_of self.old.chain.nodes) (pieces_of self.new.chain.nodes) }
     {
         if seam.index == 0 || seam.index == self.count {
             return;
@@ -437,6 +439,7 @@ impl PieceList {
         ensures merged { IsMergedAt (pieces_of self.new.chain.nodes) pos }
         ensures elsewhere { (at : ℕ) → pos < at → IsMergedAt (pieces_of self.old.chain.nodes) at
             → IsMergedAt (pieces_of self.new.chain.nodes) at }
+        ensures pieces { UnitesAtMost (pieces_of self.old.chain.nodes) (pieces_of self.new.chain.nodes) }
     {
         match self.place(pos) {
             Place::Between(seam) => self.merge(alloc, seam),
@@ -451,6 +454,7 @@ impl PieceList {
         ensures settled { IsSettledAt (kept_pieces self.new.chain.nodes self.new.kept) pos }
         ensures elsewhere { (at : ℕ) → pos < at → IsMergedAt (pieces_of self.old.chain.nodes) at
             → IsMergedAt (pieces_of self.new.chain.nodes) at }
+        ensures pieces { UnitesAtMost (pieces_of self.old.chain.nodes) (pieces_of self.new.chain.nodes) }
     {
         self.merge_at(alloc, pos);
         self.locate(pos);

@@ -2,12 +2,13 @@
 //!
 //! A clause sees a ring as the list of its nonempty pieces, and most speak of the flat list of each
 //! character's offset and look alone. How a text is cut into pieces isn't promised, but for the cut
-//! that `split_at` makes and the pieces that `push` puts in, which `Cursor::next_piece` gives back.
+//! that `split_at` makes, the pieces that `push` puts in, which `Cursor::next_piece` gives back, and
+//! how many `add` makes.
 ghost use Rattle.std.specs.Prelude.{◌≡◌, ◌+◌, ◌^◌, ◌<◌, ◌≤◌, ◌∷◌, ◌++◌, [], length, drop, IfOk, IfErr, OnOk, OnErr};
 ghost use Rattle.piece_ring.specs.Cut.{IsCutAt};
 ghost use Rattle.piece_ring.specs.Flat.{flat, characters_of, IsWhole};
 ghost use Rattle.piece_ring.specs.Kept.{IsKeptAt, IsSettledAt};
-ghost use Rattle.piece_ring.specs.Merging.{IsMergedAt};
+ghost use Rattle.piece_ring.specs.Merging.{AddsAtMost, IsMergedAt};
 ghost use Rattle.piece_ring.specs.Text.{stretch, inserted, deleted, looks_changed};
 
 use crate::cursor::Cursor;
@@ -145,13 +146,15 @@ impl Ring {
         Ok(copy)
     }
 
-    /// Puts a piece at the end. If memory is refused the text stays.
+    /// Puts a piece at the end, where it becomes one with the last piece if it continues it. If memory
+    /// is refused the text stays.
     pub fn add(&mut self, alloc: Global, piece: Piece) -> Result<(), NoMemory>
         requires whole { IsWhole piece }
         requires fits { length (flat self.old.pieces) + piece.len < 2 ^ 32 }
         ensures text { OnOk result (flat self.new.pieces
             ≡ flat self.old.pieces ++ characters_of piece) }
         ensures settled { OnOk result (IsSettledAt self.new (length (flat self.old.pieces))) }
+        ensures pieces { OnOk result (AddsAtMost self.old.pieces piece self.new.pieces) }
         ensures refused { OnErr result (flat self.new.pieces ≡ flat self.old.pieces) }
     {
         let one = Stretch::of_piece(&alloc, piece)?;
