@@ -9,8 +9,8 @@ use Rattle.std.proofs.lemmas.Cmp.{nat_list_eq_equiv}
 use Rattle.std.proofs.lemmas.List.{take_all, length-take-le}
 use Rattle.std.proofs.lemmas.Map.Made.{length-le_from_is_member}
 use Rattle.std.proofs.lemmas.Slice.Eq.{bytes_eq-Decides}
-use Rattle.command_table.specs.declared.listing.TheConstants.{MOST_NAMES}
-use Rattle.command_table.specs.Deciding.{is_among, are_distinct, can_be_deleted, FirstNamesDecide}
+use Rattle.command_table.specs.Deciding.{is_among, are_distinct, can_be_deleted, most_files, most_names}
+use Rattle.command_table.specs.Deciding.{FirstNamesDecide}
 
 and_both : (a b : Bool) → (a && b) ≡ true → (a ≡ true) × (b ≡ true)
 and_both true b h = (refl, h)
@@ -65,4 +65,14 @@ decide most files names few = by_length (cases_lt most (length names)) where
   by_length (inr fits) = ap (can_be_deleted files) (take_all most names fits)
 
 pub first_names_decide : FirstNamesDecide
-first_names_decide files names few = decide MOST_NAMES files names few
+first_names_decide files names few =
+    decide most_names files names (let le : length files + 1 ≤ most_names = omega (arith, few) in le)
+
+-- where a list is one of files it is read whole
+pub all_are_read : (files names : List (List ℕ)) → length files ≤ most_files → can_be_deleted files names ≡ true
+    → take most_names names ≡ names
+all_are_read files names few can = by_length (cases_lt (length files) (length names)) where
+  by_length : (length files < length names) ⊎ (length names ≤ length files) → take most_names names ≡ names
+  by_length (inl more) = let bad : true ≡ false = sym can ∙ too_many files names more in
+      absurd (let wrong : ⊥ = cc in wrong)
+  by_length (inr fits) = take_all most_names names (let le : length names ≤ most_names = omega (arith, few, fits) in le)

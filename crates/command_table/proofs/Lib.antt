@@ -1,4 +1,5 @@
 pub mod Deciding
+pub mod FirstNames
 pub mod Gathering
 pub mod Runs
 pub mod Values

@@ -4,9 +4,11 @@ use Rattle.std.specs.Option.{option_map}
 use Rattle.std.proofs.Common.{refl, sym, ap, ◌∙◌}
 use Rattle.readers_scanners.specs.Form.{symbol}
 use Rattle.readers_scanners.specs.declared.symbol.Symbol.{Symbol}
-use Rattle.command_table.specs.declared.codes.TheConstants.{NO_SELECTION, NO_VIEWER}
+use Rattle.command_table.specs.Codes.{no_selection, no_viewer}
 use Rattle.command_table.specs.Parameters.{of_selection, of_menu, is_special, symbol_in, symbol_or, value, names}
-use Rattle.command_table.specs.Parameters.{names_or, names_in, names_on, names_from, some_names}
+use Rattle.command_table.specs.Deciding.{most_names}
+use Rattle.command_table.specs.Parameters.{names_or, names_in, names_on, names_from, some_names, first_names}
+use Rattle.command_table.proofs.FirstNames.{first_of_some}
 
 module _ {T : Type 0} (read : T → List ℕ) (text : T) (pos : ℕ) (selection : Option (T × ℕ)) where
   -- the test of the first symbol
@@ -16,13 +18,13 @@ module _ {T : Type 0} (read : T → List ℕ) (text : T) (pos : ℕ) (selection 
 
   pub value_of_selection : (menu : Option T) (first : Symbol) (r : Bool) → first ≡ symbol_in read (text, pos)
       → r ≡ is_special of_selection first → r ≡ true
-      → value read text pos selection menu ≡ symbol_or read NO_SELECTION selection
+      → value read text pos selection menu ≡ symbol_or read no_selection selection
   unfolding value
   value_of_selection menu first r is e t = let at = tested of_selection first r true is e t in rw at refl
 
   pub value_of_menu : (menu : Option T) (first : Symbol) (r q : Bool) → first ≡ symbol_in read (text, pos)
       → r ≡ is_special of_selection first → r ≡ false → q ≡ is_special of_menu first → q ≡ true
-      → value read text pos selection menu ≡ symbol_or read NO_VIEWER (option_map (λ m. (m, 0)) menu)
+      → value read text pos selection menu ≡ symbol_or read no_viewer (option_map (λ m. (m, 0)) menu)
   unfolding value
   value_of_menu menu first r q is e f d t = let no = tested of_selection first r false is e f in
       let at = tested of_menu first q true is d t in rw (no, at) refl
@@ -36,7 +38,7 @@ module _ {T : Type 0} (read : T → List ℕ) (text : T) (pos : ℕ) (selection 
 
   pub list_of_selection : (first : Symbol) (r : Bool) → first ≡ symbol_in read (text, pos)
       → r ≡ is_special of_selection first → r ≡ true
-      → names read text pos selection ≡ names_or read NO_SELECTION selection
+      → names read text pos selection ≡ names_or read no_selection selection
   unfolding names
   list_of_selection first r is e t = let at = tested of_selection first r true is e t in rw at refl
 
@@ -50,10 +52,9 @@ pub first_is : (bs cs : List ℕ) (p q end : ℕ) (s : Symbol) → cs ≡ bs →
     → s ≡ (symbol bs p).0
 first_is bs cs p q end s same place there = sym (ap (λ x. x.0) (sym (λ k. symbol (same k) (place k)) ∙ there))
 
--- the list that begins there
-pub list_is : (most : ℕ) (bs cs ds : List ℕ) (p q end : ℕ) (s : Symbol) → cs ≡ bs → q ≡ p → symbol cs q ≡ (s, end)
-    → ds ≡ bs
-    → some_names (names_on ds most (s, end)) ≡ some_names (names_from bs most p)
-list_is most bs cs ds p q end s same place there after =
+-- the first names of the list that begins there
+pub list_is : (bs cs ds : List ℕ) (p q end : ℕ) (s : Symbol) → cs ≡ bs → q ≡ p → symbol cs q ≡ (s, end) → ds ≡ bs
+    → some_names (names_on ds most_names (s, end)) ≡ first_names (some_names (names_from bs p))
+list_is bs cs ds p q end s same place there after =
     let pair : (s, end) ≡ symbol bs p = sym there ∙ (λ k. symbol (same k) (place k)) in
-    λ k. some_names (names_on (after k) most (pair k))
+    (λ k. some_names (names_on (after k) most_names (pair k))) ∙ first_of_some bs p

@@ -2,7 +2,14 @@
 use Rattle.std.specs.Prelude.{ℕ, ◌≡◌, ◌+◌, ◌≤◌, Bool, true, ◌&&◌, not, List, [], ◌∷◌, length, take}
 use Rattle.std.specs.List.{list_any, list_all}
 use Rattle.std.specs.Str.{bytes_eq}
-use Rattle.command_table.specs.declared.listing.TheConstants.{MOST_NAMES}
+
+-- how many files a desktop may have
+abbrev pub most_files : ℕ
+most_files = 256
+
+-- how many names of a list are read: one more, so that they can't all be names of files
+abbrev pub most_names : ℕ
+most_names = most_files + 1
 
 abbrev pub is_among : List (List ℕ) → List ℕ → Bool
 is_among names name = list_any (bytes_eq name) names
@@ -15,7 +22,7 @@ are_distinct (name ∷ names) = not (is_among names name) && are_distinct names
 abbrev pub can_be_deleted : List (List ℕ) → List (List ℕ) → Bool
 can_be_deleted files names = list_all (is_among files) names && are_distinct names
 
--- with fewer files than that, the first names of a list decide as all of them do
+-- of as many files as there may be, the first names of a list decide as all of them do
 abbrev pub FirstNamesDecide : Type 0
-FirstNamesDecide = (files names : List (List ℕ)) → length files + 1 ≤ MOST_NAMES
-    → can_be_deleted files (take MOST_NAMES names) ≡ can_be_deleted files names
+FirstNamesDecide = (files names : List (List ℕ)) → length files ≤ most_files
+    → can_be_deleted files (take most_names names) ≡ can_be_deleted files names

@@ -1,4 +1,5 @@
 pub mod Call
+pub mod Codes
 pub mod Commands
 pub mod Deciding
 pub mod Parameters

@@ -1,7 +1,7 @@
 -- The parameters of a command: a value, or a list of names.
 -- T is what stands for a text, and `read` its bytes. A place is a text and a position in it.
 use Rattle.std.specs.Prelude.{ℕ, zero, suc, ◌≡◌, ◌<◌, ◌≤◌, ◌⊎◌, Bool, false, ◌==◌, if◌then◌else◌, List, [], ◌∷◌}
-use Rattle.std.specs.Prelude.{length, Option, Some, None, Result, Ok, Err, MatchResult}
+use Rattle.std.specs.Prelude.{length, Option, Some, None, Result, Ok, Err, MatchResult, take}
 use Rattle.std.specs.Option.{option_map}
 use Rattle.std.specs.Result.{result_map_both}
 use Rattle.std.specs.Borrow.{Bor}
@@ -14,8 +14,8 @@ use Rattle.readers_scanners.specs.Symbol.{IsShaped}
 use Rattle.readers_scanners.specs.declared.symbol.Symbol.{Symbol}
 use Rattle.readers_scanners.specs.declared.symbol.Symbol.TheVariants.{Name, Special}
 use Rattle.arrayvec.specs.ArrayVec.{ArrayVec}
-use Rattle.command_table.specs.declared.codes.TheConstants.{NO_SELECTION, WRONG_SYMBOL, NO_VIEWER}
-use Rattle.command_table.specs.declared.listing.TheConstants.{MOST_NAMES}
+use Rattle.command_table.specs.Codes.{no_selection, wrong_symbol, no_viewer}
+use Rattle.command_table.specs.Deciding.{most_names}
 
 -- `^`, which stands for the symbol where the selection begins
 abbrev pub of_selection : ℕ
@@ -33,18 +33,18 @@ abbrev pub name_in : Symbol → Option (List ℕ)
 name_in (Name bytes) = Some bytes.items
 name_in _ = None
 
--- the names from a symbol and its end on up to the first other symbol, at most n
+-- the names from a symbol and its end on up to the first other symbol, of n symbols
 unfoldable pub names_on : List ℕ → ℕ → Symbol × ℕ → List (List ℕ)
 names_on bs zero found = []
 names_on bs (suc n) found = elim (name_in found.0) [ Some name ↦ name ∷ names_on bs n (symbol bs found.1) | None ↦ [] ]
 
--- the same from a position on
-abbrev pub names_from : List ℕ → ℕ → ℕ → List (List ℕ)
-names_from bs n p = names_on bs n (symbol bs p)
+-- the same from a position on, of all symbols: there are no more names than bytes
+abbrev pub names_from : List ℕ → ℕ → List (List ℕ)
+names_from bs p = names_on bs (length bs) (symbol bs p)
 
 -- a list has a name
 abbrev pub some_names : List (List ℕ) → Result (List (List ℕ)) ℕ
-some_names [] = Err WRONG_SYMBOL
+some_names [] = Err wrong_symbol
 some_names (name ∷ names) = Ok (name ∷ names)
 
 module _ {T : Type 0} (read : T → List ℕ) where
@@ -59,11 +59,11 @@ module _ {T : Type 0} (read : T → List ℕ) where
   unfoldable pub value : T → ℕ → Option (T × ℕ) → Option T → Result Symbol ℕ
   value text pos selection menu =
       let first = symbol_in (text, pos) in
-      if is_special of_selection first then symbol_or NO_SELECTION selection else
-      (if is_special of_menu first then symbol_or NO_VIEWER (option_map (λ m. (m, 0)) menu) else Ok first)
+      if is_special of_selection first then symbol_or no_selection selection else
+      (if is_special of_menu first then symbol_or no_viewer (option_map (λ m. (m, 0)) menu) else Ok first)
 
   abbrev pub names_in : T × ℕ → Result (List (List ℕ)) ℕ
-  names_in place = some_names (names_from (read place.0) MOST_NAMES place.1)
+  names_in place = some_names (names_from (read place.0) place.1)
 
   abbrev pub names_or : ℕ → Option (T × ℕ) → Result (List (List ℕ)) ℕ
   names_or code None = Err code
@@ -72,7 +72,7 @@ module _ {T : Type 0} (read : T → List ℕ) where
   -- the list of names after a position
   unfoldable pub names : T → ℕ → Option (T × ℕ) → Result (List (List ℕ)) ℕ
   names text pos selection =
-      if is_special of_selection (symbol_in (text, pos)) then names_or NO_SELECTION selection else names_in (text, pos)
+      if is_special of_selection (symbol_in (text, pos)) then names_or no_selection selection else names_in (text, pos)
 
 -- ---- of texts that are lent
 
@@ -92,15 +92,19 @@ text_of lent = flat lent.now
 abbrev pub listed : Result (ArrayVec (List ℕ)) ℕ → Result (List (List ℕ)) ℕ
 listed r = result_map_both (λ names. names.items) (λ code. code) r
 
+-- the first names of a list, which are read
+abbrev pub first_names : Result (List (List ℕ)) ℕ → Result (List (List ℕ)) ℕ
+first_names r = result_map_both (take most_names) (λ code. code) r
+
 -- whatever a source tells, a value is a symbol that can be, or one of two codes, each for its reason
 abbrev pub IsValue : {A B : Type 0} → Option A → Option B → Result Symbol ℕ → Type 0
-IsValue selection menu r = MatchResult r IsShaped (λ code. ((code ≡ NO_SELECTION) × (selection ≡ None))
-    ⊎ ((code ≡ NO_VIEWER) × (menu ≡ None)))
+IsValue selection menu r = MatchResult r IsShaped (λ code. ((code ≡ no_selection) × (selection ≡ None))
+    ⊎ ((code ≡ no_viewer) × (menu ≡ None)))
 
 -- a list has 1 to 257 names, or none and so a code
 abbrev pub IsList : Result (List (List ℕ)) ℕ → Type 0
-IsList r = MatchResult r (λ names. (0 < length names) × (length names ≤ MOST_NAMES)) (λ code. code ≡ WRONG_SYMBOL)
+IsList r = MatchResult r (λ names. (0 < length names) × (length names ≤ most_names)) (λ code. code ≡ wrong_symbol)
 
 -- the same where the selection can be asked for and is missing
 abbrev pub IsNames : {A : Type 0} → Option A → Result (List (List ℕ)) ℕ → Type 0
-IsNames selection r = ((r ≡ Err NO_SELECTION) × (selection ≡ None)) ⊎ IsList r
+IsNames selection r = ((r ≡ Err no_selection) × (selection ≡ None)) ⊎ IsList r

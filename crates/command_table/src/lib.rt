@@ -17,7 +17,7 @@ pub use calling::called;
 pub use char_file::{CharSource, Fault};
 pub use command::Command;
 pub use event_bytes::Name;
-pub use laws::{first_names_decide, one_word_each, word_is_longest};
+pub use laws::{constants_are_defined, first_names_decide, one_word_each, word_is_longest};
 pub use listing::{MOST_NAMES, names};
 pub use readers_scanners::Symbol;
 pub use symbols::{name_in, symbol_at};

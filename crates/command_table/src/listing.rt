@@ -4,7 +4,8 @@ ghost use Rattle.std.specs.Option.{option_map};
 ghost use Rattle.readers_scanners.specs.Words.{CountsFault, OnlyReads, flat, AreWithin, bytes};
 ghost use Rattle.readers_scanners.specs.Symbol.{IsShaped};
 ghost use Rattle.command_table.specs.Parameters.{IsPlace, IsNames, IsList, place_of, listed, names, names_on};
-ghost use Rattle.command_table.specs.Parameters.{some_names};
+ghost use Rattle.command_table.specs.Parameters.{some_names, first_names};
+ghost use Rattle.command_table.specs.Deciding.{most_names};
 
 use crate::symbols::{is_special, name_in, next_symbol};
 use crate::{ArrayVec, CharSource, Fault, Name, Symbol, Text, codes};
@@ -16,9 +17,9 @@ pub const MOST_NAMES: usize = 257;
 /// Names of a list, in its order.
 type Names = ArrayVec<Name, MOST_NAMES>;
 
-/// The first names of the list at `pos`, at most 257: the names from there on up to the first other symbol. Where the
-/// first symbol is `^` the list begins where the newest selection begins, whose end is no bound. Of a name of more than
-/// 31 bytes the first 31 count.
+/// The first names of the list at `pos`, at most 257. The list is the names from there on up to the first other symbol.
+/// Where the first symbol is `^` the list begins where the newest selection begins, whose end is no bound. Of a name of
+/// more than 31 bytes the first 31 count.
 ///
 /// `sel` is the text of the newest selection and where it begins. A code: `codes::NO_SELECTION` for `^` where `sel` is
 /// None, `codes::WRONG_SYMBOL` for a list without a name. `Fault`: the source failed in this call.
@@ -31,8 +32,8 @@ pub fn names<S: CharSource>(
     requires text { IsPlace (length (S.characters source.old)) (flat text.now, pos) }
     requires sel { IfSome (option_map place_of sel) (IsPlace (length (S.characters source.old))) }
     ensures names { IfOk result (λ r. S.honest source.old
-        → listed r ≡ names (bytes (S.characters source.old)) (flat text.now) pos
-        (option_map place_of sel.entry)) }
+        → listed r ≡ first_names (names (bytes (S.characters source.old)) (flat text.now) pos
+        (option_map place_of sel.entry))) }
     ensures kind { IfOk result (λ r. IsNames sel.entry (listed r)) }
     ensures reads { OnlyReads S.characters S.failures S.honest S.same_ground source.old source.new }
     ensures cause { CountsFault result (S.failures source.old) (S.failures source.new) }
@@ -62,7 +63,7 @@ fn list_from<S: CharSource>(
     requires within { scanner.old.position ≤ length scanner.old.text }
     requires offsets { AreWithin (length (S.characters source.old)) scanner.old.text }
     ensures names { IfOk result (λ r. S.honest source.old
-        → listed r ≡ some_names (names_on (bytes (S.characters source.old) scanner.old.text) MOST_NAMES
+        → listed r ≡ some_names (names_on (bytes (S.characters source.old) scanner.old.text) most_names
         (first.now, scanner.old.position))) }
     ensures kind { IfOk result (λ r. IsList (listed r)) }
     ensures reads { OnlyReads S.characters S.failures S.honest S.same_ground source.old source.new }
@@ -87,9 +88,9 @@ fn names_from<S: CharSource>(
     requires within { scanner.old.position ≤ length scanner.old.text }
     requires offsets { AreWithin (length (S.characters source.old)) scanner.old.text }
     ensures names { IfOk result (λ names. S.honest source.old
-        → names.items ≡ names_on (bytes (S.characters source.old) scanner.old.text) MOST_NAMES
+        → names.items ≡ names_on (bytes (S.characters source.old) scanner.old.text) most_names
         (first.now, scanner.old.position)) }
-    ensures most { IfOk result (λ names. length names.items ≤ MOST_NAMES) }
+    ensures most { IfOk result (λ names. length names.items ≤ most_names) }
     ensures reads { OnlyReads S.characters S.failures S.honest S.same_ground source.old source.new }
     ensures cause { CountsFault result (S.failures source.old) (S.failures source.new) }
 {

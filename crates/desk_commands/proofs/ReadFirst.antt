@@ -40,7 +40,21 @@ module _ {S : Type 0} (s : Ghosts S) where
       read_first F a (read (seen (s.characters old) d)) (s.honest old) (s.honest mid) (s.characters old)
       (s.characters mid) (s.characters new) d after result reads.still reads.as_long reads.same is answered
 
-  -- the same of a reply, where the row says F of what was read
+  -- the same of a reply, where the row says F of what was read, of the desktop before the event
+  pub settles_there : {A : Type 0} (F : Desktop → A → Result Desktop ℕ) (read : Desktop → A) (a : A)
+      (row : Desktop → Result Desktop ℕ) (old mid new : S) (d after : KeptDesktop) (result : Result Reply Stop)
+      → Reads old mid → (s.honest old → a ≡ read (seen (s.characters old) d))
+      → (a ≡ read (seen (s.characters old) d) → F (seen (s.characters old) d) a ≡ row (seen (s.characters old) d))
+      → IfOk result (Settles s (λ x. F x a) mid new d after)
+      → IfOk result (Settles s row old new d after)
+  settles_there F read a row old mid new d after result reads is same answered =
+      IfOk-weaker result (Settles s (λ x. F x a) mid new d after) (Settles s row old new d after)
+      (λ reply done. read_answered (s.honest old) (s.honest mid) (s.characters old) (s.characters mid)
+      (s.characters new) d after _ _ reply reads.still reads.as_long
+      (λ h. (λ k. settled (seen (reads.same h k) d) (F (seen (reads.same h k) d) a))
+      ∙ ap (settled (seen (s.characters old) d)) (same (is h))) done) answered
+
+  -- and of every desktop
   pub settles_by : {A : Type 0} (F : Desktop → A → Result Desktop ℕ) (read : Desktop → A) (a : A)
       (row : Desktop → Result Desktop ℕ) (old mid new : S) (d after : KeptDesktop) (result : Result Reply Stop)
       → Reads old mid → (s.honest old → a ≡ read (seen (s.characters old) d))
@@ -48,11 +62,7 @@ module _ {S : Type 0} (s : Ghosts S) where
       → IfOk result (Settles s (λ x. F x a) mid new d after)
       → IfOk result (Settles s row old new d after)
   settles_by F read a row old mid new d after result reads is same answered =
-      IfOk-weaker result (Settles s (λ x. F x a) mid new d after) (Settles s row old new d after)
-      (λ reply done. read_answered (s.honest old) (s.honest mid) (s.characters old) (s.characters mid)
-      (s.characters new) d after _ _ reply reads.still reads.as_long
-      (λ h. (λ k. settled (seen (reads.same h k) d) (F (seen (reads.same h k) d) a))
-      ∙ ap (settled (seen (s.characters old) d)) (same (seen (s.characters old) d) (is h))) done) answered
+      settles_there F read a row old mid new d after result reads is (same (seen (s.characters old) d)) answered
 
   -- a refusal after the reads
   pub refused_after : (row : Desktop → Result Desktop ℕ) (code : ℕ) (old mid : S) (d : KeptDesktop) → Reads old mid

@@ -6,7 +6,7 @@ ghost use Rattle.char_file.specs.Source.{OnlyReads};
 ghost use Rattle.piece_ring.specs.Flat.{flat};
 ghost use Rattle.readers_scanners.specs.Symbol.{IsShaped};
 ghost use Rattle.viewer_tracks.specs.Columns.{IsPlaced};
-ghost use Rattle.command_table.specs.Parameters.{place_of, text_of, listed};
+ghost use Rattle.command_table.specs.Parameters.{place_of, text_of, listed, first_names};
 ghost use Rattle.desktop_definitions.specs.Limits.{first_version, no_viewer};
 ghost use Rattle.desktop_definitions.specs.Needs.{needs, given};
 ghost use Rattle.desktop_definitions.specs.Call.{text_called, seen_at_marker, meant, number_in};
@@ -468,7 +468,7 @@ fn number_of<S: CharSource>(
     }
 }
 
-/// The names of the list after the word, at most 257, or the code of a refusal. Fault: the source failed in this
+/// The first names of the list after the word, at most 257, or the code of a refusal. Fault: the source failed in this
 /// call.
 fn names_of<S: CharSource>(
     desk: &Desk,
@@ -478,7 +478,7 @@ fn names_of<S: CharSource>(
     requires call { IsCall (kept desk.now) call }
     requires over { IsOver (S.characters source.old) (kept desk.now) }
     ensures exact { IfOk result (λ names. S.honest source.old
-        → listed names ≡ names_of (seen (S.characters source.old) (kept desk.now)) call) }
+        → listed names ≡ first_names (names_of (seen (S.characters source.old) (kept desk.now)) call)) }
     ensures codes { IfOk result (λ names. IfErr names (OneOf known_codes)) }
     ensures reads { OnlyReads S.characters S.failures S.honest S.same_ground source.old source.new }
     ensures cause { CountsFault result (S.failures source.old) (S.failures source.new) }

@@ -10,7 +10,7 @@ use Rattle.event_bytes.proofs.PartLaws.{given, some_is, bind_some, test_some, wh
 use Rattle.event_bytes.proofs.PartLaws.{byte_part, word_part, counted_part}
 use Rattle.piece_ring.specs.declared.piece.Look.{Look}
 use Rattle.piece_ring.specs.declared.piece.Piece.{Piece}
-use Rattle.desktop_definitions.specs.declared.limits.TheConstants.{LEAST_OFFSET, GREATEST_OFFSET}
+use Rattle.desktop_definitions.specs.Limits.{least_offset, greatest_offset}
 use Rattle.desktop_definitions.specs.Looks.{IsLook}
 use Rattle.desk_image.specs.Image.{below_zero, offsets}
 use Rattle.desk_image.specs.Image.{long, shifted, look_bytes, piece_bytes, cell_bytes, InLong}
@@ -65,7 +65,7 @@ abbrev offset_of : ℕ → ℤ
 offset_of n = pos n -ℤ pos below_zero
 
 abbrev IsOffset : ℤ → Type 0
-IsOffset z = IsTrue (int_le LEAST_OFFSET z) × IsTrue (int_le z GREATEST_OFFSET)
+IsOffset z = IsTrue (int_le least_offset z) × IsTrue (int_le z greatest_offset)
 
 offset_from_byte : (n : ℕ) → n < offsets → (shifted (offset_of n) ≡ n) × IsOffset (offset_of n)
 offset_from_byte n lt = elim (cases_lt n below_zero) [

@@ -14,7 +14,7 @@ use Rattle.viewer_tracks.specs.declared.display.Track.TheVariants.{User, System}
 use Rattle.viewer_tracks.specs.Columns.{shown}
 use Rattle.viewer_tracks.specs.Display.{left_of}
 use Rattle.viewer_tracks.specs.Viewers.{Entry}
-use Rattle.desktop_definitions.specs.declared.limits.TheConstants.{LEAST_OFFSET, GREATEST_OFFSET}
+use Rattle.desktop_definitions.specs.Limits.{least_offset, greatest_offset}
 use Rattle.desktop_definitions.specs.declared.viewer.Viewer.{Viewer}
 use Rattle.desktop_definitions.specs.declared.viewer.Caret.{Caret}
 use Rattle.desktop_definitions.specs.declared.viewer.Selection.{Selection}
@@ -84,10 +84,10 @@ long n = to_be_bytes w32 n
 
 -- how many vertical offsets lie below 0, and how many there are
 abbrev pub below_zero : ℕ
-below_zero = unsigned_abs LEAST_OFFSET
+below_zero = unsigned_abs least_offset
 
 abbrev pub offsets : ℕ
-offsets = below_zero + unsigned_abs GREATEST_OFFSET + 1
+offsets = below_zero + unsigned_abs greatest_offset + 1
 
 -- a vertical offset, counted from the least one
 abbrev pub shifted : ℤ → ℕ

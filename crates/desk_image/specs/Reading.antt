@@ -10,7 +10,7 @@ use Rattle.viewer_tracks.specs.declared.display.TheConstants.{ROWS, COLUMNS, SYS
 use Rattle.viewer_tracks.specs.declared.display.Track.{Track}
 use Rattle.viewer_tracks.specs.declared.display.Track.TheVariants.{User, System}
 use Rattle.viewer_tracks.specs.Viewers.{Entry}
-use Rattle.desktop_definitions.specs.declared.limits.TheConstants.{FONTS, COLOURS}
+use Rattle.desktop_definitions.specs.Limits.{number_of_fonts, number_of_colours}
 use Rattle.desktop_definitions.specs.declared.viewer.Kept.{Kept}
 use Rattle.desktop_definitions.specs.Limits.{most_files, most_held, most_pattern}
 use Rattle.desktop_definitions.specs.Tables.{Texts, Files}
@@ -58,7 +58,7 @@ raw_look_at bytes = do
   Some (record { font = font.0; colour = colour.0; voff = voff.0 }, voff.1)
 
 abbrev pub is_look : Look → Bool
-is_look l = nat_lt l.font FONTS && nat_lt l.colour COLOURS
+is_look l = nat_lt l.font number_of_fonts && nat_lt l.colour number_of_colours
 
 unfoldable pub look_at : Reader Look
 look_at bytes = when is_look raw_look_at bytes

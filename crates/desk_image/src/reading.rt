@@ -8,7 +8,7 @@ ghost use Rattle.viewer_tracks.specs.declared.display.TheConstants.{ROWS as rows
 ghost use Rattle.event_bytes.specs.Bytes.{is_name};
 ghost use Rattle.event_bytes.specs.Parts.{byte_at, word_at, bytes_at};
 ghost use Rattle.event_bytes.specs.Reading.{name_at};
-ghost use Rattle.desktop_definitions.specs.declared.limits.TheConstants.{LEAST_OFFSET, GREATEST_OFFSET};
+ghost use Rattle.desktop_definitions.specs.Limits.{least_offset, greatest_offset};
 ghost use Rattle.desktop_definitions.specs.Looks.{IsLook};
 ghost use Rattle.desk_image.specs.Fitting.{Chain, FitsPiece, less, total, totals, FitsPieces, FitsText, after_text};
 ghost use Rattle.desk_image.specs.Fitting.{FitsTexts, FitsFile, after_file, FitsFiles, follows, FitsRanked};
@@ -98,8 +98,8 @@ fn position_from<S: ByteSource>(source: &mut S) -> Result<Option<u32>, ImageFaul
 #[tactic(auto, unfolding(crate::specs::Reading::offset_at))]
 fn offset_from<S: ByteSource>(source: &mut S) -> Result<i8, ImageFault>
     ensures reads { Reads S.ByteSource (λ offset. offset) result offset_at source.old source.new }
-    ensures least { IfOk result (λ offset. IsTrue (int_le LEAST_OFFSET offset)) }
-    ensures greatest { IfOk result (λ offset. IsTrue (int_le offset GREATEST_OFFSET)) }
+    ensures least { IfOk result (λ offset. IsTrue (int_le least_offset offset)) }
+    ensures greatest { IfOk result (λ offset. IsTrue (int_le offset greatest_offset)) }
 {
     let byte = byte_from(source)?;
     if byte > (GREATEST_OFFSET - LEAST_OFFSET) as u8 {
@@ -112,8 +112,8 @@ fn offset_from<S: ByteSource>(source: &mut S) -> Result<i8, ImageFault>
 #[tactic(auto, unfolding(crate::specs::Reading::raw_look_at))]
 fn raw_look_from<S: ByteSource>(source: &mut S) -> Result<Look, ImageFault>
     ensures reads { Reads S.ByteSource (λ look. look) result raw_look_at source.old source.new }
-    ensures least { IfOk result (λ look. IsTrue (int_le LEAST_OFFSET look.voff)) }
-    ensures greatest { IfOk result (λ look. IsTrue (int_le look.voff GREATEST_OFFSET)) }
+    ensures least { IfOk result (λ look. IsTrue (int_le least_offset look.voff)) }
+    ensures greatest { IfOk result (λ look. IsTrue (int_le look.voff greatest_offset)) }
 {
     let font = byte_from(source)?;
     let colour = byte_from(source)?;

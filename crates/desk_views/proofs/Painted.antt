@@ -44,30 +44,30 @@ from_place (x ∷ xs) zero d low = refl
 from_place (x ∷ xs) (suc i) d low = from_place xs i d (omega (arith, low))
 
 -- the first selection that is of a viewer
-pub selected_here : (selections : List Selection) (v rank : ℕ) (d : Selection) → rank < length selections
+pub selected_here : (selections : List Selection) (v at : ℕ) (d : Selection) → at < length selections
     → position_or_len (λ s. s.viewer == v) selections
-    ≡ rank + position_or_len (λ s. s.viewer == v) (drop rank selections)
-    → find (λ s. s.viewer == v) selections ≡ find (λ s. s.viewer == v) (drop rank selections)
-    → (slice_index_or selections rank d).viewer ≡ v
+    ≡ at + position_or_len (λ s. s.viewer == v) (drop at selections)
+    → find (λ s. s.viewer == v) selections ≡ find (λ s. s.viewer == v) (drop at selections)
+    → (slice_index_or selections at d).viewer ≡ v
     → Some (record {
-      beg = (slice_index_or selections rank d).beg;
-      end = (slice_index_or selections rank d).end;
-      rank = rank;
+      beg = (slice_index_or selections at d).beg;
+      end = (slice_index_or selections at d).end;
+      rank = at + 1;
     }) ≡ selection_in selections v
-selected_here selections v rank d low place found same =
-    let s = slice_index_or selections rank d in
-    let rest = drop (suc rank) selections in
+selected_here selections v at d low place found same =
+    let s = slice_index_or selections at d in
+    let rest = drop (suc at) selections in
     let test = λ (s : Selection). s.viewer == v in
-    let here : drop rank selections ≡ s ∷ rest = from_place selections rank d low in
+    let here : drop at selections ≡ s ∷ rest = from_place selections at d low in
     let passes : (s.viewer == v) ≡ true = eq-eqb s.viewer v same in
-    let first : position_or_len test (drop rank selections) ≡ 0 = ap (position_or_len test) here
+    let first : position_or_len test (drop at selections) ≡ 0 = ap (position_or_len test) here
     ∙ ap (λ b. let n : ℕ = cond (not b) (1 + position_or_len test rest) 0 in n) passes in
-    let at : position_or_len test selections ≡ rank = omega (arith, place, first) in
+    let first_of : position_or_len test selections ≡ at = omega (arith, place, first) in
     let is : find test selections ≡ Some s = found ∙ ap (find test) here
     ∙ ap (λ b. let o : Option Selection = cond b (Some s) (find test rest) in o) passes in
-    let ranks : position_or_len (λ (t : Selection). t.viewer == s.viewer) selections ≡ rank =
-    ap (λ (w : ℕ). position_or_len (λ (t : Selection). t.viewer == w) selections) same ∙ at in
-    (λ k. Some (record { beg = s.beg; end = s.end; rank = sym ranks k }))
+    let ranks : position_or_len (λ (t : Selection). t.viewer == s.viewer) selections ≡ at =
+    ap (λ (w : ℕ). position_or_len (λ (t : Selection). t.viewer == w) selections) same ∙ first_of in
+    (λ k. Some (record { beg = s.beg; end = s.end; rank = sym ranks k + 1 }))
     ∙ ap (option_map (ranked selections)) (sym is)
 
 -- ---- what is shown

@@ -176,13 +176,13 @@ fn selection_in(selections: &[Selection], id: u8) -> Option<FrameSelection>
     requires { length selections.now ≤ 255 }
     ensures { result ≡ selection_in selections.now id }
 {
-    for rank in 0..selections.len() {
-        let selection = selections[rank];
+    for at in 0..selections.len() {
+        let selection = selections[at];
         if selection.viewer == id {
             return Some(FrameSelection {
                 beg: selection.beg,
                 end: selection.end,
-                rank: rank as u8,
+                rank: at as u8 + 1,
             });
         }
     }

@@ -1,5 +1,7 @@
 -- How much a desktop may hold, and the codes of refusals. The code's constants are these numbers, by a law.
-use Rattle.std.specs.Prelude.{ℕ}
+use Rattle.std.specs.Prelude.{ℕ, ℤ, pos, neg_ℤ}
+pub use Rattle.command_table.specs.Codes.{no_selection, wrong_symbol, no_viewer}
+pub use Rattle.command_table.specs.Deciding.{most_files}
 
 -- the first version of the table of commands
 abbrev pub first_version : ℕ
@@ -13,12 +15,23 @@ most_written = 4194304
 abbrev pub most_held : ℕ
 most_held = 262144
 
-abbrev pub most_files : ℕ
-most_files = 256
-
 -- bytes of a pattern
 abbrev pub most_pattern : ℕ
 most_pattern = 31
+
+-- fonts and colours, which are numbered from 0
+abbrev pub number_of_fonts : ℕ
+number_of_fonts = 5
+
+abbrev pub number_of_colours : ℕ
+number_of_colours = 16
+
+-- vertical offsets of characters
+abbrev pub least_offset : ℤ
+least_offset = neg_ℤ (pos 64)
+
+abbrev pub greatest_offset : ℤ
+greatest_offset = pos 63
 
 -- the desktop would pass one of the limits on characters
 abbrev pub full : ℕ
@@ -30,9 +43,6 @@ too_many_files = 8
 abbrev pub no_caret : ℕ
 no_caret = 1
 
-abbrev pub no_selection : ℕ
-no_selection = 2
-
 abbrev pub no_command : ℕ
 no_command = 4
 
@@ -41,12 +51,6 @@ no_file = 5
 
 abbrev pub outside : ℕ
 outside = 9
-
-abbrev pub wrong_symbol : ℕ
-wrong_symbol = 3
-
-abbrev pub no_viewer : ℕ
-no_viewer = 7
 
 abbrev pub not_found : ℕ
 not_found = 10

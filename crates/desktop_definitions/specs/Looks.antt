@@ -6,7 +6,7 @@ use Rattle.std.specs.Option.{ForSome}
 use Rattle.std.specs.List.{position}
 use Rattle.std.specs.Str.{bytes_eq}
 use Rattle.desktop_definitions.specs.Words.{Look, default_look, Text}
-use Rattle.desktop_definitions.specs.declared.limits.TheConstants.{FONTS, COLOURS, LEAST_OFFSET, GREATEST_OFFSET}
+use Rattle.desktop_definitions.specs.Limits.{number_of_fonts, number_of_colours, least_offset, greatest_offset}
 
 -- the names of the fonts, by their numbers
 abbrev pub fonts : List (List ℕ)
@@ -20,19 +20,21 @@ font_set name = option_map (λ n. (1, record default_look { font = n })) (positi
 -- the colour of a number
 abbrev pub colour_set : ℤ → Option (ℕ × Look)
 colour_set z =
-    if int_le (pos 0) z && int_lt z (pos COLOURS) then Some (2, record default_look { colour = nat_abs z }) else None
+    if int_le (pos 0) z && int_lt z (pos number_of_colours)
+    then Some (2, record default_look { colour = nat_abs z })
+    else None
 
 -- that vertical offset
 abbrev pub offset_set : ℤ → Option (ℕ × Look)
 offset_set z =
-    if int_le LEAST_OFFSET z && int_le z GREATEST_OFFSET then Some (4, record default_look { voff = z }) else None
+    if int_le least_offset z && int_le z greatest_offset then Some (4, record default_look { voff = z }) else None
 
 -- a look that characters may have: a font and a colour that there are, and a vertical offset within its range
 pub record IsLook (l : Look) : Type 0 where
-  pub font : l.font < FONTS
-  pub colour : l.colour < COLOURS
-  pub least : IsTrue (int_le LEAST_OFFSET l.voff)
-  pub greatest : IsTrue (int_le l.voff GREATEST_OFFSET)
+  pub font : l.font < number_of_fonts
+  pub colour : l.colour < number_of_colours
+  pub least : IsTrue (int_le least_offset l.voff)
+  pub greatest : IsTrue (int_le l.voff greatest_offset)
 
 -- what is set is one, if anything is
 abbrev pub SetsLook : Option (ℕ × Look) → Type 0

@@ -1,5 +1,5 @@
 -- What a desktop shows on the display.
-use Rattle.std.specs.Prelude.{ℕ, ◌==◌, if◌then◌else◌, List, map, Option, Some, None, option_map}
+use Rattle.std.specs.Prelude.{ℕ, ◌+◌, ◌==◌, if◌then◌else◌, List, map, Option, Some, None, option_map}
 use Rattle.std.specs.List.{position_or_len, find}
 use Rattle.text_frames.specs.declared.frame.Frame.{Frame}
 use Rattle.text_frames.specs.declared.frame.Selection.{Selection as FrameSelection}
@@ -15,12 +15,12 @@ abbrev pub position_in : ℕ → Option Caret → Option ℕ
 position_in v None = None
 position_in v (Some c) = if c.viewer == v then Some c.position else None
 
--- the rank of a selection by age is its place among all
+-- the rank of a selection by age is its place among all, 1 the oldest
 abbrev pub ranked : List Selection → Selection → FrameSelection
 ranked selections s = record {
   beg = s.beg;
   end = s.end;
-  rank = position_or_len (λ t. t.viewer == s.viewer) selections;
+  rank = position_or_len (λ t. t.viewer == s.viewer) selections + 1;
 }
 
 abbrev pub selection_in : List Selection → ℕ → Option FrameSelection

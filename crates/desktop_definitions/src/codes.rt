@@ -1,5 +1,7 @@
 //! Why an event is refused. The numbers are this profile's.
 
+pub use command_table::codes::{NO_SELECTION, NO_VIEWER, WRONG_SYMBOL};
+
 /// The desktop after the event would pass a limit: 4,194,304 characters ever written, or 262,144 held. Of all refusals
 /// this comes last.
 pub const FULL: u8 = 6;
@@ -10,9 +12,6 @@ pub const TOO_MANY_FILES: u8 = 8;
 /// No viewer has the caret.
 pub const NO_CARET: u8 = 1;
 
-/// Nothing is selected, or the stretch is empty.
-pub const NO_SELECTION: u8 = 2;
-
 /// The word that was clicked is no command.
 pub const NO_COMMAND: u8 = 4;
 
@@ -21,12 +20,6 @@ pub const NO_FILE: u8 = 5;
 
 /// A point lies outside the display.
 pub const OUTSIDE: u8 = 9;
-
-/// A parameter, or the first symbol of a menu, is of another kind than the command takes; or a list has no name.
-pub const WRONG_SYMBOL: u8 = 3;
-
-/// No viewer is at the marker, or none is kept.
-pub const NO_VIEWER: u8 = 7;
 
 /// What was searched isn't in the text from there on.
 pub const NOT_FOUND: u8 = 10;

@@ -197,7 +197,7 @@ module _ {T : Type 0} (d : DesktopOf T) (v : ℕ) where
 module _ (d : Desktop) (v : ℕ) (shaped : IsShaped d) (hold : IsColumns (after_close d.columns v))
     (places : (w : ℕ) → times_placed w (after_close d.columns v) + times_meant w (Some v) ≡ times_placed w d.columns)
     (place : IsKeptPlace (place_kept d.columns v)) where
-  closed_anew : IsPlacedAnew (closed_desktop d v) (closed_columns d v) (kept_before d v)
+  pub closed_anew : IsPlacedAnew (closed_desktop d v) (closed_columns d v) (kept_before d v)
   closed_anew = record {
     viewers = shaped.viewers;
     marks = marks_outside d.columns (after_close d.columns v) (main_length d.texts d.viewers) v
@@ -263,7 +263,7 @@ module _ (d : Desktop) (k : Kept) (shaped : IsShaped d) (is : d.kept ≡ Some k)
     (hold : IsColumns (recalled_columns d k))
     (places : (w : ℕ) → times_placed w (recalled_columns d k) + times_meant w (replaced_by_kept d k)
     ≡ times_placed w d.columns + times_meant w (Some k.viewer)) where
-  recalled_anew : IsPlacedAnew (restood d d.columns d.caret d.selections None) (recalled_columns d k)
+  pub recalled_anew : IsPlacedAnew (restood d d.columns d.caret d.selections None) (recalled_columns d k)
       (replaced_by_kept d k)
   recalled_anew = record {
     viewers = shaped.viewers;

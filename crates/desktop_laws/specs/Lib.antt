@@ -27,3 +27,5 @@ pub mod LogLaws
 pub mod StoreLaws
 pub mod CallLaws
 pub mod OpeningOnLaws
+pub mod PartSound
+pub mod StepSound

@@ -23,7 +23,7 @@ use Rattle.piece_ring.specs.Text.{Text, stretch, inserted, deleted, all_relooked
 use Rattle.readers_scanners.specs.Reading.{contents}
 use Rattle.text_core.specs.Attributes.{look_at, look_of}
 use Rattle.viewer_tracks.specs.declared.display.TheConstants.{ROWS, COLUMNS}
-use Rattle.desktop_definitions.specs.declared.limits.TheConstants.{FONTS, COLOURS, LEAST_OFFSET, GREATEST_OFFSET}
+use Rattle.desktop_definitions.specs.Limits.{number_of_fonts, number_of_colours, least_offset, greatest_offset}
 use Rattle.desktop_definitions.specs.Limits.{most_pattern}
 use Rattle.desktop_definitions.specs.Looks.{fonts, font_set, colour_set, offset_set, IsLook, SetsLook, AreLooks}
 use Rattle.desktop_definitions.specs.declared.viewer.Viewer.{Viewer}
@@ -47,10 +47,10 @@ either P false x y first second = second
 
 pub relooked_is_look : (selector : ℕ) (new old : Look) → IsLook new → IsLook old → IsLook (relooked selector new old)
 relooked_is_look selector new old is was = record {
-  font = either (λ n. n < FONTS) (has_bit selector 0) new.font old.font is.font was.font;
-  colour = either (λ n. n < COLOURS) (has_bit selector 1) new.colour old.colour is.colour was.colour;
-  least = either (λ z. IsTrue (int_le LEAST_OFFSET z)) (has_bit selector 2) new.voff old.voff is.least was.least;
-  greatest = either (λ z. IsTrue (int_le z GREATEST_OFFSET)) (has_bit selector 2) new.voff old.voff is.greatest
+  font = either (λ n. n < number_of_fonts) (has_bit selector 0) new.font old.font is.font was.font;
+  colour = either (λ n. n < number_of_colours) (has_bit selector 1) new.colour old.colour is.colour was.colour;
+  least = either (λ z. IsTrue (int_le least_offset z)) (has_bit selector 2) new.voff old.voff is.least was.least;
+  greatest = either (λ z. IsTrue (int_le z greatest_offset)) (has_bit selector 2) new.voff old.voff is.greatest
       was.greatest;
 }
 
@@ -71,22 +71,22 @@ font_sets_look name = by_place (position (bytes_eq name) fonts) refl where
 
 pub colour_sets_look : (z : ℤ) → SetsLook (colour_set z)
 colour_sets_look (negsuc n) = λ set is. absurd (cc is)
-colour_sets_look (pos n) = by_test (nat_le 0 n && nat_lt n COLOURS) refl where
-  by_test : (test : Bool) → nat_le 0 n && nat_lt n COLOURS ≡ test
+colour_sets_look (pos n) = by_test (nat_le 0 n && nat_lt n number_of_colours) refl where
+  by_test : (test : Bool) → nat_le 0 n && nat_lt n number_of_colours ≡ test
       → SetsLook (if test then Some (2, record default_look { colour = n }) else None)
   by_test false tested set is = absurd (cc is)
   by_test true tested set is =
       let same : (2, record default_look { colour = n }) ≡ set = cc is in
       subst (λ (s : ℕ × Look). IsLook s.1) same (record {
         font = default_is_look.font;
-        colour = ltb-true n COLOURS (and_parts _ _ tested).1;
+        colour = ltb-true n number_of_colours (and_parts _ _ tested).1;
         least = default_is_look.least;
         greatest = default_is_look.greatest;
       })
 
 pub offset_sets_look : (z : ℤ) → SetsLook (offset_set z)
-offset_sets_look z = by_test (int_le LEAST_OFFSET z && int_le z GREATEST_OFFSET) refl where
-  by_test : (test : Bool) → int_le LEAST_OFFSET z && int_le z GREATEST_OFFSET ≡ test
+offset_sets_look z = by_test (int_le least_offset z && int_le z greatest_offset) refl where
+  by_test : (test : Bool) → int_le least_offset z && int_le z greatest_offset ≡ test
       → SetsLook (if test then Some (4, record default_look { voff = z }) else None)
   by_test false tested set is = absurd (cc is)
   by_test true tested set is =

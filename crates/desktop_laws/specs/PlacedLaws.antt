@@ -183,7 +183,7 @@ at_columns d columns None = refl
 at_columns d columns (Some g) = refl
 
 module _ {T : Type 0} (d : DesktopOf T) (v : ℕ) where
-  resized_is : (y : ℕ) → resized d v y ≡ placed_anew d (columns_changed d.columns v (y + 1)) None
+  pub resized_is : (y : ℕ) → resized d v y ≡ placed_anew d (columns_changed d.columns v (y + 1)) None
   unfolding resized
   resized_is y = refl
 
@@ -192,7 +192,7 @@ module _ {T : Type 0} (d : DesktopOf T) (v : ℕ) where
   at_closed closed columns None = refl
   at_closed closed columns (Some g) = refl
 
-  carried_is : (x y : ℕ) → carried d v x y ≡ placed_anew d (after_open (after_close d.columns v) v x (y + 1))
+  pub carried_is : (x y : ℕ) → carried d v x y ≡ placed_anew d (after_open (after_close d.columns v) v x (y + 1))
       (replaced_at (after_close d.columns v) x (y + 1))
   unfolding carried opened_at
   carried_is x y = at_closed (after_close d.columns v) _ _

@@ -110,7 +110,7 @@ last_newest [] = refl
 last_newest (x ∷ xs) =
     let n : length (x ∷ xs) - 1 ≡ length xs = omega arith in ap (slice_get (x ∷ xs)) n ∙ last_at x xs
 
-last_holds : {X : Type 0} (P : X → Type 0) (o : Option X) (xs : List X) (x : X) → ForSome o P → All P xs
+pub last_holds : {X : Type 0} (P : X → Type 0) (o : Option X) (xs : List X) (x : X) → ForSome o P → All P xs
     → last_or o xs ≡ Some x → P x
 last_holds P o [] x first all is = first x is
 last_holds P o (y ∷ ys) x first all is =

@@ -12,7 +12,7 @@ use Rattle.std.specs.Str.{bytes_eq}
 use Rattle.std.proofs.Common.{refl, sym, ap, subst, ◌∙◌, arith}
 use Rattle.std.proofs.Math.Seq.{drop-cons}
 use Rattle.std.proofs.Math.ListN.{drop_of_length-le}
-use Rattle.std.proofs.lemmas.List.{take_all, length-drop}
+use Rattle.std.proofs.lemmas.List.{take_all, length-drop, length-map}
 use Rattle.std.proofs.lemmas.Cmp.{nat_cmp_total, lists_total}
 use Rattle.std.proofs.lemmas.List.Sums.{sum_by-cons}
 use Rattle.std.proofs.lemmas.Map.Entries.{sum_by-remove_entry}
@@ -26,7 +26,9 @@ use Rattle.piece_ring.specs.Flat.{flat}
 use Rattle.piece_ring.specs.Offsets.{AreWithin}
 use Rattle.piece_ring.specs.Text.{Text}
 use Rattle.event_bytes.specs.Bytes.{is_name}
-use Rattle.command_table.specs.Deciding.{is_among, are_distinct, can_be_deleted}
+use Rattle.command_table.specs.Deciding.{is_among, are_distinct, can_be_deleted, most_names}
+use Rattle.command_table.specs.Parameters.{first_names}
+use Rattle.command_table.proofs.Deciding.{all_are_read, first_names_decide}
 use Rattle.desktop_definitions.specs.Limits.{most_files, most_held, no_file, too_many_files, full}
 use Rattle.desktop_definitions.specs.declared.reply.Reply.TheVariants.{Done, No}
 use Rattle.desktop_definitions.specs.Tables.{Files, name_cmp, named, put, has_room, with_values, lengths}
@@ -36,7 +38,7 @@ use Rattle.desktop_laws.specs.TableLaws.{rising_put, put_few, put_within}
 use Rattle.desktop_definitions.specs.Desktop.{Desktop, KeptDesktop, held}
 use Rattle.desktop_definitions.specs.Effects.{without_file, files_deleted, deleting_line, storing_line, stored_as}
 use Rattle.desktop_definitions.specs.Log.{logged, all_logged}
-use Rattle.desktop_definitions.specs.Needs.{unless}
+use Rattle.desktop_definitions.specs.Needs.{unless, given}
 use Rattle.desktop_definitions.specs.Step.{settled}
 use Rattle.desktop_laws.specs.StepLaws.{files_held}
 use Rattle.desktop_definitions.specs.Outcome.{IsAnswered}
@@ -204,7 +206,7 @@ fewer_without {X} name (e ∷ es) =
       | false ↦ omega (arith, rest)
     ]
 
-files_without : {X : Type 0} (files : Files X) (names : List (List ℕ)) → AreFiles files
+pub files_without : {X : Type 0} (files : Files X) (names : List (List ℕ)) → AreFiles files
     → AreFiles (fold without_file files names)
 files_without files [] are = are
 files_without files (name ∷ names) are =
@@ -216,7 +218,7 @@ files_without files (name ∷ names) are =
     })
 
 -- what holds of each file holds of those that are left
-all_without : {X : Type 0} (P : X → Type 0) (files : Files X) (names : List (List ℕ)) → All P (values_of files)
+pub all_without : {X : Type 0} (P : X → Type 0) (files : Files X) (names : List (List ℕ)) → All P (values_of files)
     → All P (values_of (fold without_file files names))
 all_without P files [] all = all
 all_without P files (name ∷ names) all =
@@ -269,7 +271,7 @@ has_room_seen characters files name = λ k.
     ∙ is_some_map (seen_text characters) (named files name)) k
     || nat_lt (length_seen (seen_text characters) files k) most_files
 
-files_put : (files : Files (Text ℕ)) (name : List ℕ) (text : Text ℕ) → AreFiles files → IsTrue (is_name name)
+pub files_put : (files : Files (Text ℕ)) (name : List ℕ) (text : Text ℕ) → AreFiles files → IsTrue (is_name name)
     → has_room files name ≡ true → AreFiles (put files name text)
 files_put files name text are valid room = record {
   names = All-keys-insert_entry name_cmp name text (λ n. IsTrue (is_name n)) files are.names valid;
@@ -387,6 +389,23 @@ deletion_done : (d : Desktop) (names : List (List ℕ)) → can_be_deleted (keys
     ≡ Ok (all_logged (record d { files = fold without_file d.files names }) (map deleting_line names))
 unfolding files_deleted
 deletion_done d names can = rw can refl
+
+-- of as many files as there may be, the first names of a list decide what becomes of it
+module _ (d : Desktop) (few : length d.files ≤ most_files) where
+  few_names : length (keys_of d.files) ≤ most_files
+  few_names = let as_long = length-map d.files (λ (e : List ℕ × Text ℕ). e.0) in omega (arith, as_long, few)
+
+  deleted_first : (names : List (List ℕ)) (can : Bool) → can_be_deleted (keys_of d.files) names ≡ can
+      → files_deleted d (take most_names names) ≡ files_deleted d names
+  deleted_first names true is = ap (files_deleted d) (all_are_read (keys_of d.files) names few_names is)
+  deleted_first names false is =
+      deletion_refused d (take most_names names) (first_names_decide (keys_of d.files) names few_names ∙ is)
+      ∙ sym (deletion_refused d names is)
+
+  pub deleted_by_first : (r : Result (List (List ℕ)) ℕ)
+      → given (first_names r) (files_deleted d) ≡ given r (files_deleted d)
+  deleted_by_first (Err code) = refl
+  deleted_by_first (Ok names) = deleted_first names (can_be_deleted (keys_of d.files) names) refl
 
 names_seen : (characters : List ℕ) (d : KeptDesktop) (names : List (List ℕ))
     → can_be_deleted (keys_of (seen characters d).files) names ≡ can_be_deleted (keys_of d.files) names

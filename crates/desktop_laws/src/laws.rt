@@ -1,6 +1,7 @@
 //! What holds of all desktops and events.
 ghost use Rattle.std.specs.Prelude.{◌≡◌, ℕ, List, [], ◌∷◌, ◌++◌};
 ghost use Rattle.event_bytes.specs.declared.event.Event.{Event};
+ghost use Rattle.event_bytes.specs.Spelling.{IsEvent};
 ghost use Rattle.desktop_definitions.specs.Desktop.{Desktop, KeptDesktop, empty_desktop};
 ghost use Rattle.desktop_definitions.specs.Seen.{seen};
 ghost use Rattle.desktop_definitions.specs.Step.{step, steps};
@@ -9,6 +10,11 @@ ghost use Rattle.desktop_definitions.specs.Sound.{IsSound, IsOver};
 /// The empty desktop is sound.
 pub fn empty_is_sound()
     ensures { IsSound empty_desktop }
+{}
+
+/// An event leaves a sound desktop sound, whatever the reply is.
+pub fn steps_keep_sound()
+    ensures { (d : Desktop) (event : Event) → IsSound d → IsEvent event → IsSound (step d event).0 }
 {}
 
 /// The desktop after events and one event more is the desktop after that event, from where the others led.

@@ -7,4 +7,4 @@
 
 mod laws;
 
-pub use laws::{empty_is_sound, more_change_nothing, steps_of_more};
+pub use laws::{empty_is_sound, more_change_nothing, steps_keep_sound, steps_of_more};

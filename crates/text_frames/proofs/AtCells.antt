@@ -68,8 +68,8 @@ module _ (bs : List ℕ) (org column row : ℕ) where
       ] in (
         low,
         elim is.passes [
-          | inl zero_is ↦ subst (λ k. stands_by bs org column row k ≡ true) (let e : org ≡ position_at bs org column row =
-              omega (arith, zero_is, low) in e) (stands_first bs org column row)
+          | inl zero_is ↦ (let e : org ≡ position_at bs org column row = omega (arith, zero_is, low) in
+              subst (λ k. stands_by bs org column row k ≡ true) e (stands_first bs org column row))
           | inr holds ↦ holds
         ],
       )

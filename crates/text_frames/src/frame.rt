@@ -18,7 +18,7 @@ pub struct Selection {
     pub beg: u32,
     /// The position after the last one.
     pub end: u32,
-    /// Its place among all selections by age, the newest with the highest.
+    /// Its place among all selections by age, 1 the oldest.
     pub rank: u8,
 }
 

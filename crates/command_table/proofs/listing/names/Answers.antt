@@ -4,9 +4,8 @@ use Rattle.std.proofs.Common.{sym, ap, ◌∙◌, rules}
 use Rattle.std.proofs.lemmas.Result.{IfOk-weaker}
 use Rattle.piece_ring.specs.Flat.{flat}
 use Rattle.readers_scanners.specs.Reading.{bytes}
-use Rattle.command_table.specs.declared.codes.TheConstants.{NO_SELECTION}
-use Rattle.command_table.specs.declared.listing.TheConstants.{MOST_NAMES}
-use Rattle.command_table.specs.Parameters.{place_of, names_or}
+use Rattle.command_table.specs.Codes.{no_selection}
+use Rattle.command_table.specs.Parameters.{place_of, names_or, first_names}
 use Rattle.command_table.proofs.Values.{list_of_selection, list_itself, first_is, list_is}
 use Rattle.command_table.proofs.listing.names.Goals as goal
 
@@ -17,10 +16,10 @@ returns-in_default-clause-names g c h =
     let first = first_is (read (flat c.args.text.now)) _ c.args.pos _ _ c.in_ok-first.first
     (ap read c.open-scanner.ensures.text) c.open-scanner.ensures.position (scanned.symbol h) in
     let none : option_map place_of c.args.sel ≡ None = ap (option_map place_of) c.in_default.is in
-    sym (list_of_selection read (flat c.args.text.now) c.args.pos
+    sym (ap first_names (list_of_selection read (flat c.args.text.now) c.args.pos
     (option_map place_of c.args.sel) c.in_ok-first.first c.is_special.result first c.is_special.ensures
     c.if-is_special.true
-    ∙ ap (names_or read NO_SELECTION) none)
+    ∙ ap (names_or read no_selection) none))
 
 pub returns-in_ok-first-2-clause-names : goal.returns-in_ok-first-2-clause-names
 returns-in_ok-first-2-clause-names g c =
@@ -34,13 +33,13 @@ returns-in_ok-first-2-clause-names g c =
     (ap read c.open-scanner.ensures.text) c.open-scanner.ensures.position (scanned.symbol h) in
     let still = scanned.reads.still h in
     there (again.reads.still still)
-    ∙ (list_is MOST_NAMES (read (flat c.in-Some.text.now)) _ _ c.in-Some.begin _ _ c.in_ok-first-2.first
+    ∙ (list_is (read (flat c.in-Some.text.now)) _ _ c.in-Some.begin _ _ c.in_ok-first-2.first
     (λ k. bytes (scanned.reads.same h k) (opened.text k)) opened.position (again.symbol still)
     (λ k. bytes ((again.reads.same still ∙ scanned.reads.same h) k) ((again.moves.same ∙ opened.text) k))
-    ∙ sym (list_of_selection read (flat c.args.text.now) c.args.pos
+    ∙ sym (ap first_names (list_of_selection read (flat c.args.text.now) c.args.pos
     (option_map place_of c.args.sel) c.in_ok-first.first c.is_special.result first c.is_special.ensures
     c.if-is_special.true
-    ∙ ap (names_or read NO_SELECTION) some)))
+    ∙ ap (names_or read no_selection) some))))
     c.list_from.ensures.names
 
 pub returns-else-is_special-clause-names : goal.returns-else-is_special-clause-names
@@ -52,10 +51,10 @@ returns-else-is_special-clause-names g c =
     let first = first_is (read (flat c.args.text.now)) _ c.args.pos _ _ c.in_ok-first.first
     (ap read opened.text) opened.position (scanned.symbol h) in
     there (scanned.reads.still h)
-    ∙ (list_is MOST_NAMES (read (flat c.args.text.now)) _ _ c.args.pos _ _ c.in_ok-first.first
+    ∙ (list_is (read (flat c.args.text.now)) _ _ c.args.pos _ _ c.in_ok-first.first
     (ap read opened.text) opened.position (scanned.symbol h)
     (λ k. bytes (scanned.reads.same h k) ((scanned.moves.same ∙ opened.text) k))
-    ∙ sym (list_itself read (flat c.args.text.now) c.args.pos
+    ∙ sym (ap first_names (list_itself read (flat c.args.text.now) c.args.pos
     (option_map place_of c.args.sel) c.in_ok-first.first c.is_special.result first c.is_special.ensures
-    c.if-is_special.false)))
+    c.if-is_special.false))))
     c.list_from-else-is_special.ensures.names

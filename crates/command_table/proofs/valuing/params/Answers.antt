@@ -4,7 +4,7 @@ use Rattle.std.proofs.Common.{sym, ap, ◌∙◌, rules}
 use Rattle.std.proofs.lemmas.Result.{IfOk-weaker}
 use Rattle.piece_ring.specs.Flat.{flat}
 use Rattle.readers_scanners.specs.Reading.{bytes}
-use Rattle.command_table.specs.declared.codes.TheConstants.{NO_SELECTION, NO_VIEWER}
+use Rattle.command_table.specs.Codes.{no_selection, no_viewer}
 use Rattle.command_table.specs.Parameters.{place_of, text_of, symbol_or}
 use Rattle.command_table.proofs.Values.{value_of_selection, value_of_menu, value_itself}
 use Rattle.command_table.proofs.valuing.params.Goals as goal
@@ -14,7 +14,7 @@ returns-then-is_special-clause-value g c =
     let s = g.S.CharSource in let before = c.in_ok-first.ensures in
     IfOk-weaker c.symbol_or.result _ _
     (λ r there h. there (before.reads.still h)
-    ∙ (ap (λ characters. symbol_or (bytes characters) NO_SELECTION (option_map place_of c.args.sel))
+    ∙ (ap (λ characters. symbol_or (bytes characters) no_selection (option_map place_of c.args.sel))
     (before.reads.same h)
     ∙ sym (value_of_selection (bytes (s.characters c.args.source.now)) (flat c.args.text.now) c.args.pos
     (option_map place_of c.args.sel) (option_map text_of c.args.menu)
@@ -28,7 +28,7 @@ returns-then-is_special-2-clause-value g c =
     search rules in
     IfOk-weaker c.symbol_or-then-is_special-2.result _ _
     (λ r there h. there (before.reads.still h)
-    ∙ ((λ k. symbol_or (bytes (before.reads.same h k)) NO_VIEWER (same k))
+    ∙ ((λ k. symbol_or (bytes (before.reads.same h k)) no_viewer (same k))
     ∙ sym (value_of_menu (bytes (s.characters c.args.source.now)) (flat c.args.text.now) c.args.pos
     (option_map place_of c.args.sel) (option_map text_of c.args.menu)
     c.in_ok-first.first c.is_special.result c.is_special-else-is_special.result

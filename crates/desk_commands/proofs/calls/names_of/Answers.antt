@@ -1,8 +1,8 @@
-use Rattle.std.proofs.Common.{◌∙◌}
+use Rattle.std.proofs.Common.{ap, ◌∙◌}
 use Rattle.std.proofs.lemmas.Result.{IfOk-weaker}
 use Rattle.piece_ring.specs.Flat.{flat}
 use Rattle.readers_scanners.specs.Reading.{bytes}
-use Rattle.command_table.specs.Parameters.{names}
+use Rattle.command_table.specs.Parameters.{names, first_names}
 use Rattle.desktop_laws.specs.CallLaws.{called_place, place_stands, names_read}
 use Rattle.desk_core.specs.Kept.{kept}
 use Rattle.desk_commands.proofs.calls.names_of.Goals as goal
@@ -19,5 +19,6 @@ pub returns-clause-exact : goal.returns-clause-exact
 returns-clause-exact g c =
     let old = g.S.CharSource.characters c.args.source.now in
     IfOk-weaker c.names.result _ _ (λ r fact h. fact h
-    ∙ (λ k. names (bytes old) (flat (c.text_called-text.ensures k)) c.args.call.after (c.selection_place.ensures k))
-    ∙ names_read old (kept c.args.desk.now) c.args.call) c.names.ensures.names
+    ∙ ap first_names ((λ k. names (bytes old) (flat (c.text_called-text.ensures k)) c.args.call.after
+    (c.selection_place.ensures k))
+    ∙ names_read old (kept c.args.desk.now) c.args.call)) c.names.ensures.names
