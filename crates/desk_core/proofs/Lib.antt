@@ -9,4 +9,5 @@ pub mod PositionLemmas
 pub mod MarkLemmas
 pub mod StretchLemmas
 pub mod ReadLemmas
+pub mod UnreadLemmas
 pub mod ArmLemmas

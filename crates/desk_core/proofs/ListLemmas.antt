@@ -1,5 +1,6 @@
 -- A listing speaks of lengths alone.
-use Rattle.std.proofs.Common.{◌≡◌, ℕ, List, [], ◌∷◌, ◌++◌, map, length, refl, subst, append_assoc, ap, ◌∙◌}
+use Rattle.std.proofs.Common.{◌≡◌, ℕ, List, [], ◌∷◌, ◌++◌, map, length, refl, sym, subst, append_assoc, ap, ◌∙◌}
+use Rattle.std.proofs.lemmas.List.{map-append}
 use Rattle.piece_ring.specs.declared.piece.Piece.{Piece}
 use Rattle.piece_ring.specs.Flat.{flat}
 use Rattle.desktop_definitions.specs.declared.entry.Entry.{Entry}
@@ -45,3 +46,14 @@ list_whole characters d files user system all f u s w =
     w ∙ ap (λ (l : List Entry). l ++ last)
     (s ∙ ap (λ (l : List Entry). l ++ right) (u ∙ ap (λ (l : List Entry). l ++ left) f))
     ∙ append_assoc (named ++ left) right last ∙ append_assoc named left (right ++ last)
+
+-- the same where each part is told through f
+pub parts_told : (f : Entry → Entry) (files left right last user system all : List Entry)
+    → map f user ≡ map f files ++ map f left → map f system ≡ map f user ++ map f right → all ≡ system ++ last
+    → map f all ≡ map f (((files ++ left) ++ right) ++ last)
+parts_told f files left right last user system all u s w =
+    ap (map f) w ∙ map-append f system last
+    ∙ ap (λ (l : List Entry). l ++ map f last)
+    (s ∙ ap (λ (l : List Entry). l ++ map f right) (u ∙ sym (map-append f files left))
+    ∙ sym (map-append f (files ++ left) right))
+    ∙ sym (map-append f ((files ++ left) ++ right) last)

@@ -1,5 +1,5 @@
 -- What a method promises that does an event, or the rest of one.
-use Rattle.std.specs.Prelude.{ℕ, Result}
+use Rattle.std.specs.Prelude.{◌≡◌, ℕ, List, length, Result}
 use Rattle.sector_disk.specs.Faults.{FailsAs}
 use Rattle.char_file.specs.declared.source.CharSource.{Ghosts}
 use Rattle.desktop_definitions.specs.declared.reply.Reply.{Reply}
@@ -11,6 +11,13 @@ use Rattle.desktop_definitions.specs.Outcome.{IsAnswered, IsSameSource}
 use Rattle.desk_core.specs.declared.stop.Stop.{Stop}
 use Rattle.desk_core.specs.declared.stop.Stop.TheVariants.{Fault}
 use Rattle.desk_core.specs.Stops.{IsStop}
+
+-- Of a row that reads no character: reply and desktop are what is settled of it over every list of as many characters,
+-- whatever the source tells.
+abbrev pub SettlesUnread : (Desktop → Result Desktop ℕ) → KeptDesktop → KeptDesktop → Reply → Type 0
+SettlesUnread row before after reply =
+    (all : List ℕ) → length all ≡ before.written
+    → (seen all after, reply) ≡ settled (seen all before) (row (seen all before))
 
 module _ {S : Type 0} (s : Ghosts S) where
   -- The reply, and the desktop that is kept after it, are what is settled of the row, where that says what becomes of a

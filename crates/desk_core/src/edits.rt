@@ -1,6 +1,6 @@
 //! Edits that several rows have: what is put in or taken out, with the caret where it was, and copies of stretches.
 ghost use Rattle.std.specs.Prelude.{◌≡◌, ◌+◌, ◌-◌, ◌<◌, ◌≤◌, ◌^◌, ◌&&◌, ℕ, List, length, nat_le};
-ghost use Rattle.std.specs.Prelude.{IfOk, IfSome, IsSome, OnOk};
+ghost use Rattle.std.specs.Prelude.{IfOk, IfSome, IsSome, OnOk, is_none, true};
 ghost use Rattle.sector_disk.specs.Faults.{FailsAs};
 ghost use Rattle.readers_scanners.specs.Words.{OnlyReads, flat};
 ghost use Rattle.piece_ring.specs.Text.{stretch};
@@ -21,7 +21,7 @@ ghost use Rattle.std.specs.Prelude.{Ok};
 ghost use Rattle.std.specs.Prelude.{if◌then◌else◌};
 ghost use Rattle.desktop_definitions.specs.Limits.{no_caret};
 ghost use Rattle.desktop_definitions.specs.Needs.{needs};
-ghost use Rattle.desk_core.specs.Row.{Settles, Uses};
+ghost use Rattle.desk_core.specs.Row.{Settles, SettlesUnread, Uses};
 
 use crate::desk::Desk;
 use crate::stop::{NoMemory, Stop};
@@ -225,6 +225,9 @@ impl Desk {
         ensures answered { IfOk result (Settles S.CharSource (λ d. needs d.caret no_caret λ c.
             Ok (put_at_caret d (if deleted then d.deleted else d.copied) c))
             source.old source.new (kept self.old) (kept self.new)) }
+        ensures unread { is_none (kept self.old).caret ≡ true → IfOk result (SettlesUnread (λ d.
+            needs d.caret no_caret λ c. Ok (put_at_caret d (if deleted then d.deleted else d.copied) c))
+            (kept self.old) (kept self.new)) }
         ensures uses { Uses S.CharSource result source.old source.new }
     {
         let Some(caret) = self.caret_place() else {

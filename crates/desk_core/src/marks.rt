@@ -3,7 +3,7 @@ ghost use Rattle.std.specs.Prelude.{◌≡◌, ◌&&◌, IfOk, Ok};
 ghost use Rattle.desktop_definitions.specs.Sound.{IsOver};
 ghost use Rattle.desk_core.specs.Kept.{kept};
 ghost use Rattle.desk_core.specs.Positions.{IsPosition};
-ghost use Rattle.desk_core.specs.Row.{Settles, Uses};
+ghost use Rattle.desk_core.specs.Row.{Settles, SettlesUnread, Uses};
 ghost use Rattle.desktop_definitions.specs.Step.{marked};
 ghost use Rattle.desktop_definitions.specs.Needs.{unless};
 ghost use Rattle.desktop_definitions.specs.Limits.{outside};
@@ -46,6 +46,8 @@ impl Desk {
         ensures answered { IfOk result (Settles S.CharSource (λ d.
             unless (is_on_display x y) outside (Ok (marked d x y)))
             source.old source.new (kept self.old) (kept self.new)) }
+        ensures unread { IfOk result (SettlesUnread (λ d. unless (is_on_display x y) outside (Ok (marked d x y)))
+            (kept self.old) (kept self.new)) }
         ensures uses { Uses S.CharSource result source.old source.new }
     {
         if !is_on_display(x, y) {

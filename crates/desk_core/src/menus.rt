@@ -5,7 +5,7 @@ ghost use Rattle.desktop_definitions.specs.Viewers.{opened_at};
 ghost use Rattle.desktop_definitions.specs.Opening.{dropped};
 ghost use Rattle.desktop_definitions.specs.Sound.{IsOver};
 ghost use Rattle.desk_core.specs.Kept.{kept};
-ghost use Rattle.desk_core.specs.Row.{Settles, Uses};
+ghost use Rattle.desk_core.specs.Row.{Settles, SettlesUnread, Uses};
 ghost use Rattle.viewer_tracks.specs.declared.display.TheConstants.{ROWS, COLUMNS};
 ghost use Rattle.desktop_definitions.specs.Gesture.{resized, carried};
 
@@ -23,6 +23,7 @@ impl Desk {
         requires over { IsOver (S.characters source.old) (kept self.old) }
         ensures answered { IfOk result (Settles S.CharSource (λ d. Ok (resized d id y))
             source.old source.new (kept self.old) (kept self.new)) }
+        ensures unread { IfOk result (SettlesUnread (λ d. Ok (resized d id y)) (kept self.old) (kept self.new)) }
         ensures uses { Uses S.CharSource result source.old source.new }
     {
         edits_place_viewers();
@@ -45,6 +46,7 @@ impl Desk {
         requires over { IsOver (S.characters source.old) (kept self.old) }
         ensures answered { IfOk result (Settles S.CharSource (λ d. Ok (carried d id x y))
             source.old source.new (kept self.old) (kept self.new)) }
+        ensures unread { IfOk result (SettlesUnread (λ d. Ok (carried d id x y)) (kept self.old) (kept self.new)) }
         ensures uses { Uses S.CharSource result source.old source.new }
     {
         edits_keep_columns();

@@ -9,7 +9,7 @@ ghost use Rattle.desktop_definitions.specs.Viewers.{text_in, viewer_or_none};
 ghost use Rattle.desktop_definitions.specs.Seen.{seen};
 ghost use Rattle.desktop_definitions.specs.Sound.{IsOver};
 ghost use Rattle.desk_core.specs.Kept.{kept};
-ghost use Rattle.desk_core.specs.Row.{Settles, Uses};
+ghost use Rattle.desk_core.specs.Row.{Settles, SettlesUnread, Uses};
 ghost use Rattle.desk_core.specs.Mouse.{start_of_row, start_of_share};
 ghost use Rattle.desktop_definitions.specs.Viewers.{with_org, rows_of};
 ghost use Rattle.desktop_definitions.specs.Gesture.{scrolled_to_row, scrolled_to_share};
@@ -142,6 +142,7 @@ pub fn scroll_to_top<S: CharSource>(desk: &mut Desk, id: u8, source: &mut S) -> 
     requires over { IsOver (S.characters source.old) (kept desk.old) }
     ensures answered { IfOk result (Settles S.CharSource (λ d. Ok (with_org d id 0))
         source.old source.new (kept desk.old) (kept desk.new)) }
+    ensures unread { IfOk result (SettlesUnread (λ d. Ok (with_org d id 0)) (kept desk.old) (kept desk.new)) }
     ensures uses { Uses S.CharSource result source.old source.new }
 {
     begin_at(desk, id, 0);

@@ -1,10 +1,12 @@
 //! What typing and the keys do.
-ghost use Rattle.std.specs.Prelude.{◌+◌, ◌<◌, IfOk};
+ghost use Rattle.std.specs.Prelude.{◌≡◌, ◌+◌, ◌<◌, IfOk, is_none, true};
 ghost use Rattle.event_bytes.specs.declared.keys.Key.TheVariants.{Back, Copy, Paste, Cut, Escape};
 ghost use Rattle.desktop_definitions.specs.Keys.{typed, pressed};
+ghost use Rattle.desktop_definitions.specs.Unread.{key_needs_no_byte};
+ghost use Rattle.desktop_definitions.specs.Viewers.{newest};
 ghost use Rattle.desktop_definitions.specs.Sound.{IsOver};
 ghost use Rattle.desk_core.specs.Kept.{kept};
-ghost use Rattle.desk_core.specs.Row.{Settles, Uses};
+ghost use Rattle.desk_core.specs.Row.{Settles, SettlesUnread, Uses};
 
 use char_file::CharSource;
 use desk_core::desk::Desk;
@@ -26,6 +28,8 @@ pub fn type_bytes<S: CharSource>(
     requires over { IsOver (S.characters source.old) (kept desk.old) }
     ensures answered { IfOk result (Settles S.CharSource (λ d. typed d bytes.now)
         source.old source.new (kept desk.old) (kept desk.new)) }
+    ensures unread { is_none (kept desk.old).caret ≡ true
+        → IfOk result (SettlesUnread (λ d. typed d bytes.now) (kept desk.old) (kept desk.new)) }
     ensures uses { Uses S.CharSource result source.old source.new }
 {
     let Some(caret) = desk.caret_place() else {
@@ -52,6 +56,8 @@ pub fn press<S: CharSource>(
     requires over { IsOver (S.characters source.old) (kept desk.old) }
     ensures answered { IfOk result (Settles S.CharSource (λ d. pressed d key)
         source.old source.new (kept desk.old) (kept desk.new)) }
+    ensures unread { key_needs_no_byte (kept desk.old) key ≡ true
+        → IfOk result (SettlesUnread (λ d. pressed d key) (kept desk.old) (kept desk.new)) }
     ensures uses { Uses S.CharSource result source.old source.new }
 {
     match key {
@@ -68,6 +74,8 @@ fn take_back<S: CharSource>(desk: &mut Desk, alloc: Global, source: &mut S) -> R
     requires over { IsOver (S.characters source.old) (kept desk.old) }
     ensures answered { IfOk result (Settles S.CharSource (λ d. pressed d Back)
         source.old source.new (kept desk.old) (kept desk.new)) }
+    ensures unread { is_none (kept desk.old).caret ≡ true
+        → IfOk result (SettlesUnread (λ d. pressed d Back) (kept desk.old) (kept desk.new)) }
     ensures uses { Uses S.CharSource result source.old source.new }
 {
     let Some(caret) = desk.caret_place() else {
@@ -90,6 +98,7 @@ fn copy<S: CharSource>(desk: &mut Desk, alloc: Global, source: &mut S) -> Result
     requires over { IsOver (S.characters source.old) (kept desk.old) }
     ensures answered { IfOk result (Settles S.CharSource (λ d. pressed d Copy)
         source.old source.new (kept desk.old) (kept desk.new)) }
+    ensures unread { IfOk result (SettlesUnread (λ d. pressed d Copy) (kept desk.old) (kept desk.new)) }
     ensures uses { Uses S.CharSource result source.old source.new }
 {
     let Some(selection) = desk.selection() else {
@@ -108,6 +117,8 @@ fn paste<S: CharSource>(desk: &mut Desk, alloc: Global, source: &mut S) -> Resul
     requires over { IsOver (S.characters source.old) (kept desk.old) }
     ensures answered { IfOk result (Settles S.CharSource (λ d. pressed d Paste)
         source.old source.new (kept desk.old) (kept desk.new)) }
+    ensures unread { is_none (kept desk.old).caret ≡ true
+        → IfOk result (SettlesUnread (λ d. pressed d Paste) (kept desk.old) (kept desk.new)) }
     ensures uses { Uses S.CharSource result source.old source.new }
 {
     desk.put_buffer(alloc, false, source)
@@ -119,6 +130,8 @@ fn cut<S: CharSource>(desk: &mut Desk, alloc: Global, source: &mut S) -> Result<
     requires over { IsOver (S.characters source.old) (kept desk.old) }
     ensures answered { IfOk result (Settles S.CharSource (λ d. pressed d Cut)
         source.old source.new (kept desk.old) (kept desk.new)) }
+    ensures unread { is_none (newest (kept desk.old)) ≡ true
+        → IfOk result (SettlesUnread (λ d. pressed d Cut) (kept desk.old) (kept desk.new)) }
     ensures uses { Uses S.CharSource result source.old source.new }
 {
     let Some(selection) = desk.selection() else {
@@ -135,6 +148,7 @@ fn escape<S: CharSource>(desk: &mut Desk, source: &mut S) -> Result<Reply, Stop>
     requires over { IsOver (S.characters source.old) (kept desk.old) }
     ensures answered { IfOk result (Settles S.CharSource (λ d. pressed d Escape)
         source.old source.new (kept desk.old) (kept desk.new)) }
+    ensures unread { IfOk result (SettlesUnread (λ d. pressed d Escape) (kept desk.old) (kept desk.new)) }
     ensures uses { Uses S.CharSource result source.old source.new }
 {
     desk.caret = None;

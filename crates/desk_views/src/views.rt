@@ -1,5 +1,5 @@
 //! What a desk shows and lists of its viewers.
-ghost use Rattle.std.specs.Prelude.{◌≡◌, ◌≤◌, ◌++◌, length, map, All, IfOk, OnOk};
+ghost use Rattle.std.specs.Prelude.{◌≡◌, ◌≤◌, ◌++◌, ℕ, List, length, map, All, IfOk, OnOk};
 ghost use Rattle.sector_disk.specs.Faults.{FailsAs};
 ghost use Rattle.char_file.specs.Source.{OnlyReads};
 ghost use Rattle.piece_ring.specs.Flat.{flat};
@@ -7,7 +7,7 @@ ghost use Rattle.piece_ring.specs.Offsets.{AreWithin};
 ghost use Rattle.readers_scanners.specs.Reading.{contents};
 ghost use Rattle.viewer_tracks.specs.Columns.{IsPlaced};
 ghost use Rattle.desktop_definitions.specs.Seen.{seen};
-ghost use Rattle.desktop_definitions.specs.Listing.{name_in, viewer_entry, track_entries};
+ghost use Rattle.desktop_definitions.specs.Listing.{name_in, viewer_entry, track_entries, without_name};
 ghost use Rattle.desktop_definitions.specs.Shown.{selection_in, shown_screen};
 ghost use Rattle.desktop_definitions.specs.Sound.{IsOver};
 ghost use Rattle.desk_core.specs.Kept.{kept};
@@ -71,6 +71,9 @@ pub fn list_track<S: CharSource>(
     requires { IsOver (S.characters source.old) (kept desk.now) }
     ensures entries { OnOk result (S.honest source.old → entries.new.items
         ≡ entries.old.items ++ track_entries (seen (S.characters source.old) (kept desk.now)) track) }
+    ensures unread { OnOk result ((all : List ℕ) → length all ≡ (kept desk.now).written
+        → map without_name entries.new.items
+        ≡ map without_name entries.old.items ++ map without_name (track_entries (seen all (kept desk.now)) track)) }
     ensures reads { OnlyReads S.characters S.failures S.honest S.same_ground source.old source.new }
     ensures faults { FailsAs Stop.Fault IsStop result (S.failures source.old) (S.failures source.new) }
 {
@@ -97,6 +100,8 @@ fn entry_of<S: CharSource>(
     requires placed { IsPlaced id.0 (kept desk.now).columns }
     ensures entry { IfOk result (λ entry. S.honest source.old
         → entry ≡ viewer_entry (seen (S.characters source.old) (kept desk.now)) track id.0) }
+    ensures unread { IfOk result (λ entry. (all : List ℕ) → length all ≡ (kept desk.now).written
+        → without_name entry ≡ without_name (viewer_entry (seen all (kept desk.now)) track id.0)) }
     ensures reads { OnlyReads S.characters S.failures S.honest S.same_ground source.old source.new }
     ensures faults { FailsAs Stop.Fault IsStop result (S.failures source.old) (S.failures source.new) }
 {

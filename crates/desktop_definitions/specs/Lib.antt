@@ -2,6 +2,7 @@ pub mod Words
 pub mod Limits
 pub mod Desktop
 pub mod Tables
+pub mod Unread
 pub mod Viewers
 pub mod Change
 pub mod Keys

@@ -1,5 +1,6 @@
 -- The table of gestures, area by area.
-use Rattle.std.specs.Prelude.{◌≡◌, ℕ, Bool, true, List, Result, Ok, IfOk}
+use Rattle.std.specs.Prelude.{◌≡◌, ◌||◌, not, ℕ, Bool, true, List, length, Result, Ok, IfOk}
+use Rattle.std.proofs.lemmas.Result.{IfOk-weaker}
 use Rattle.std.proofs.Common.{refl, sym, ap, subst, ◌∙◌}
 use Rattle.event_bytes.specs.declared.keys.Keys.{Keys}
 use Rattle.event_bytes.specs.declared.keys.Keys.TheVariants.{Left, LeftMiddle, LeftRight, Middle, Right, RightLeft}
@@ -10,6 +11,8 @@ use Rattle.desktop_definitions.specs.declared.area.Area.TheVariants.{Filler, Men
 use Rattle.desktop_definitions.specs.declared.viewer.Selection.{Selection}
 use Rattle.desktop_definitions.specs.Limits.{first_version, outside}
 use Rattle.desktop_definitions.specs.Needs.{unless}
+use Rattle.desktop_definitions.specs.Unread.{gesture_needs_no_byte}
+use Rattle.desk_core.specs.Row.{SettlesUnread}
 use Rattle.desktop_definitions.specs.Desktop.{Desktop, KeptDesktop}
 use Rattle.desktop_definitions.specs.Seen.{seen}
 use Rattle.desktop_definitions.specs.Step.{settled}
@@ -108,3 +111,27 @@ pointed_rest d RightLeft v x0 y0 x1 y1 a b c e f h i = absurd (f refl)
 pointed_rest d RightMiddle v x0 y0 x1 y1 a b c e f h i = absurd (h refl)
 pointed_rest d Middle v x0 y0 x1 y1 a b c e f h i = absurd (i refl)
 pointed_rest d keys v x0 y0 x1 y1 a b c e f h i = refl
+
+-- ---- where no character is read
+
+needs_none : (inside : Bool) (area there : Area) (keys : Keys) → inside ≡ true → area ≡ there
+    → (not inside || gesture_needs_no_byte there keys) ≡ true → gesture_needs_no_byte area keys ≡ true
+needs_none inside area there keys is same none =
+    (λ k. not (sym is k) || gesture_needs_no_byte (same k) keys) ∙ none
+
+-- the row of an area is that of both cells
+pub unread_there : (d after : KeptDesktop) (keys : Keys) (x0 y0 x1 y1 : ℕ) (result : Result Reply Stop) {inside : Bool}
+    {area : Area} {row : Desktop → Result Desktop ℕ} → inside ≡ true → area ≡ area_at d x0 y0
+    → (not inside || gesture_needs_no_byte (area_at d x0 y0) keys) ≡ true
+    → ((all : List ℕ) → row (seen all d) ≡ pointed first_version (seen all d) area keys x0 y0 x1 y1)
+    → (gesture_needs_no_byte area keys ≡ true → IfOk result (SettlesUnread row d after))
+    → IfOk result (SettlesUnread (λ x. unless inside outside
+    (pointed first_version x (area_at x x0 y0) keys x0 y0 x1 y1)) d after)
+unread_there d after keys x0 y0 x1 y1 result {inside} {area} {row} there here none is so =
+    IfOk-weaker result (SettlesUnread row d after) _ (λ reply settles all long.
+    settles all long ∙ ap (settled (seen all d))
+    (is all ∙ ap (λ (a : Area). pointed first_version (seen all d) a keys x0 y0 x1 y1)
+    (here ∙ sym (area_seen all d x0 y0))
+    ∙ sym (ap (λ (b : Bool). unless b outside
+    (pointed first_version (seen all d) (area_at (seen all d) x0 y0) keys x0 y0 x1 y1)) there)))
+    (so (needs_none inside area (area_at d x0 y0) keys there here none))

@@ -1,3 +1,4 @@
 pub mod StopLemmas
 pub mod GestureLemmas
 pub mod ImageRead
+pub mod UnreadEvents

@@ -1,5 +1,5 @@
 //! The desktop.
-ghost use Rattle.std.specs.Prelude.{◌≡◌, ℕ, List, [], length, Ok, IfOk, IfSome, OnOk, IsErrOf, option_map};
+ghost use Rattle.std.specs.Prelude.{◌≡◌, ℕ, List, [], length, map, true, Ok, IfOk, IfSome, OnOk, IsErrOf, option_map};
 ghost use Rattle.sector_disk.specs.Faults.{FailsAs};
 ghost use Rattle.char_file.specs.Source.{OnlyReads};
 ghost use Rattle.piece_ring.specs.Flat.{flat};
@@ -12,9 +12,10 @@ ghost use Rattle.desktop_definitions.specs.declared.reply.Reply.TheVariants.{No}
 ghost use Rattle.desktop_definitions.specs.Desktop.{KeptDesktop, empty_desktop, file_of};
 ghost use Rattle.desktop_definitions.specs.Seen.{seen};
 ghost use Rattle.desktop_definitions.specs.Step.{step};
+ghost use Rattle.desktop_definitions.specs.Unread.{needs_no_byte, StepsUnread};
 ghost use Rattle.desktop_definitions.specs.Sound.{IsKeptWhole, IsOver, Grows};
 ghost use Rattle.desktop_definitions.specs.Outcome.{IsReply, IsUnchanged, IsSameSource};
-ghost use Rattle.desktop_definitions.specs.Listing.{entries_of};
+ghost use Rattle.desktop_definitions.specs.Listing.{entries_of, without_name};
 ghost use Rattle.desktop_definitions.specs.Shown.{shown_screen};
 ghost use Rattle.desk_image.specs.Streams.{Puts};
 ghost use Rattle.desk_image.specs.Image.{image_of, image_bytes, IsSpellable};
@@ -93,7 +94,7 @@ impl Desktop {
 
     /// Does the event, by this profile's rules, and returns Done, or No with the code of a refusal, which leaves the
     /// desktop and the length of the source. The source has just the characters that were written, before and after any
-    /// reply.
+    /// reply. Where the event reads no character (`needs_no_byte`), reply and desktop rest on no source.
     ///
     /// NoMemory where an allocation is refused; Fault where a character could not be read. The desktop isn't used again
     /// after either.
@@ -106,6 +107,8 @@ impl Desktop {
         requires { IsOver (S.characters source.old) self.old }
         ensures done { IfOk result (λ reply. S.honest source.old → (seen (S.characters source.new) self.new, reply)
             ≡ step (seen (S.characters source.old) self.old) event.now) }
+        ensures unread { needs_no_byte self.old event.now ≡ true
+            → IfOk result (StepsUnread self.old self.new event.now) }
         ensures over { OnOk result (IsOver (S.characters source.new) self.new) }
         ensures replies { IfOk result IsReply }
         ensures refusal { (code : ℕ) → result ≡ Ok (No code)
@@ -131,12 +134,14 @@ impl Desktop {
     /// An entry for each file, by rising names; one for each viewer of the user track and then of the system track,
     /// from the bottom up; and at last one for how many characters were ever written.
     ///
-    /// NoMemory where an allocation is refused; Fault where a character could not be read. The desktop stays, whatever
-    /// is returned.
+    /// Nothing but the names of viewers is read. NoMemory where an allocation is refused; Fault where a character could
+    /// not be read. The desktop stays, whatever is returned.
     pub fn list<S: CharSource>(&mut self, alloc: Global, source: &mut S) -> Result<Vec<Entry>, Stop>
         requires { IsOver (S.characters source.old) self.old }
         ensures entries { IfOk result (λ entries. S.honest source.old
             → entries.items ≡ entries_of (seen (S.characters source.old) self.old)) }
+        ensures unread { IfOk result (λ entries. (all : List ℕ) → length all ≡ self.old.written
+            → map without_name entries.items ≡ map without_name (entries_of (seen all self.old))) }
         ensures unchanged { self.new ≡ self.old }
         ensures reads { OnlyReads S.characters S.failures S.honest S.same_ground source.old source.new }
         ensures faults { FailsAs Stop.Fault IsStop result (S.failures source.old) (S.failures source.new) }

@@ -1,19 +1,20 @@
 //! What the mouse does, by the area in which its keys went down. A gesture that isn't in the table is done and changes
 //! nothing.
-ghost use Rattle.std.specs.Prelude.{◌<◌, ◌≤◌, ◌&&◌, length, true, false, IfOk};
+ghost use Rattle.std.specs.Prelude.{◌≡◌, ◌<◌, ◌≤◌, ◌&&◌, ◌||◌, not, length, true, false, IfOk};
 ghost use Rattle.piece_ring.specs.Flat.{flat};
 ghost use Rattle.viewer_tracks.specs.declared.display.TheConstants.{ROWS, COLUMNS};
 ghost use Rattle.viewer_tracks.specs.Columns.{IsPlaced};
-ghost use Rattle.desktop_definitions.specs.declared.area.Area.TheVariants.{Body};
+ghost use Rattle.desktop_definitions.specs.declared.area.Area.TheVariants.{Filler, Menu, Bar, Body};
 ghost use Rattle.desktop_definitions.specs.Needs.{unless};
 ghost use Rattle.desktop_definitions.specs.Limits.{first_version, outside};
 ghost use Rattle.desktop_definitions.specs.Viewers.{text_in, viewer_or_none, rows_of};
 ghost use Rattle.desktop_definitions.specs.Commands.{called};
 ghost use Rattle.desktop_definitions.specs.Gesture.{is_on_display, area_at, menu_position, text_position};
 ghost use Rattle.desktop_definitions.specs.Gesture.{stretch_drawn, pointed};
+ghost use Rattle.desktop_definitions.specs.Unread.{gesture_needs_no_byte};
 ghost use Rattle.desktop_definitions.specs.Sound.{IsOver};
 ghost use Rattle.desk_core.specs.Kept.{kept};
-ghost use Rattle.desk_core.specs.Row.{Settles, Uses};
+ghost use Rattle.desk_core.specs.Row.{Settles, SettlesUnread, Uses};
 ghost use Rattle.desk_core.specs.Mouse.{done_in_filler, done_in_menu, done_in_bar, done_at, done_with};
 
 use char_file::CharSource;
@@ -44,6 +45,12 @@ pub fn point<S: CharSource>(
         unless (is_on_display from.0 from.1 && is_on_display to.0 to.1) outside
         (pointed first_version d (area_at d from.0 from.1) keys from.0 from.1 to.0 to.1))
         source.old source.new (kept desk.old) (kept desk.new)) }
+    ensures unread { (not (is_on_display from.0 from.1 && is_on_display to.0 to.1)
+        || gesture_needs_no_byte (area_at (kept desk.old) from.0 from.1) keys) ≡ true
+        → IfOk result (SettlesUnread (λ d.
+        unless (is_on_display from.0 from.1 && is_on_display to.0 to.1) outside
+        (pointed first_version d (area_at d from.0 from.1) keys from.0 from.1 to.0 to.1))
+        (kept desk.old) (kept desk.new)) }
     ensures uses { Uses S.CharSource result source.old source.new }
 {
     if !are_on_display(from, to) {
@@ -61,7 +68,13 @@ pub fn point<S: CharSource>(
 }
 
 /// In a filler, at a cell.
-#[tactic(auto, unfolding(desk_core::specs::Mouse::done_in_filler))]
+#[tactic(
+    auto,
+    unfolding(
+        desk_core::specs::Mouse::done_in_filler,
+        desktop_definitions::specs::Unread::gesture_needs_no_byte
+    )
+)]
 fn point_filler<S: CharSource>(
     desk: &mut Desk,
     alloc: Global,
@@ -74,6 +87,9 @@ fn point_filler<S: CharSource>(
     requires over { IsOver (S.characters source.old) (kept desk.old) }
     ensures answered { IfOk result (Settles S.CharSource (λ d. done_in_filler d keys cell.0 cell.1)
         source.old source.new (kept desk.old) (kept desk.new)) }
+    ensures unread { gesture_needs_no_byte Filler keys ≡ true
+        → IfOk result (SettlesUnread (λ d. done_in_filler d keys cell.0 cell.1)
+        (kept desk.old) (kept desk.new)) }
     ensures uses { Uses S.CharSource result source.old source.new }
 {
     match keys {
@@ -83,7 +99,13 @@ fn point_filler<S: CharSource>(
 }
 
 /// In the menu of a viewer; the keys went up at a cell.
-#[tactic(auto, unfolding(desk_core::specs::Mouse::done_in_menu))]
+#[tactic(
+    auto,
+    unfolding(
+        desk_core::specs::Mouse::done_in_menu,
+        desktop_definitions::specs::Unread::gesture_needs_no_byte
+    )
+)]
 fn point_menu<S: CharSource>(
     desk: &mut Desk,
     alloc: Global,
@@ -98,6 +120,9 @@ fn point_menu<S: CharSource>(
     requires over { IsOver (S.characters source.old) (kept desk.old) }
     ensures answered { IfOk result (Settles S.CharSource (λ d. done_in_menu d keys id cell.0 cell.1)
         source.old source.new (kept desk.old) (kept desk.new)) }
+    ensures unread { gesture_needs_no_byte (Menu id) keys ≡ true
+        → IfOk result (SettlesUnread (λ d. done_in_menu d keys id cell.0 cell.1)
+        (kept desk.old) (kept desk.new)) }
     ensures uses { Uses S.CharSource result source.old source.new }
 {
     match keys {
@@ -128,7 +153,13 @@ fn call_in_menu<S: CharSource>(
 }
 
 /// In the scroll bar of a viewer, at a row of its main frame.
-#[tactic(auto, unfolding(desk_core::specs::Mouse::done_in_bar))]
+#[tactic(
+    auto,
+    unfolding(
+        desk_core::specs::Mouse::done_in_bar,
+        desktop_definitions::specs::Unread::gesture_needs_no_byte
+    )
+)]
 fn point_bar<S: CharSource>(
     desk: &mut Desk,
     keys: Keys,
@@ -141,6 +172,9 @@ fn point_bar<S: CharSource>(
     requires over { IsOver (S.characters source.old) (kept desk.old) }
     ensures answered { IfOk result (Settles S.CharSource (λ d. done_in_bar d keys id row)
         source.old source.new (kept desk.old) (kept desk.new)) }
+    ensures unread { gesture_needs_no_byte (Bar id) keys ≡ true
+        → IfOk result (SettlesUnread (λ d. done_in_bar d keys id row)
+        (kept desk.old) (kept desk.new)) }
     ensures uses { Uses S.CharSource result source.old source.new }
 {
     match keys {
@@ -152,6 +186,7 @@ fn point_bar<S: CharSource>(
 }
 
 /// In the main text of a viewer.
+#[tactic(auto, unfolding(desktop_definitions::specs::Unread::gesture_needs_no_byte))]
 fn point_text<S: CharSource>(
     desk: &mut Desk,
     alloc: Global,
@@ -167,6 +202,9 @@ fn point_text<S: CharSource>(
     ensures answered { IfOk result (Settles S.CharSource
         (λ d. pointed first_version d (Body id) keys from.0 from.1 to.0 to.1)
         source.old source.new (kept desk.old) (kept desk.new)) }
+    ensures unread { gesture_needs_no_byte (Body id) keys ≡ true → IfOk result (SettlesUnread
+        (λ d. pointed first_version d (Body id) keys from.0 from.1 to.0 to.1)
+        (kept desk.old) (kept desk.new)) }
     ensures uses { Uses S.CharSource result source.old source.new }
 {
     match keys {

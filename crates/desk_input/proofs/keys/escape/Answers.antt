@@ -8,7 +8,9 @@ use Rattle.desktop_definitions.specs.Outcome.{IsAnswered}
 use Rattle.desktop_definitions.specs.Step.{settled}
 use Rattle.desktop_definitions.specs.Keys.{pressed}
 use Rattle.desktop_definitions.specs.Seen.{seen}
+use Rattle.std.specs.Prelude.{⊤}
 use Rattle.desk_core.specs.Kept.{kept}
+use Rattle.desk_core.proofs.UnreadLemmas.{over_all}
 use Rattle.desk_input.proofs.keys.escape.Goals as goal
 
 pub returns-clause-answered : goal.returns-clause-answered
@@ -22,3 +24,13 @@ returns-clause-answered g c =
     (settled (seen old d) (pressed (seen old d) Escape)) Done)
     (sym c.clear.ensures.items)
     (escape_answered _ old d c.requires.over)
+
+pub returns-clause-unread : goal.returns-clause-unread
+unfolding escaped
+returns-clause-unread g c = λ all long.
+    let d = kept c.args.desk.now in
+    let answered = subst (λ (selections : List Selection). IsAnswered ⊤ all all d
+    (record d { caret = None; selections = selections; marker = None })
+    (settled (seen all d) (pressed (seen all d) Escape)) Done)
+    (sym c.clear.ensures.items)
+    (escape_answered ⊤ all d (over_all c.requires.over all long)) in answered.exact tt

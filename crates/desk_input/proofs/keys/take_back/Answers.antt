@@ -3,6 +3,7 @@ use Rattle.desktop_definitions.specs.Seen.{seen}
 use Rattle.desktop_laws.specs.RowLaws.{known_no_caret}
 use Rattle.desktop_laws.specs.KeyLaws.{back_none, back_first, back_answered, stay_answered}
 use Rattle.desk_core.proofs.StretchLemmas.{refused_row}
+use Rattle.desk_core.proofs.UnreadLemmas.{refusal_is}
 use Rattle.desk_input.proofs.keys.take_back.Goals as goal
 
 pub returns-in_default-clause-answered : goal.returns-in_default-clause-answered
@@ -21,3 +22,8 @@ unfolding seen
 returns-else-caret-gt0-clause-answered g c =
     let first : c.in-Some.caret.position ≡ 0 = omega (arith, c.if-caret-gt0.false) in
     stay_answered _ _ _ _ c.requires.over (back_first _ _ (sym c.in-Some.ensures.is) first)
+
+pub returns-in_default-clause-unread : goal.returns-in_default-clause-unread
+unfolding seen
+returns-in_default-clause-unread g c h = λ all long.
+    refusal_is (back_none _ (sym c.caret_place.ensures.is ∙ c.in_default.is))

@@ -15,6 +15,7 @@ use Rattle.desk_core.specs.Kept.{kept}
 use Rattle.desktop_definitions.specs.Looks.{AreLooks}
 use Rattle.desktop_laws.specs.LookedLaws.{run_looks, kept_look}
 use Rattle.desk_core.proofs.StretchLemmas.{refused_row}
+use Rattle.desk_core.proofs.UnreadLemmas.{refusal_is}
 use Rattle.desk_input.proofs.keys.type_bytes.Goals as goal
 
 pub returns-in_default-clause-answered : goal.returns-in_default-clause-answered
@@ -103,3 +104,8 @@ returns-clause-answered g c =
     (sym c.in-Some.ensures.is) c.in_ok-buffer.buffer c.in_ok-buffer.ensures
     (changed_under (λ h. premise.1 h) c.in_ok-put_at_caret.ensures.changed)
     (λ all. sym (c.fits_more.ensures all) ∙ c.if-not-fits_more.false))
+
+pub returns-in_default-clause-unread : goal.returns-in_default-clause-unread
+unfolding seen
+returns-in_default-clause-unread g c h = λ all long.
+    refusal_is (typed_none _ (sym c.caret_place.ensures.is ∙ c.in_default.is) _)

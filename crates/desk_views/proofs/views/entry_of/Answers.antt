@@ -1,4 +1,4 @@
-use Rattle.std.proofs.Common.{◌∙◌, List, length, sym, ap, subst}
+use Rattle.std.proofs.Common.{◌∙◌, List, [], length, refl, sym, ap, subst}
 use Rattle.std.specs.Prelude.{IsSome}
 use Rattle.piece_ring.specs.declared.piece.Piece.{Piece}
 use Rattle.piece_ring.specs.Flat.{flat}
@@ -7,8 +7,8 @@ use Rattle.readers_scanners.specs.Reading.{contents}
 use Rattle.desktop_definitions.specs.declared.viewer.Viewer.{Viewer}
 use Rattle.desktop_definitions.specs.declared.entry.Entry.TheVariants.{Viewer as ViewerEntry}
 use Rattle.desktop_definitions.specs.Tables.{numbered}
-use Rattle.desktop_definitions.specs.Viewers.{text_in}
-use Rattle.desktop_definitions.specs.Listing.{name_in}
+use Rattle.desktop_definitions.specs.Viewers.{text_in, viewer_or_none}
+use Rattle.desktop_definitions.specs.Listing.{name_in, without_name}
 use Rattle.desktop_laws.specs.SeenLaws.{within_counted}
 use Rattle.desktop_laws.specs.ViewLaws.{viewer_entry_seen}
 use Rattle.desktop_laws.specs.TextLaws.{text_within}
@@ -47,3 +47,15 @@ returns-clause-entry g c = λ honest.
     ∙ viewer_entry_seen characters d c.args.track v c.in_ok-name.name c.len.result
     (c.in_ok-name.ensures.name honest ∙ ap (λ (pieces : List Piece). name_in (contents characters (flat pieces))) menu)
     (c.len.ensures ∙ ap (λ (pieces : List Piece). length (flat pieces)) main)
+
+pub returns-clause-unread : goal.returns-clause-unread
+returns-clause-unread g c = λ all long.
+    let d = kept c.args.desk.now in
+    let v = c.args.id.0 in
+    let is = c.viewer_or_none-viewer.ensures in
+    let main = c.text_there-main.ensures ∙ ap (λ (w : Viewer). text_in d.texts w.main) is in
+    let menu = text_in d.texts (viewer_or_none d.viewers v).menu in
+    (λ k. ViewerEntry (c.left.ensures k) (c.place_of-place.ensures.bottom k) (c.place_of-place.ensures.top k)
+    [] c.len.result)
+    ∙ ap without_name (viewer_entry_seen all d c.args.track v (name_in (contents all (flat menu))) c.len.result refl
+    (c.len.ensures ∙ ap (λ (pieces : List Piece). length (flat pieces)) main))

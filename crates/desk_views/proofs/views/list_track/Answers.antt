@@ -1,8 +1,12 @@
-use Rattle.std.proofs.Common.{◌∙◌, sym, ap, refl, append-nil, arith, []}
+use Rattle.std.proofs.Common.{◌∙◌, ◌≡◌, ◌++◌, ℕ, List, map, sym, ap, refl, append-nil, arith, [], ◌∷◌}
+use Rattle.std.proofs.lemmas.List.{map-append}
+use Rattle.std.proofs.lemmas.Simd.{map-map}
+use Rattle.desktop_definitions.specs.declared.entry.Entry.{Entry}
+use Rattle.viewer_tracks.specs.Viewers.{Entry as Standing}
 use Rattle.char_file.proofs.Reading.{no_read, read_on}
 use Rattle.viewer_tracks.specs.Viewers.{number_of}
 use Rattle.viewer_tracks.specs.Columns.{shown}
-use Rattle.desktop_definitions.specs.Listing.{viewer_entry}
+use Rattle.desktop_definitions.specs.Listing.{viewer_entry, without_name}
 use Rattle.desktop_definitions.specs.Seen.{seen}
 use Rattle.desktop_laws.specs.ViewLaws.{listed_more, listed_all, listed_to_none, few_stand}
 use Rattle.desk_core.specs.Kept.{kept}
@@ -15,6 +19,7 @@ loop-index-init g c =
       reads = no_read C.characters C.failures C.honest C.same_ground g.met.S.CharSource.ground_self c.args.source.now;
       calm = refl;
       so_far = λ honest. sym (append-nil c.args.entries.now.items);
+      unread = λ all long. sym (append-nil (map without_name c.args.entries.now.items));
     }
 
 pub entry_of-requires-clause-over : goal.entry_of-requires-clause-over
@@ -43,6 +48,13 @@ loop-index-preserved g c =
           (e.entry (i.reads.still honest)
           ∙ (λ k. viewer_entry (seen (i.reads.same honest k) d) c.args.track c.in-Some.id.0))
           c.in_ok-push.ensures.items;
+      unread = λ all long.
+          listed_more (λ v. without_name (viewer_entry (seen all d) c.args.track v)) (shown d.columns c.args.track)
+          c.loop-index.index c.in-Some.id.0 (map without_name c.args.entries.now.items)
+          (map without_name c.loop-index.entries.items) (map without_name c.push.new.self.items)
+          (without_name c.in_ok-entry.entry) c.in-Some.ensures.viewer (i.unread all long) (e.unread all long)
+          (ap (map without_name) c.in_ok-push.ensures.items
+          ∙ map-append without_name c.loop-index.entries.items (c.in_ok-entry.entry ∷ []));
     }
 
 pub returns-in_default-clause-entries : goal.returns-in_default-clause-entries
@@ -63,3 +75,26 @@ returns-clause-entries g c = λ honest.
     c.loop-index.entries.items
     (omega (arith, few_stand d.columns c.args.track (c.requires.whole.sound []).shaped.places.columns_hold))
     (c.loop-index.invariant.so_far honest)
+
+pub returns-in_default-clause-unread : goal.returns-in_default-clause-unread
+unfolding seen
+returns-in_default-clause-unread g c = λ all long.
+    let d = kept c.args.desk.now in
+    let entry = viewer_entry (seen all d) c.args.track in
+    listed_to_none (λ v. without_name (entry v)) (shown d.columns c.args.track) c.loop-index.index
+    (map without_name c.args.entries.now.items) (map without_name c.loop-index.entries.items)
+    (sym (ap number_of c.in_default.is) ∙ c.viewer_in.ensures.viewer) (c.loop-index.invariant.unread all long)
+    ∙ ap (λ (l : List Entry). map without_name c.args.entries.now.items ++ l)
+    (sym (map-map without_name (λ (e : Standing). entry e.viewer) (shown d.columns c.args.track)))
+
+pub returns-clause-unread : goal.returns-clause-unread
+unfolding seen
+returns-clause-unread g c = λ all long.
+    let d = kept c.args.desk.now in
+    let entry = viewer_entry (seen all d) c.args.track in
+    listed_all (λ v. without_name (entry v)) (shown d.columns c.args.track) c.loop-index.index
+    (map without_name c.args.entries.now.items) (map without_name c.loop-index.entries.items)
+    (omega (arith, few_stand d.columns c.args.track (c.requires.whole.sound []).shaped.places.columns_hold))
+    (c.loop-index.invariant.unread all long)
+    ∙ ap (λ (l : List Entry). map without_name c.args.entries.now.items ++ l)
+    (sym (map-map without_name (λ (e : Standing). entry e.viewer) (shown d.columns c.args.track)))

@@ -1,7 +1,7 @@
-use Rattle.std.proofs.Common.{◌≡◌, ◌++◌}
+use Rattle.std.proofs.Common.{◌≡◌, ◌++◌, ℕ, List, length, map}
 use Rattle.char_file.specs.Source.{OnlyReads}
 use Rattle.viewer_tracks.specs.Columns.{shown}
-use Rattle.desktop_definitions.specs.Listing.{viewer_entry}
+use Rattle.desktop_definitions.specs.Listing.{viewer_entry, without_name}
 use Rattle.desktop_definitions.specs.Seen.{seen}
 use Rattle.desktop_laws.specs.ViewLaws.{entries_to}
 use Rattle.desk_core.specs.Kept.{kept}
@@ -16,5 +16,9 @@ invariant-loop-index g l =
       calm : s.failures l.source ≡ s.failures l.fn.source;
       so_far : s.honest l.fn.source → l.entries.items ≡ l.fn.entries.items
           ++ entries_to (viewer_entry (seen (s.characters l.fn.source) (kept l.desk)) l.track) l.index
+          (shown l.desk.tracks l.track);
+      unread : (all : List ℕ) → length all ≡ l.desk.written → map without_name l.entries.items
+          ≡ map without_name l.fn.entries.items
+          ++ entries_to (λ v. without_name (viewer_entry (seen all (kept l.desk)) l.track v)) l.index
           (shown l.desk.tracks l.track);
     }

@@ -1,7 +1,10 @@
+use Rattle.std.specs.Prelude.{⊤}
 use Rattle.std.proofs.Common.{◌∙◌, refl, sym}
 use Rattle.desktop_definitions.specs.Seen.{seen}
 use Rattle.desk_core.specs.Kept.{kept}
 use Rattle.event_loop.proofs.GestureLemmas.{pointed_filler, pointed_menu, pointed_bar, pointed_there}
+use Rattle.event_loop.proofs.GestureLemmas.{unread_there}
+use Rattle.desk_core.proofs.UnreadLemmas.{over_all}
 use Rattle.desk_core.proofs.MarkLemmas.{both_inside, outside_answered}
 use Rattle.event_loop.proofs.gestures.point.Goals as goal
 
@@ -67,3 +70,37 @@ returns-in-Body-clause-answered g c =
     let inside = sym c.are_on_display.ensures ∙ c.if-not-are_on_display.false in
     pointed_there _ _ _ _ _ _ _ _ _ _ c.point_text.result inside c.in-Body.ensures.area refl
     c.point_text.ensures.answered
+
+pub returns-then-not-are_on_display-clause-unread : goal.returns-then-not-are_on_display-clause-unread
+returns-then-not-are_on_display-clause-unread g c h = λ all long.
+    (outside_answered ⊤ all (kept c.args.desk.now) (over_all c.requires.over all long)
+    _ _ (sym c.are_on_display.ensures ∙ c.if-not-are_on_display.true)).exact tt
+
+pub returns-in-Filler-clause-unread : goal.returns-in-Filler-clause-unread
+returns-in-Filler-clause-unread g c h =
+    let inside = sym c.are_on_display.ensures ∙ c.if-not-are_on_display.false in
+    unread_there (kept c.args.desk.now) _ c.args.keys c.args.from.0 c.args.from.1 c.args.to.0 c.args.to.1
+    c.point_filler.result inside c.in-Filler.ensures.area h (λ all. pointed_filler (seen all (kept c.args.desk.now)) _ _ _ _ _)
+    c.point_filler.ensures.unread
+
+pub returns-in-Menu-clause-unread : goal.returns-in-Menu-clause-unread
+returns-in-Menu-clause-unread g c h =
+    let inside = sym c.are_on_display.ensures ∙ c.if-not-are_on_display.false in
+    unread_there (kept c.args.desk.now) _ c.args.keys c.args.from.0 c.args.from.1 c.args.to.0 c.args.to.1
+    c.point_menu.result inside c.in-Menu.ensures.area h (λ all. pointed_menu (seen all (kept c.args.desk.now)) _ _ _ _ _ _)
+    c.point_menu.ensures.unread
+
+pub returns-in-Bar-clause-unread : goal.returns-in-Bar-clause-unread
+unfolding seen
+returns-in-Bar-clause-unread g c h =
+    let inside = sym c.are_on_display.ensures ∙ c.if-not-are_on_display.false in
+    unread_there (kept c.args.desk.now) _ c.args.keys c.args.from.0 c.args.from.1 c.args.to.0 c.args.to.1
+    c.point_bar.result inside c.in-Bar.ensures.area h
+    (λ all. pointed_bar (seen all (kept c.args.desk.now)) _ _ _ _ _ _ _ c.frame_row-row.ensures)
+    c.point_bar.ensures.unread
+
+pub returns-in-Body-clause-unread : goal.returns-in-Body-clause-unread
+returns-in-Body-clause-unread g c h =
+    let inside = sym c.are_on_display.ensures ∙ c.if-not-are_on_display.false in
+    unread_there (kept c.args.desk.now) _ c.args.keys c.args.from.0 c.args.from.1 c.args.to.0 c.args.to.1
+    c.point_text.result inside c.in-Body.ensures.area h (λ all. refl) c.point_text.ensures.unread

@@ -1,7 +1,9 @@
 use Rattle.std.proofs.Common.{rules}
 use Rattle.desktop_definitions.specs.Gesture.{pointed}
 use Rattle.desk_core.specs.Mouse.{done_at, done_with}
+use Rattle.std.specs.Prelude.{⊤}
 use Rattle.desk_core.proofs.ArmLemmas.{rest_done}
+use Rattle.desk_core.proofs.UnreadLemmas.{over_all}
 use Rattle.event_loop.proofs.GestureLemmas.{pointed_rest}
 use Rattle.event_loop.proofs.gestures.point_text.Goals as goal
 
@@ -18,3 +20,9 @@ returns-in_default-clause-answered g c =
     let other = c.in_default in
     rest_done c.requires.over (pointed_rest _ _ _ _ _ _ _ other.not-Left other.not-LeftMiddle other.not-LeftRight
     other.not-Right other.not-RightLeft other.not-RightMiddle other.not-Middle)
+
+pub returns-in_default-clause-unread : goal.returns-in_default-clause-unread
+returns-in_default-clause-unread g c h = λ all long.
+    let other = c.in_default in
+    (rest_done {⊤} (over_all c.requires.over all long) (pointed_rest _ _ _ _ _ _ _ other.not-Left other.not-LeftMiddle
+    other.not-LeftRight other.not-Right other.not-RightLeft other.not-RightMiddle other.not-Middle)).exact tt

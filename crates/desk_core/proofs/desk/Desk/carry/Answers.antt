@@ -1,3 +1,4 @@
+use Rattle.std.specs.Prelude.{⊤}
 use Rattle.std.proofs.Common.{◌≡◌, ◌+◌, ℕ, Some, Ok, sym, ap, subst, ◌∙◌}
 use Rattle.viewer_tracks.specs.Columns.{Columns, IsColumns, times_placed, times_meant, after_close}
 use Rattle.desktop_definitions.specs.declared.reply.Reply.TheVariants.{Done}
@@ -10,6 +11,7 @@ use Rattle.desktop_definitions.specs.Step.{settled}
 use Rattle.desktop_definitions.specs.Outcome.{IsAnswered}
 use Rattle.desktop_laws.specs.PlacedLaws.{over_columns, closed_fresh, carried_answered}
 use Rattle.desk_core.specs.Kept.{kept}
+use Rattle.desk_core.proofs.UnreadLemmas.{over_all}
 use Rattle.desk_core.proofs.desk.Desk.carry.Goals as goal
 
 pub open_at-requires-clause-fresh : goal.open_at-requires-clause-fresh
@@ -44,3 +46,25 @@ returns-clause-answered g c =
       places = λ w.
           c.edits_place_viewers.ensures.opened closed v c.args.x (c.args.y + 1) w closed_hold ∙ left w;
     }))
+
+pub returns-clause-unread : goal.returns-clause-unread
+unfolding carried
+returns-clause-unread g c = λ all long.
+    let d = kept c.args.self.now in
+    let v = c.args.id in
+    let closed = after_close d.columns v in
+    let closed_hold = subst IsColumns c.close.ensures.closed c.close.ensures.sound in
+    let over = over_all c.requires.over all long in
+    let hold = over_columns all d over in
+    let left = λ (w : ℕ). c.edits_place_viewers.ensures.closed d.columns v w hold c.requires.placed in
+    let answered = subst (λ (after : KeptDesktop). IsAnswered ⊤ all all d after
+    (settled (seen all d) (Ok (carried (seen all d) v c.args.x c.args.y))) Done)
+    (sym (c.open_at.ensures
+    ∙ ap (λ (columns : Columns). dropped (opened_at (record d { columns = columns }) v (c.args.x, c.args.y + 1)))
+    c.close.ensures.closed))
+    (carried_answered ⊤ all d over v c.args.x c.args.y (record {
+      hold = c.edits_keep_columns.ensures.opened closed v c.args.x (c.args.y + 1) closed_hold
+          (closed_fresh d.columns closed v hold (left v));
+      places = λ w.
+          c.edits_place_viewers.ensures.opened closed v c.args.x (c.args.y + 1) w closed_hold ∙ left w;
+    })) in answered.exact tt

@@ -6,6 +6,7 @@ use Rattle.desktop_laws.specs.RowLaws.{has_space, known_no_caret}
 use Rattle.desktop_laws.specs.SearchLaws.{put_none, put_full, put_answered, buffer_seen}
 use Rattle.desk_core.specs.Kept.{kept}
 use Rattle.desk_core.proofs.StretchLemmas.{refused_row, buffer_goes}
+use Rattle.desk_core.proofs.UnreadLemmas.{refusal_is}
 use Rattle.desk_core.proofs.desk.Desk.put_buffer.Goals as goal
 
 pub returns-in_default-clause-answered : goal.returns-in_default-clause-answered
@@ -42,3 +43,7 @@ returns-clause-answered g c =
     c.in_ok-put_at_caret.ensures.changed
     (λ all. ap (λ n. has_space (seen all d) 0 n 0) (sym c.len.ensures)
     ∙ sym (c.fits_more.ensures all) ∙ c.if-not-fits_more.false)
+
+pub returns-in_default-clause-unread : goal.returns-in_default-clause-unread
+returns-in_default-clause-unread g c h = λ all long.
+    refusal_is (put_none all (kept c.args.self.now) _ (sym c.caret_place.ensures.is ∙ c.in_default.is))

@@ -2,6 +2,8 @@ use Rattle.std.proofs.Common.{◌∙◌, ap, refl, subst, IfOk, Result}
 use Rattle.std.proofs.lemmas.Result.{IfOk-weaker}
 use Rattle.desktop_definitions.specs.declared.reply.Reply.{Reply}
 use Rattle.desktop_definitions.specs.declared.reply.Reply.TheVariants.{No}
+use Rattle.std.proofs.Common.{◌≡◌, true}
+use Rattle.desktop_definitions.specs.Unread.{needs_no_byte, StepsUnread}
 use Rattle.desktop_definitions.specs.Desktop.{KeptDesktop}
 use Rattle.desktop_definitions.specs.Seen.{seen}
 use Rattle.desktop_definitions.specs.Step.{step, step_in}
@@ -29,3 +31,8 @@ returns-clause-refusal g c = λ code is.
     (λ reply. IsAnswered (g.S.CharSource.honest c.args.source.now) old new d (kept c.act.new.desk)
     (step (seen old d) c.args.event.now) reply)) is c.act.ensures.answered in
     subst (λ (d : KeptDesktop). IsUnchanged old new d (kept c.act.new.desk)) c.self.view_is (answered.refusal code refl)
+
+pub returns-clause-unread : goal.returns-clause-unread
+returns-clause-unread g c =
+    subst (λ (d : KeptDesktop). needs_no_byte d c.args.event.now ≡ true
+    → IfOk c.act.result (StepsUnread d (kept c.act.new.desk) c.args.event.now)) c.self.view_is c.act.ensures.unread
