@@ -1,13 +1,14 @@
 //! What the mouse does with stretches of texts.
-ghost use Rattle.std.specs.Prelude.{◌≡◌, ◌≤◌, length, IfOk};
+ghost use Rattle.std.specs.Prelude.{◌≡◌, ◌≤◌, length, IfOk, is_none, true};
 ghost use Rattle.piece_ring.specs.Flat.{flat};
 ghost use Rattle.text_core.specs.Attributes.{look_at};
 ghost use Rattle.desktop_definitions.specs.Gesture.{copied_to, looks_taken, taken_out, sent_to_caret};
+ghost use Rattle.desktop_definitions.specs.Viewers.{newest};
 ghost use Rattle.desktop_definitions.specs.Sound.{IsOver};
 ghost use Rattle.desktop_laws.specs.RowPartLaws.{kept_main};
 ghost use Rattle.desk_core.specs.Kept.{kept};
 ghost use Rattle.desk_core.specs.Positions.{IsPosition};
-ghost use Rattle.desk_core.specs.Row.{Settles, Uses};
+ghost use Rattle.desk_core.specs.Row.{Settles, SettlesUnread, Uses};
 
 use char_file::CharSource;
 use desk_core::desk::Desk;
@@ -31,6 +32,8 @@ pub fn copy_to<S: CharSource>(
     requires over { IsOver (S.characters source.old) (kept desk.old) }
     ensures answered { IfOk result (Settles S.CharSource (λ d. copied_to d id pos)
         source.old source.new (kept desk.old) (kept desk.new)) }
+    ensures unread { is_none (newest (kept desk.old)) ≡ true
+        → IfOk result (SettlesUnread (λ d. copied_to d id pos) (kept desk.old) (kept desk.new)) }
     ensures uses { Uses S.CharSource result source.old source.new }
 {
     let Some(selection) = desk.selection() else {
@@ -58,6 +61,8 @@ pub fn take_looks<S: CharSource>(
     requires over { IsOver (S.characters source.old) (kept desk.old) }
     ensures answered { IfOk result (Settles S.CharSource (λ d. looks_taken d id pos)
         source.old source.new (kept desk.old) (kept desk.new)) }
+    ensures unread { is_none (newest (kept desk.old)) ≡ true
+        → IfOk result (SettlesUnread (λ d. looks_taken d id pos) (kept desk.old) (kept desk.new)) }
     ensures uses { Uses S.CharSource result source.old source.new }
 {
     let Some(selection) = desk.selection() else {

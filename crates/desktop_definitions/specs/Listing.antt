@@ -37,9 +37,3 @@ track_entries d track = map (λ e. viewer_entry d track e.viewer) (shown d.colum
 unfoldable pub entries_of : Desktop → List Entry
 entries_of d = map file_entry d.files
     ++ (track_entries d User ++ (track_entries d System ++ (Written d.written ∷ [])))
-
--- an entry without the name of a viewer, which is all that a list reads
-abbrev pub without_name : Entry → Entry
-without_name (Viewer x bottom top name size) = Viewer x bottom top [] size
-without_name (File name size) = File name size
-without_name (Written n) = Written n

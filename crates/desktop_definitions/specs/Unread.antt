@@ -1,34 +1,45 @@
 -- Which events read no character: all that they ask is told by what is kept beside the characters.
-use Rattle.std.specs.Prelude.{ℕ, Bool, true, false, not, ◌&&◌, ◌||◌, is_none, List, [], ◌++◌, ◌≡◌, length}
+use Rattle.std.specs.Prelude.{ℕ, Bool, true, false, not, ◌&&◌, ◌||◌, is_none, List, [], ◌++◌, ◌≡◌, length, map}
 use Rattle.event_bytes.specs.declared.event.Event.{Event}
 use Rattle.event_bytes.specs.declared.event.Event.TheVariants.{Typed, Key as Pressed, Mark, Point, File}
 use Rattle.event_bytes.specs.declared.keys.Key.{Key}
 use Rattle.event_bytes.specs.declared.keys.Key.TheVariants.{Back, Copy, Paste, Cut, Escape}
 use Rattle.event_bytes.specs.declared.keys.Keys.{Keys}
-use Rattle.event_bytes.specs.declared.keys.Keys.TheVariants.{Left, Middle, MiddleLeft, MiddleRight}
+use Rattle.event_bytes.specs.declared.keys.Keys.TheVariants.{Left, LeftMiddle, LeftRight, Middle}
+use Rattle.event_bytes.specs.declared.keys.Keys.TheVariants.{Right, RightLeft, RightMiddle}
 use Rattle.desktop_definitions.specs.declared.area.Area.{Area}
 use Rattle.desktop_definitions.specs.declared.area.Area.TheVariants.{Filler, Menu, Bar, Body}
+use Rattle.desktop_definitions.specs.declared.entry.Entry.{Entry}
+use Rattle.desktop_definitions.specs.declared.entry.Entry.TheVariants.{Viewer, File as FileEntry, Written}
 use Rattle.desktop_definitions.specs.declared.reply.Reply.{Reply}
 use Rattle.desktop_definitions.specs.declared.reply.Reply.TheVariants.{Done}
 use Rattle.desktop_definitions.specs.Desktop.{DesktopOf, KeptDesktop}
 use Rattle.desktop_definitions.specs.Viewers.{newest}
 use Rattle.desktop_definitions.specs.Gesture.{is_on_display, area_at}
 use Rattle.desktop_definitions.specs.Seen.{seen}
+use Rattle.desktop_definitions.specs.Listing.{entries_of}
 use Rattle.desktop_definitions.specs.Step.{step}
 
--- what the keys of the mouse do in an area: viewers move and change their height, a text is shown from its beginning, and
--- what isn't in the table does nothing; a word that is called is read, and so is the place of a cell in a text
-unfoldable pub gesture_needs_no_byte : Area → Keys → Bool
-gesture_needs_no_byte Filler Middle = false
-gesture_needs_no_byte (Menu v) Middle = false
-gesture_needs_no_byte (Bar v) Left = false
-gesture_needs_no_byte (Bar v) Middle = false
-gesture_needs_no_byte (Body v) MiddleLeft = true
-gesture_needs_no_byte (Body v) MiddleRight = true
-gesture_needs_no_byte (Body v) keys = false
-gesture_needs_no_byte area keys = true
+-- ---- events
 
 module _ {T : Type 0} where
+  -- what the keys of the mouse do in an area: viewers move and change their height, a text is shown from its beginning,
+  -- what takes the newest selection is refused without one, and what isn't in the table does nothing; a word that is
+  -- called is read, and so is the place of a cell in a text
+  unfoldable pub gesture_needs_no_byte : DesktopOf T → Area → Keys → Bool
+  gesture_needs_no_byte d Filler Middle = false
+  gesture_needs_no_byte d (Menu v) Middle = false
+  gesture_needs_no_byte d (Bar v) Left = false
+  gesture_needs_no_byte d (Bar v) Middle = false
+  gesture_needs_no_byte d (Body v) Left = false
+  gesture_needs_no_byte d (Body v) LeftMiddle = is_none (newest d)
+  gesture_needs_no_byte d (Body v) LeftRight = is_none (newest d)
+  gesture_needs_no_byte d (Body v) Middle = false
+  gesture_needs_no_byte d (Body v) Right = false
+  gesture_needs_no_byte d (Body v) RightLeft = false
+  gesture_needs_no_byte d (Body v) RightMiddle = false
+  gesture_needs_no_byte d area keys = true
+
   -- a key: one that needs the caret, and one that needs a selection, is refused without
   unfoldable pub key_needs_no_byte : DesktopOf T → Key → Bool
   key_needs_no_byte d Back = is_none d.caret
@@ -42,7 +53,7 @@ module _ {T : Type 0} where
   needs_no_byte d (Pressed key) = key_needs_no_byte d key
   needs_no_byte d (Mark x y) = true
   needs_no_byte d (Point keys x0 y0 x1 y1) =
-      not (is_on_display x0 y0 && is_on_display x1 y1) || gesture_needs_no_byte (area_at d x0 y0) keys
+      not (is_on_display x0 y0 && is_on_display x1 y1) || gesture_needs_no_byte d (area_at d x0 y0) keys
   needs_no_byte d (File name bytes) = true
 
 -- the characters that such an event adds, where it is done
@@ -56,3 +67,16 @@ abbrev pub StepsUnread : KeptDesktop → KeptDesktop → Event → Reply → Typ
 StepsUnread before after event reply =
     (all : List ℕ) → length all ≡ before.written
     → (seen (all ++ brought event reply) after, reply) ≡ step (seen all before) event
+
+-- ---- the list
+
+-- an entry without the name of a viewer, which is all that a list reads
+abbrev pub without_name : Entry → Entry
+without_name (Viewer x bottom top name size) = Viewer x bottom top [] size
+without_name (FileEntry name size) = FileEntry name size
+without_name (Written n) = Written n
+
+-- But for the names of viewers these are the entries over every list of as many characters as were written.
+abbrev pub ListsUnread : KeptDesktop → List Entry → Type 0
+ListsUnread d entries =
+    (all : List ℕ) → length all ≡ d.written → map without_name entries ≡ map without_name (entries_of (seen all d))

@@ -1,5 +1,5 @@
 -- The table of gestures, area by area.
-use Rattle.std.specs.Prelude.{◌≡◌, ◌||◌, not, ℕ, Bool, true, List, length, Result, Ok, IfOk}
+use Rattle.std.specs.Prelude.{◌≡◌, ◌||◌, not, ℕ, Bool, true, List, length, Option, Some, None, is_none, Result, Ok, IfOk}
 use Rattle.std.proofs.lemmas.Result.{IfOk-weaker}
 use Rattle.std.proofs.Common.{refl, sym, ap, subst, ◌∙◌}
 use Rattle.event_bytes.specs.declared.keys.Keys.{Keys}
@@ -19,6 +19,8 @@ use Rattle.desktop_definitions.specs.Step.{settled}
 use Rattle.desktop_definitions.specs.Outcome.{IsAnswered}
 use Rattle.desktop_definitions.specs.Gesture.{area_at, frame_row, pointed, scrolled_to_row, scrolled_to_share}
 use Rattle.desk_core.specs.Mouse.{done_in_filler, done_in_menu, done_in_bar, done_at, done_with}
+use Rattle.desktop_definitions.specs.Viewers.{newest}
+use Rattle.desktop_laws.specs.KeyLaws.{copied_to_none, looks_taken_none}
 use Rattle.desk_core.specs.declared.stop.Stop.{Stop}
 use Rattle.desk_core.proofs.PositionLemmas.{area_seen}
 
@@ -114,17 +116,17 @@ pointed_rest d keys v x0 y0 x1 y1 a b c e f h i = refl
 
 -- ---- where no character is read
 
-needs_none : (inside : Bool) (area there : Area) (keys : Keys) → inside ≡ true → area ≡ there
-    → (not inside || gesture_needs_no_byte there keys) ≡ true → gesture_needs_no_byte area keys ≡ true
-needs_none inside area there keys is same none =
-    (λ k. not (sym is k) || gesture_needs_no_byte (same k) keys) ∙ none
+needs_none : (d : KeptDesktop) (inside : Bool) (area there : Area) (keys : Keys) → inside ≡ true → area ≡ there
+    → (not inside || gesture_needs_no_byte d there keys) ≡ true → gesture_needs_no_byte d area keys ≡ true
+needs_none d inside area there keys is same none =
+    (λ k. not (sym is k) || gesture_needs_no_byte d (same k) keys) ∙ none
 
 -- the row of an area is that of both cells
 pub unread_there : (d after : KeptDesktop) (keys : Keys) (x0 y0 x1 y1 : ℕ) (result : Result Reply Stop) {inside : Bool}
     {area : Area} {row : Desktop → Result Desktop ℕ} → inside ≡ true → area ≡ area_at d x0 y0
-    → (not inside || gesture_needs_no_byte (area_at d x0 y0) keys) ≡ true
+    → (not inside || gesture_needs_no_byte d (area_at d x0 y0) keys) ≡ true
     → ((all : List ℕ) → row (seen all d) ≡ pointed first_version (seen all d) area keys x0 y0 x1 y1)
-    → (gesture_needs_no_byte area keys ≡ true → IfOk result (SettlesUnread row d after))
+    → (gesture_needs_no_byte d area keys ≡ true → IfOk result (SettlesUnread row d after))
     → IfOk result (SettlesUnread (λ x. unless inside outside
     (pointed first_version x (area_at x x0 y0) keys x0 y0 x1 y1)) d after)
 unread_there d after keys x0 y0 x1 y1 result {inside} {area} {row} there here none is so =
@@ -134,4 +136,31 @@ unread_there d after keys x0 y0 x1 y1 result {inside} {area} {row} there here no
     (here ∙ sym (area_seen all d x0 y0))
     ∙ sym (ap (λ (b : Bool). unless b outside
     (pointed first_version (seen all d) (area_at (seen all d) x0 y0) keys x0 y0 x1 y1)) there)))
-    (so (needs_none inside area (area_at d x0 y0) keys there here none))
+    (so (needs_none d inside area (area_at d x0 y0) keys there here none))
+
+none_is : {A : Type 0} (o : Option A) → is_none o ≡ true → o ≡ None
+none_is None h = refl
+none_is (Some a) h = absurd (cc h)
+
+-- what takes the newest selection is refused without one, wherever the position is
+pub done_anywhere : (all : List ℕ) (d : KeptDesktop) (keys : Keys) (v p q : ℕ)
+    → gesture_needs_no_byte d (Body v) keys ≡ true → done_at (seen all d) keys v p ≡ done_at (seen all d) keys v q
+unfolding done_at gesture_needs_no_byte seen
+done_anywhere all d Left v p q h = absurd (cc h)
+done_anywhere all d LeftMiddle v p q h =
+    let none = none_is (newest d) h in
+    copied_to_none (seen all d) none v p ∙ sym (copied_to_none (seen all d) none v q)
+done_anywhere all d LeftRight v p q h =
+    let none = none_is (newest d) h in
+    looks_taken_none (seen all d) none v p ∙ sym (looks_taken_none (seen all d) none v q)
+done_anywhere all d Middle v p q h = absurd (cc h)
+done_anywhere all d keys v p q h = refl
+
+-- at the position that is nearest to a cell
+pub unread_anywhere : (d after : KeptDesktop) (keys : Keys) (v p : ℕ) (place : Desktop → ℕ) (result : Result Reply Stop)
+    → gesture_needs_no_byte d (Body v) keys ≡ true
+    → IfOk result (SettlesUnread (λ x. done_at x keys v p) d after)
+    → IfOk result (SettlesUnread (λ x. done_at x keys v (place x)) d after)
+unread_anywhere d after keys v p place result none settles =
+    IfOk-weaker result (SettlesUnread (λ x. done_at x keys v p) d after) _ (λ reply is all long.
+    is all long ∙ ap (settled (seen all d)) (done_anywhere all d keys v p (place (seen all d)) none)) settles

@@ -1,5 +1,5 @@
 //! The desktop.
-ghost use Rattle.std.specs.Prelude.{◌≡◌, ℕ, List, [], length, map, true, Ok, IfOk, IfSome, OnOk, IsErrOf, option_map};
+ghost use Rattle.std.specs.Prelude.{◌≡◌, ℕ, List, [], length, true, Ok, IfOk, IfSome, OnOk, IsErrOf, option_map};
 ghost use Rattle.sector_disk.specs.Faults.{FailsAs};
 ghost use Rattle.char_file.specs.Source.{OnlyReads};
 ghost use Rattle.piece_ring.specs.Flat.{flat};
@@ -12,10 +12,10 @@ ghost use Rattle.desktop_definitions.specs.declared.reply.Reply.TheVariants.{No}
 ghost use Rattle.desktop_definitions.specs.Desktop.{KeptDesktop, empty_desktop, file_of};
 ghost use Rattle.desktop_definitions.specs.Seen.{seen};
 ghost use Rattle.desktop_definitions.specs.Step.{step};
-ghost use Rattle.desktop_definitions.specs.Unread.{needs_no_byte, StepsUnread};
+ghost use Rattle.desktop_definitions.specs.Unread.{needs_no_byte, StepsUnread, ListsUnread};
 ghost use Rattle.desktop_definitions.specs.Sound.{IsKeptWhole, IsOver, Grows};
 ghost use Rattle.desktop_definitions.specs.Outcome.{IsReply, IsUnchanged, IsSameSource};
-ghost use Rattle.desktop_definitions.specs.Listing.{entries_of, without_name};
+ghost use Rattle.desktop_definitions.specs.Listing.{entries_of};
 ghost use Rattle.desktop_definitions.specs.Shown.{shown_screen};
 ghost use Rattle.desk_image.specs.Streams.{Puts};
 ghost use Rattle.desk_image.specs.Image.{image_of, image_bytes, IsSpellable};
@@ -140,8 +140,7 @@ impl Desktop {
         requires { IsOver (S.characters source.old) self.old }
         ensures entries { IfOk result (λ entries. S.honest source.old
             → entries.items ≡ entries_of (seen (S.characters source.old) self.old)) }
-        ensures unread { IfOk result (λ entries. (all : List ℕ) → length all ≡ self.old.written
-            → map without_name entries.items ≡ map without_name (entries_of (seen all self.old))) }
+        ensures unread { IfOk result (λ entries. ListsUnread self.old entries.items) }
         ensures unchanged { self.new ≡ self.old }
         ensures reads { OnlyReads S.characters S.failures S.honest S.same_ground source.old source.new }
         ensures faults { FailsAs Stop.Fault IsStop result (S.failures source.old) (S.failures source.new) }

@@ -46,7 +46,7 @@ pub fn point<S: CharSource>(
         (pointed first_version d (area_at d from.0 from.1) keys from.0 from.1 to.0 to.1))
         source.old source.new (kept desk.old) (kept desk.new)) }
     ensures unread { (not (is_on_display from.0 from.1 && is_on_display to.0 to.1)
-        || gesture_needs_no_byte (area_at (kept desk.old) from.0 from.1) keys) ≡ true
+        || gesture_needs_no_byte (kept desk.old) (area_at (kept desk.old) from.0 from.1) keys) ≡ true
         → IfOk result (SettlesUnread (λ d.
         unless (is_on_display from.0 from.1 && is_on_display to.0 to.1) outside
         (pointed first_version d (area_at d from.0 from.1) keys from.0 from.1 to.0 to.1))
@@ -87,7 +87,7 @@ fn point_filler<S: CharSource>(
     requires over { IsOver (S.characters source.old) (kept desk.old) }
     ensures answered { IfOk result (Settles S.CharSource (λ d. done_in_filler d keys cell.0 cell.1)
         source.old source.new (kept desk.old) (kept desk.new)) }
-    ensures unread { gesture_needs_no_byte Filler keys ≡ true
+    ensures unread { gesture_needs_no_byte (kept desk.old) Filler keys ≡ true
         → IfOk result (SettlesUnread (λ d. done_in_filler d keys cell.0 cell.1)
         (kept desk.old) (kept desk.new)) }
     ensures uses { Uses S.CharSource result source.old source.new }
@@ -120,7 +120,7 @@ fn point_menu<S: CharSource>(
     requires over { IsOver (S.characters source.old) (kept desk.old) }
     ensures answered { IfOk result (Settles S.CharSource (λ d. done_in_menu d keys id cell.0 cell.1)
         source.old source.new (kept desk.old) (kept desk.new)) }
-    ensures unread { gesture_needs_no_byte (Menu id) keys ≡ true
+    ensures unread { gesture_needs_no_byte (kept desk.old) (Menu id) keys ≡ true
         → IfOk result (SettlesUnread (λ d. done_in_menu d keys id cell.0 cell.1)
         (kept desk.old) (kept desk.new)) }
     ensures uses { Uses S.CharSource result source.old source.new }
@@ -172,7 +172,7 @@ fn point_bar<S: CharSource>(
     requires over { IsOver (S.characters source.old) (kept desk.old) }
     ensures answered { IfOk result (Settles S.CharSource (λ d. done_in_bar d keys id row)
         source.old source.new (kept desk.old) (kept desk.new)) }
-    ensures unread { gesture_needs_no_byte (Bar id) keys ≡ true
+    ensures unread { gesture_needs_no_byte (kept desk.old) (Bar id) keys ≡ true
         → IfOk result (SettlesUnread (λ d. done_in_bar d keys id row)
         (kept desk.old) (kept desk.new)) }
     ensures uses { Uses S.CharSource result source.old source.new }
@@ -202,7 +202,7 @@ fn point_text<S: CharSource>(
     ensures answered { IfOk result (Settles S.CharSource
         (λ d. pointed first_version d (Body id) keys from.0 from.1 to.0 to.1)
         source.old source.new (kept desk.old) (kept desk.new)) }
-    ensures unread { gesture_needs_no_byte (Body id) keys ≡ true → IfOk result (SettlesUnread
+    ensures unread { gesture_needs_no_byte (kept desk.old) (Body id) keys ≡ true → IfOk result (SettlesUnread
         (λ d. pointed first_version d (Body id) keys from.0 from.1 to.0 to.1)
         (kept desk.old) (kept desk.new)) }
     ensures uses { Uses S.CharSource result source.old source.new }
@@ -232,6 +232,9 @@ fn point_cell<S: CharSource>(
     requires over { IsOver (S.characters source.old) (kept desk.old) }
     ensures answered { IfOk result (Settles S.CharSource (λ d. done_at d keys id (text_position d id cell.0 cell.1))
         source.old source.new (kept desk.old) (kept desk.new)) }
+    ensures unread { gesture_needs_no_byte (kept desk.old) (Body id) keys ≡ true → IfOk result (SettlesUnread
+        (λ d. done_at d keys id (text_position d id cell.0 cell.1))
+        (kept desk.old) (kept desk.new)) }
     ensures uses { Uses S.CharSource result source.old source.new }
 {
     let pos = text_position(desk, id, cell.0, cell.1, source)?;
@@ -239,7 +242,13 @@ fn point_cell<S: CharSource>(
 }
 
 /// At a position of a viewer's main text.
-#[tactic(auto, unfolding(desk_core::specs::Mouse::done_at))]
+#[tactic(
+    auto,
+    unfolding(
+        desk_core::specs::Mouse::done_at,
+        desktop_definitions::specs::Unread::gesture_needs_no_byte
+    )
+)]
 fn point_position<S: CharSource>(
     desk: &mut Desk,
     alloc: Global,
@@ -254,6 +263,8 @@ fn point_position<S: CharSource>(
     requires over { IsOver (S.characters source.old) (kept desk.old) }
     ensures answered { IfOk result (Settles S.CharSource (λ d. done_at d keys id pos)
         source.old source.new (kept desk.old) (kept desk.new)) }
+    ensures unread { gesture_needs_no_byte (kept desk.old) (Body id) keys ≡ true → IfOk result (SettlesUnread
+        (λ d. done_at d keys id pos) (kept desk.old) (kept desk.new)) }
     ensures uses { Uses S.CharSource result source.old source.new }
 {
     match keys {

@@ -3,6 +3,7 @@ use Rattle.desktop_definitions.specs.Seen.{seen}
 use Rattle.desktop_laws.specs.RowLaws.{known_no_selection}
 use Rattle.desktop_laws.specs.KeyLaws.{copied_to_none, copied_to_full, copied_to_answered}
 use Rattle.desk_core.proofs.StretchLemmas.{refused_row}
+use Rattle.desk_core.proofs.UnreadLemmas.{refusal_is}
 use Rattle.desk_input.proofs.stretches.copy_to.Goals as goal
 
 pub returns-in_default-clause-answered : goal.returns-in_default-clause-answered
@@ -28,3 +29,8 @@ returns-clause-answered g c =
     copied_to_answered _ _ _ _ _ c.requires.over reads.as_long reads.same _ _ _ c.in_ok-copy.copy (sym stands.is)
     (omega (arith, some)) stands.stands.place c.in_ok-copy.ensures.is c.in_ok-put_in.ensures.changed
     (λ all. sym (c.fits_more.ensures all) ∙ c.if-not-fits_more.false)
+
+pub returns-in_default-clause-unread : goal.returns-in_default-clause-unread
+unfolding seen
+returns-in_default-clause-unread g c h = λ all long.
+    refusal_is (copied_to_none _ (sym c.selection.ensures.is ∙ c.in_default.is) _ _)

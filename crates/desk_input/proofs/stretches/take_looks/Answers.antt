@@ -10,6 +10,7 @@ use Rattle.desktop_laws.specs.LookedLaws.{look_at_looks, kept_text_looks}
 use Rattle.desktop_laws.specs.KeyLaws.{looks_taken_none, looks_taken_answered}
 use Rattle.desk_core.specs.Kept.{kept}
 use Rattle.desk_core.proofs.StretchLemmas.{refused_row}
+use Rattle.desk_core.proofs.UnreadLemmas.{refusal_is}
 use Rattle.desk_input.proofs.stretches.take_looks.Goals as goal
 
 pub returns-in_default-clause-answered : goal.returns-in_default-clause-answered
@@ -32,3 +33,8 @@ returns-clause-answered g c =
     (set.changed _ (over_built _ (kept c.args.desk.now) c.requires.over))
     (subst (λ (columns : Columns). IsPlaced c.args.id columns) (sym set.columns) c.requires.at.placed)
     c.requires.at.place (sym stands.is)
+
+pub returns-in_default-clause-unread : goal.returns-in_default-clause-unread
+unfolding seen
+returns-in_default-clause-unread g c h = λ all long.
+    refusal_is (looks_taken_none _ (sym c.selection.ensures.is ∙ c.in_default.is) _ _)

@@ -8,7 +8,8 @@ use Rattle.desktop_definitions.specs.declared.viewer.Viewer.{Viewer}
 use Rattle.desktop_definitions.specs.declared.entry.Entry.TheVariants.{Viewer as ViewerEntry}
 use Rattle.desktop_definitions.specs.Tables.{numbered}
 use Rattle.desktop_definitions.specs.Viewers.{text_in, viewer_or_none}
-use Rattle.desktop_definitions.specs.Listing.{name_in, without_name}
+use Rattle.desktop_definitions.specs.Listing.{name_in}
+use Rattle.desktop_definitions.specs.Unread.{without_name}
 use Rattle.desktop_laws.specs.SeenLaws.{within_counted}
 use Rattle.desktop_laws.specs.ViewLaws.{viewer_entry_seen}
 use Rattle.desktop_laws.specs.TextLaws.{text_within}

@@ -6,7 +6,8 @@ use Rattle.viewer_tracks.specs.Viewers.{Entry as Standing}
 use Rattle.char_file.proofs.Reading.{no_read, read_on}
 use Rattle.viewer_tracks.specs.Viewers.{number_of}
 use Rattle.viewer_tracks.specs.Columns.{shown}
-use Rattle.desktop_definitions.specs.Listing.{viewer_entry, without_name}
+use Rattle.desktop_definitions.specs.Listing.{viewer_entry}
+use Rattle.desktop_definitions.specs.Unread.{without_name}
 use Rattle.desktop_definitions.specs.Seen.{seen}
 use Rattle.desktop_laws.specs.ViewLaws.{listed_more, listed_all, listed_to_none, few_stand}
 use Rattle.desk_core.specs.Kept.{kept}

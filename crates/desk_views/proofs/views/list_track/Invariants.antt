@@ -1,7 +1,8 @@
 use Rattle.std.proofs.Common.{◌≡◌, ◌++◌, ℕ, List, length, map}
 use Rattle.char_file.specs.Source.{OnlyReads}
 use Rattle.viewer_tracks.specs.Columns.{shown}
-use Rattle.desktop_definitions.specs.Listing.{viewer_entry, without_name}
+use Rattle.desktop_definitions.specs.Listing.{viewer_entry}
+use Rattle.desktop_definitions.specs.Unread.{without_name}
 use Rattle.desktop_definitions.specs.Seen.{seen}
 use Rattle.desktop_laws.specs.ViewLaws.{entries_to}
 use Rattle.desk_core.specs.Kept.{kept}

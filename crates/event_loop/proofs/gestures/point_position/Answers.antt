@@ -1,4 +1,6 @@
+use Rattle.std.specs.Prelude.{⊤}
 use Rattle.desk_core.proofs.ArmLemmas.{rest_done}
+use Rattle.desk_core.proofs.UnreadLemmas.{over_all}
 use Rattle.event_loop.proofs.GestureLemmas.{at_rest}
 use Rattle.event_loop.proofs.gestures.point_position.Goals as goal
 
@@ -6,3 +8,9 @@ pub returns-in_default-clause-answered : goal.returns-in_default-clause-answered
 returns-in_default-clause-answered g c =
     let other = c.in_default in
     rest_done c.requires.over (at_rest _ _ _ _ other.not-Left other.not-LeftMiddle other.not-LeftRight other.not-Middle)
+
+pub returns-in_default-clause-unread : goal.returns-in_default-clause-unread
+returns-in_default-clause-unread g c h = λ all long.
+    let other = c.in_default in
+    (rest_done {⊤} (over_all c.requires.over all long) (at_rest _ _ _ _ other.not-Left other.not-LeftMiddle
+    other.not-LeftRight other.not-Middle)).exact tt

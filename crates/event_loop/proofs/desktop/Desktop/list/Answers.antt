@@ -3,7 +3,8 @@ use Rattle.viewer_tracks.specs.declared.display.Track.TheVariants.{User, System}
 use Rattle.desktop_definitions.specs.declared.entry.Entry.TheVariants.{Written}
 use Rattle.desktop_definitions.specs.Desktop.{KeptDesktop}
 use Rattle.desktop_definitions.specs.Seen.{seen}
-use Rattle.desktop_definitions.specs.Listing.{entries_of, track_entries, without_name}
+use Rattle.desktop_definitions.specs.Listing.{entries_of, track_entries}
+use Rattle.desktop_definitions.specs.Unread.{without_name}
 use Rattle.desk_core.specs.Kept.{kept}
 use Rattle.desk_core.proofs.ListLemmas.{list_whole, parts_told}
 use Rattle.event_loop.proofs.desktop.Desktop.list.Goals as goal
