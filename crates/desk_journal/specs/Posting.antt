@@ -8,6 +8,7 @@ use Rattle.desktop_definitions.specs.declared.reply.Reply.{Reply}
 use Rattle.desktop_definitions.specs.declared.reply.Reply.TheVariants.{No}
 use Rattle.desktop_definitions.specs.Outcome.{IsReply}
 use Rattle.desktop_definitions.specs.Step.{step}
+use Rattle.desktop_definitions.specs.Unread.{StepsUnread}
 use Rattle.desk_slots.specs.declared.error.Error.{Error}
 use Rattle.desk_slots.specs.declared.error.Error.TheVariants.{NoMemory, Fault, MustReopen, Worn}
 use Rattle.store_layout.specs.declared.layout.TheConstants.{JOURNAL_EVENTS, LAST_EPOCH}
@@ -58,6 +59,8 @@ module _ {D : Type 0} (d : Ghosts D) where
     -- over every disk: the reply is one that there is, and a refusal leaves the desktop as it is kept
     pub known : IsReply reply
     pub refusal : (code : ℕ) → reply ≡ No code → new.kept ≡ old.kept
+    -- and where the event reads no character, both are those of its step, whatever characters there are
+    pub unread : StepsUnread old.kept new.kept event reply
 
   -- NoMemory: the event is in no image, and the store must be opened again
   pub record IsStarved (old new : StoreView D) : Type 0 where

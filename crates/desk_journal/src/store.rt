@@ -14,6 +14,7 @@ ghost use Rattle.desk_journal.specs.Posting.{LeavesEither, IsAcknowledged, IsSta
 ghost use Rattle.desk_journal.specs.Posting.{IsUnusable, TurnsAway};
 ghost use Rattle.desk_journal.specs.View.{IsDurable};
 ghost use Rattle.desk_slots.specs.Words.{Leaves, now, IsConfined, FailsAs, entries_of, shown_screen};
+ghost use Rattle.desk_slots.specs.Words.{ListsUnread};
 
 use desk_slots::{Error, LiveDesktop, Place, lay_out, load, record, renew};
 use desktop_definitions::{Entry, Reply};
@@ -240,6 +241,7 @@ impl<D: Disk> Store<D> {
     pub fn list(&mut self, alloc: Global) -> Result<Vec<Entry>, Error>
         ensures entries { IfOk result (λ entries. D.honest self.old.disk
             → entries.items ≡ entries_of self.old.desktop) }
+        ensures unread { IfOk result (λ entries. ListsUnread self.old.kept entries.items) }
         ensures looks { OnlyLooks D.Disk result self.old self.new }
     {
         if self.must_reopen {

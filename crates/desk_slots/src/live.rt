@@ -7,6 +7,7 @@ ghost use Rattle.desk_image.specs.Streams.{Puts};
 ghost use Rattle.desk_slots.specs.Errors.{OfDesktop};
 ghost use Rattle.desk_slots.specs.Live.{shown, IsLive, StaysLive};
 ghost use Rattle.desk_slots.specs.Words.{Nowhere, IsConfined, FailsAs, No, IsReply, entries_of, shown_screen, step};
+ghost use Rattle.desk_slots.specs.Words.{StepsUnread, ListsUnread};
 
 use crate::Error;
 use crate::reading::read_all;
@@ -72,6 +73,7 @@ impl LiveDesktop {
         requires { IsLive self.old }
         ensures done { IfOk result (λ reply. D.honest disk.old
             → (shown self.new, reply) ≡ step (shown self.old) event.now) }
+        ensures unread { IfOk result (StepsUnread self.old.desktop self.new.desktop event.now) }
         ensures replies { IfOk result IsReply }
         ensures refusal { (code : ℕ) → result ≡ Ok (No code) → self.new.desktop ≡ self.old.desktop }
         ensures over { OnOk result (IsLive self.new) }
@@ -109,6 +111,7 @@ impl LiveDesktop {
     pub fn list<D: Disk>(&mut self, alloc: Global, disk: &mut D) -> Result<Vec<Entry>, Error>
         requires { IsLive self.old }
         ensures entries { IfOk result (λ entries. D.honest disk.old → entries.items ≡ entries_of (shown self.old)) }
+        ensures unread { IfOk result (λ entries. ListsUnread self.old.desktop entries.items) }
         ensures same { StaysLive (D.honest disk.old) self.old self.new }
         ensures disk { IsConfined D.size D.honest D.trail Nowhere disk.old disk.new }
         ensures faults { FailsAs Error.Fault OfDesktop result (D.failures disk.old) (D.failures disk.new) }

@@ -8,6 +8,7 @@ ghost use Rattle.desk_slots.specs.Device.{IsSameDevice};
 ghost use Rattle.desk_slots.specs.Errors.{OfDesktop};
 ghost use Rattle.desk_slots.specs.Live.{shown, IsLive};
 ghost use Rattle.desk_slots.specs.Words.{LeavesOnly, Only, CountsFault, now, IsConfined, FailsAs, No, IsReply, step};
+ghost use Rattle.desk_slots.specs.Words.{StepsUnread};
 ghost use Rattle.desk_slots.specs.Written.{HasRecord};
 
 use crate::Error;
@@ -116,6 +117,7 @@ pub fn record<D: Disk>(
         → IsKept (D.size disk.old) (D.trail disk.new) slot number (k + 1) (shown desktop.new)) }
     ensures stepped { IfOk result (λ reply. D.honest disk.old
         → (shown desktop.new, reply) ≡ step (shown desktop.old) event.now) }
+    ensures unread { IfOk result (StepsUnread desktop.old.desktop desktop.new.desktop event.now) }
     ensures replies { IfOk result IsReply }
     ensures refusal { (code : ℕ) → result ≡ Ok (No code) → desktop.new.desktop ≡ desktop.old.desktop }
     ensures over { OnOk result (IsLive desktop.new) }

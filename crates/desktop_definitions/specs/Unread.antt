@@ -65,7 +65,7 @@ brought event reply = []
 -- source tells.
 abbrev pub StepsUnread : KeptDesktop → KeptDesktop → Event → Reply → Type 0
 StepsUnread before after event reply =
-    (all : List ℕ) → length all ≡ before.written
+    needs_no_byte before event ≡ true → (all : List ℕ) → length all ≡ before.written
     → (seen (all ++ brought event reply) after, reply) ≡ step (seen all before) event
 
 -- ---- the list

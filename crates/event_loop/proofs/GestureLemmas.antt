@@ -1,5 +1,6 @@
 -- The table of gestures, area by area.
-use Rattle.std.specs.Prelude.{◌≡◌, ◌||◌, not, ℕ, Bool, true, List, length, Option, Some, None, is_none, Result, Ok, IfOk}
+use Rattle.std.specs.Prelude.{◌≡◌, ◌||◌, not, ℕ, Bool, true, List, length, Option, Some, None, is_none}
+use Rattle.std.specs.Prelude.{Result, Ok, IfOk}
 use Rattle.std.proofs.lemmas.Result.{IfOk-weaker}
 use Rattle.std.proofs.Common.{refl, sym, ap, subst, ◌∙◌}
 use Rattle.event_bytes.specs.declared.keys.Keys.{Keys}

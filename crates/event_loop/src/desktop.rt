@@ -1,5 +1,5 @@
 //! The desktop.
-ghost use Rattle.std.specs.Prelude.{◌≡◌, ℕ, List, [], length, true, Ok, IfOk, IfSome, OnOk, IsErrOf, option_map};
+ghost use Rattle.std.specs.Prelude.{◌≡◌, ℕ, List, [], length, Ok, IfOk, IfSome, OnOk, IsErrOf, option_map};
 ghost use Rattle.sector_disk.specs.Faults.{FailsAs};
 ghost use Rattle.char_file.specs.Source.{OnlyReads};
 ghost use Rattle.piece_ring.specs.Flat.{flat};
@@ -12,7 +12,7 @@ ghost use Rattle.desktop_definitions.specs.declared.reply.Reply.TheVariants.{No}
 ghost use Rattle.desktop_definitions.specs.Desktop.{KeptDesktop, empty_desktop, file_of};
 ghost use Rattle.desktop_definitions.specs.Seen.{seen};
 ghost use Rattle.desktop_definitions.specs.Step.{step};
-ghost use Rattle.desktop_definitions.specs.Unread.{needs_no_byte, StepsUnread, ListsUnread};
+ghost use Rattle.desktop_definitions.specs.Unread.{StepsUnread, ListsUnread};
 ghost use Rattle.desktop_definitions.specs.Sound.{IsKeptWhole, IsOver, Grows};
 ghost use Rattle.desktop_definitions.specs.Outcome.{IsReply, IsUnchanged, IsSameSource};
 ghost use Rattle.desktop_definitions.specs.Listing.{entries_of};
@@ -107,8 +107,7 @@ impl Desktop {
         requires { IsOver (S.characters source.old) self.old }
         ensures done { IfOk result (λ reply. S.honest source.old → (seen (S.characters source.new) self.new, reply)
             ≡ step (seen (S.characters source.old) self.old) event.now) }
-        ensures unread { needs_no_byte self.old event.now ≡ true
-            → IfOk result (StepsUnread self.old self.new event.now) }
+        ensures unread { IfOk result (StepsUnread self.old self.new event.now) }
         ensures over { OnOk result (IsOver (S.characters source.new) self.new) }
         ensures replies { IfOk result IsReply }
         ensures refusal { (code : ℕ) → result ≡ Ok (No code)

@@ -1,9 +1,9 @@
 //! What each kind of event does.
-ghost use Rattle.std.specs.Prelude.{◌<◌, ◌++◌, IfOk, true};
+ghost use Rattle.std.specs.Prelude.{◌<◌, IfOk};
 ghost use Rattle.event_bytes.specs.declared.event.Event.TheVariants.{File};
 ghost use Rattle.desktop_definitions.specs.Limits.{first_version};
 ghost use Rattle.desktop_definitions.specs.Step.{raw};
-ghost use Rattle.desktop_definitions.specs.Unread.{needs_no_byte, StepsUnread};
+ghost use Rattle.desktop_definitions.specs.Unread.{StepsUnread};
 ghost use Rattle.desktop_definitions.specs.Sound.{IsOver};
 ghost use Rattle.desk_core.specs.Kept.{kept};
 ghost use Rattle.desk_core.specs.Row.{Settles, Uses};
@@ -39,8 +39,7 @@ pub fn act<S: CharSource>(
     requires { IsOver (S.characters source.old) (kept desk.old) }
     ensures answered { IfOk result (Settles S.CharSource (λ d. raw first_version d event.now)
         source.old source.new (kept desk.old) (kept desk.new)) }
-    ensures unread { needs_no_byte (kept desk.old) event.now ≡ true
-        → IfOk result (StepsUnread (kept desk.old) (kept desk.new) event.now) }
+    ensures unread { IfOk result (StepsUnread (kept desk.old) (kept desk.new) event.now) }
     ensures uses { Uses S.CharSource result source.old source.new }
 {
     match event {

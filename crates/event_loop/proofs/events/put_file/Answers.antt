@@ -54,7 +54,7 @@ returns-clause-answered g c =
 
 pub returns-then-not-has_room-clause-unread : goal.returns-then-not-has_room-clause-unread
 unfolding seen brought
-returns-then-not-has_room-clause-unread g c = λ all long.
+returns-then-not-has_room-clause-unread g c = λ h all long.
     let d = kept c.args.desk.now in
     ap (λ (l : List ℕ). (seen l d, No too_many_files)) (append-nil all)
     ∙ file_no_room (seen all d) c.args.name.now c.args.bytes.now (c.requires.whole.sound all).shown
@@ -62,7 +62,7 @@ returns-then-not-has_room-clause-unread g c = λ all long.
 
 pub returns-then-not-file_fits-clause-unread : goal.returns-then-not-file_fits-clause-unread
 unfolding seen brought
-returns-then-not-file_fits-clause-unread g c = λ all long.
+returns-then-not-file_fits-clause-unread g c = λ h all long.
     let d = kept c.args.desk.now in
     let bytes = c.args.bytes.now in
     ap (λ (l : List ℕ). (seen l d, No full)) (append-nil all)
@@ -73,7 +73,7 @@ returns-then-not-file_fits-clause-unread g c = λ all long.
 
 pub returns-clause-unread : goal.returns-clause-unread
 unfolding seen brought
-returns-clause-unread g c = λ all long.
+returns-clause-unread g c = λ h all long.
     let d = kept c.args.desk.now in
     let bytes = c.as_bytes-bytes.result.now in
     let name = c.args.name.now in

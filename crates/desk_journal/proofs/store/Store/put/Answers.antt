@@ -35,4 +35,5 @@ returns-clause-ok g c =
       usable = refl;
       known = r.replies;
       refusal = λ code is. r.refusal code (ap (λ x. Ok x) is);
+      unread = r.unread;
     })

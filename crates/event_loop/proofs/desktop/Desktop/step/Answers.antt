@@ -2,8 +2,7 @@ use Rattle.std.proofs.Common.{◌∙◌, ap, refl, subst, IfOk, Result}
 use Rattle.std.proofs.lemmas.Result.{IfOk-weaker}
 use Rattle.desktop_definitions.specs.declared.reply.Reply.{Reply}
 use Rattle.desktop_definitions.specs.declared.reply.Reply.TheVariants.{No}
-use Rattle.std.proofs.Common.{◌≡◌, true}
-use Rattle.desktop_definitions.specs.Unread.{needs_no_byte, StepsUnread}
+use Rattle.desktop_definitions.specs.Unread.{StepsUnread}
 use Rattle.desktop_definitions.specs.Desktop.{KeptDesktop}
 use Rattle.desktop_definitions.specs.Seen.{seen}
 use Rattle.desktop_definitions.specs.Step.{step, step_in}
@@ -34,5 +33,5 @@ returns-clause-refusal g c = λ code is.
 
 pub returns-clause-unread : goal.returns-clause-unread
 returns-clause-unread g c =
-    subst (λ (d : KeptDesktop). needs_no_byte d c.args.event.now ≡ true
-    → IfOk c.act.result (StepsUnread d (kept c.act.new.desk) c.args.event.now)) c.self.view_is c.act.ensures.unread
+    subst (λ (d : KeptDesktop). IfOk c.act.result (StepsUnread d (kept c.act.new.desk) c.args.event.now)) c.self.view_is
+    c.act.ensures.unread
