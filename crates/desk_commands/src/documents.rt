@@ -1,5 +1,5 @@
 //! Viewers open on files, on the log, and on the text of another viewer.
-ghost use Rattle.std.specs.Prelude.{◌≡◌, ◌<◌, ◌≤◌, ◌+◌, ℕ, List, [], length, true, IfOk, Ok};
+ghost use Rattle.std.specs.Prelude.{◌≡◌, ◌<◌, ◌≤◌, ◌+◌, ℕ, List, [], length, codes, true, IfOk, Ok};
 ghost use Rattle.std.specs.Option.{unwrap_or};
 ghost use Rattle.piece_ring.specs.Flat.{flat};
 ghost use Rattle.piece_ring.specs.Offsets.{AreWithin};
@@ -20,7 +20,7 @@ ghost use Rattle.desktop_definitions.specs.Step.{fits};
 ghost use Rattle.desktop_definitions.specs.Sound.{IsKeptWhole, IsOver};
 ghost use Rattle.desktop_laws.specs.OpeningOnLaws.{IsPlaceOf};
 ghost use Rattle.desk_core.specs.Kept.{kept};
-ghost use Rattle.desk_core.specs.Row.{Settles, Uses};
+ghost use Rattle.desk_core.specs.Row.{Settles, SettlesBringing, Uses};
 
 use crate::openings::{add_text, copy_of, open_on, opening_fits, opening_on_fits};
 use arrayvec::ArrayVec;
@@ -135,6 +135,8 @@ pub fn open_tool<S: CharSource>(
     requires over { IsOver (S.characters source.old) (kept desk.old) }
     ensures answered { IfOk result (Settles S.CharSource (λ d. tool_opened d x y)
         source.old source.new (kept desk.old) (kept desk.new)) }
+    ensures unread { IfOk result (SettlesBringing (menu_line (codes "System.Tool"))
+        (λ all. tool_opened (seen all (kept desk.old)) x y) (kept desk.old) (kept desk.new)) }
     ensures uses { Uses S.CharSource result source.old source.new }
 {
     let Some(name) = Name::new(b"System.Tool") else {
@@ -161,6 +163,9 @@ fn open_named<S: CharSource>(
     ensures answered { IfOk result (Settles S.CharSource
         (λ d. Ok (opened_on_copy d name.now (unwrap_or (file_of d name.now) []) (x, y)))
         source.old source.new (kept desk.old) (kept desk.new)) }
+    ensures unread { IfOk result (SettlesBringing (menu_line name.now) (λ all.
+        let d = seen all (kept desk.old) in Ok (opened_on_copy d name.now (unwrap_or (file_of d name.now) []) (x, y)))
+        (kept desk.old) (kept desk.new)) }
     ensures uses { Uses S.CharSource result source.old source.new }
 {
     let menu = menu_line(name.as_bytes());
@@ -196,6 +201,10 @@ fn open_viewer<S: CharSource>(
         Ok (more_written (opening d (plain menu.now) (seen_text (S.characters source.old) main) (x, y))
         (length menu.now)))
         source.old source.new (kept desk.old) (kept desk.new)) }
+    ensures unread { IfOk result (SettlesBringing menu.now (λ all.
+        Ok (more_written (opening (seen all (kept desk.old)) (plain menu.now) (seen_text all main) (x, y))
+        (length menu.now)))
+        (kept desk.old) (kept desk.new)) }
     ensures uses { Uses S.CharSource result source.old source.new }
 {
     edits_keep_columns();

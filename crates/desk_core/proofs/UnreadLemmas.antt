@@ -1,10 +1,14 @@
 -- What a row owes that reads no character: the same over any other characters of which there are as many.
-use Rattle.std.specs.Prelude.{◌≡◌, ℕ, List, length, Result, Err}
-use Rattle.std.proofs.Common.{sym, ap}
-use Rattle.desktop_definitions.specs.declared.reply.Reply.TheVariants.{No}
+use Rattle.std.specs.Prelude.{◌≡◌, ℕ, List, [], length, Result, Ok, Err, IfOk}
+use Rattle.std.proofs.Common.{sym, ap, ◌∙◌, append-nil}
+use Rattle.desktop_definitions.specs.declared.reply.Reply.TheVariants.{Done, No}
+use Rattle.desktop_definitions.specs.declared.reply.Reply.{Reply}
 use Rattle.desktop_definitions.specs.Desktop.{Desktop, KeptDesktop}
+use Rattle.desktop_definitions.specs.Seen.{seen}
 use Rattle.desktop_definitions.specs.Step.{settled}
 use Rattle.desktop_definitions.specs.Sound.{IsOver}
+use Rattle.desk_core.specs.declared.stop.Stop.{Stop}
+use Rattle.desk_core.specs.Row.{SettlesUnread, SettlesBringing}
 
 -- a desktop is over them
 pub over_all : {old : List ℕ} {d : KeptDesktop} → IsOver old d → (all : List ℕ) → length all ≡ d.written → IsOver all d
@@ -14,3 +18,11 @@ over_all over all long = record { counted = long; whole = over.whole }
 pub refusal_is : {x : Desktop} {row : Result Desktop ℕ} {code : ℕ} → row ≡ Err code → (x, No code) ≡ settled x row
 unfolding settled
 refusal_is {x} is = sym (ap (settled x) is)
+
+-- a row that adds nothing brings none
+pub brings_none : (row : Desktop → Result Desktop ℕ) (d after : KeptDesktop) (result : Result Reply Stop)
+    → IfOk result (SettlesUnread row d after) → IfOk result (SettlesBringing [] (λ all. row (seen all d)) d after)
+brings_none row d after (Ok Done) is = λ all long.
+    ap (λ (l : List ℕ). (seen l after, Done)) (append-nil all) ∙ is all long
+brings_none row d after (Ok (No code)) is = is
+brings_none row d after (Err stop) is = tt

@@ -1,5 +1,5 @@
 -- Which events read no character: all that they ask is told by what is kept beside the characters.
-use Rattle.std.specs.Prelude.{ℕ, Bool, true, false, not, ◌&&◌, ◌||◌, is_none, List, [], ◌++◌, ◌≡◌, length, map}
+use Rattle.std.specs.Prelude.{ℕ, Bool, true, false, not, ◌&&◌, ◌||◌, is_none, List, [], ◌++◌, ◌≡◌, length, map, codes}
 use Rattle.event_bytes.specs.declared.event.Event.{Event}
 use Rattle.event_bytes.specs.declared.event.Event.TheVariants.{Typed, Key as Pressed, Mark, Point, File}
 use Rattle.event_bytes.specs.declared.keys.Key.{Key}
@@ -12,9 +12,10 @@ use Rattle.desktop_definitions.specs.declared.area.Area.TheVariants.{Filler, Men
 use Rattle.desktop_definitions.specs.declared.entry.Entry.{Entry}
 use Rattle.desktop_definitions.specs.declared.entry.Entry.TheVariants.{Viewer, File as FileEntry, Written}
 use Rattle.desktop_definitions.specs.declared.reply.Reply.{Reply}
-use Rattle.desktop_definitions.specs.declared.reply.Reply.TheVariants.{Done}
+use Rattle.desktop_definitions.specs.declared.reply.Reply.TheVariants.{Done, No}
 use Rattle.desktop_definitions.specs.Desktop.{DesktopOf, KeptDesktop}
 use Rattle.desktop_definitions.specs.Viewers.{newest}
+use Rattle.desktop_definitions.specs.Opening.{menu_line}
 use Rattle.desktop_definitions.specs.Gesture.{is_on_display, area_at}
 use Rattle.desktop_definitions.specs.Seen.{seen}
 use Rattle.desktop_definitions.specs.Listing.{entries_of}
@@ -23,11 +24,10 @@ use Rattle.desktop_definitions.specs.Step.{step}
 -- ---- events
 
 module _ {T : Type 0} where
-  -- what the keys of the mouse do in an area: viewers move and change their height, a text is shown from its beginning,
-  -- what takes the newest selection is refused without one, and what isn't in the table does nothing; a word that is
-  -- called is read, and so is the place of a cell in a text
+  -- what the keys of the mouse do in an area: the tool text opens, viewers move and change their height, a text is shown
+  -- from its beginning, what takes the newest selection is refused without one, and what isn't in the table does
+  -- nothing; a word that is called is read, and so is the place of a cell in a text
   unfoldable pub gesture_needs_no_byte : DesktopOf T → Area → Keys → Bool
-  gesture_needs_no_byte d Filler Middle = false
   gesture_needs_no_byte d (Menu v) Middle = false
   gesture_needs_no_byte d (Bar v) Left = false
   gesture_needs_no_byte d (Bar v) Middle = false
@@ -56,17 +56,28 @@ module _ {T : Type 0} where
       not (is_on_display x0 y0 && is_on_display x1 y1) || gesture_needs_no_byte d (area_at d x0 y0) keys
   needs_no_byte d (File name bytes) = true
 
--- the characters that such an event adds, where it is done
-unfoldable pub brought : Event → Reply → List ℕ
-brought (File name bytes) Done = bytes
-brought event reply = []
+-- the characters that a gesture adds that reads none: the menu of the tool text
+unfoldable pub gesture_brings : Area → Keys → List ℕ
+gesture_brings Filler Middle = menu_line (codes "System.Tool")
+gesture_brings area keys = []
+
+-- the characters that such an event adds
+unfoldable pub brought : {T : Type 0} → DesktopOf T → Event → List ℕ
+brought d (Point keys x0 y0 x1 y1) = gesture_brings (area_at d x0 y0) keys
+brought d (File name bytes) = bytes
+brought d event = []
+
+-- the characters after a reply: these are added where the event is done
+abbrev pub grown : List ℕ → List ℕ → Reply → List ℕ
+grown all bytes Done = all ++ bytes
+grown all bytes (No code) = all
 
 -- Where no character is read, reply and desktop are the step's over every list of as many characters, whatever the
 -- source tells.
 abbrev pub StepsUnread : KeptDesktop → KeptDesktop → Event → Reply → Type 0
 StepsUnread before after event reply =
     needs_no_byte before event ≡ true → (all : List ℕ) → length all ≡ before.written
-    → (seen (all ++ brought event reply) after, reply) ≡ step (seen all before) event
+    → (seen (grown all (brought before event) reply) after, reply) ≡ step (seen all before) event
 
 -- ---- the list
 

@@ -1,5 +1,5 @@
 -- The table of gestures, area by area.
-use Rattle.std.specs.Prelude.{◌≡◌, ◌||◌, not, ℕ, Bool, true, List, length, Option, Some, None, is_none}
+use Rattle.std.specs.Prelude.{◌≡◌, ◌||◌, not, ℕ, Bool, true, List, [], Option, Some, None, is_none}
 use Rattle.std.specs.Prelude.{Result, Ok, IfOk}
 use Rattle.std.proofs.lemmas.Result.{IfOk-weaker}
 use Rattle.std.proofs.Common.{refl, sym, ap, subst, ◌∙◌}
@@ -12,8 +12,8 @@ use Rattle.desktop_definitions.specs.declared.area.Area.TheVariants.{Filler, Men
 use Rattle.desktop_definitions.specs.declared.viewer.Selection.{Selection}
 use Rattle.desktop_definitions.specs.Limits.{first_version, outside}
 use Rattle.desktop_definitions.specs.Needs.{unless}
-use Rattle.desktop_definitions.specs.Unread.{gesture_needs_no_byte}
-use Rattle.desk_core.specs.Row.{SettlesUnread}
+use Rattle.desktop_definitions.specs.Unread.{gesture_needs_no_byte, gesture_brings, grown}
+use Rattle.desk_core.specs.Row.{SettlesUnread, SettlesBringing}
 use Rattle.desktop_definitions.specs.Desktop.{Desktop, KeptDesktop}
 use Rattle.desktop_definitions.specs.Seen.{seen}
 use Rattle.desktop_definitions.specs.Step.{settled}
@@ -123,21 +123,30 @@ needs_none d inside area there keys is same none =
     (λ k. not (sym is k) || gesture_needs_no_byte d (same k) keys) ∙ none
 
 -- the row of an area is that of both cells
-pub unread_there : (d after : KeptDesktop) (keys : Keys) (x0 y0 x1 y1 : ℕ) (result : Result Reply Stop) {inside : Bool}
-    {area : Area} {row : Desktop → Result Desktop ℕ} → inside ≡ true → area ≡ area_at d x0 y0
+pub unread_there : (d after : KeptDesktop) (keys : Keys) (x0 y0 x1 y1 : ℕ) (result : Result Reply Stop)
+    (row : Desktop → Result Desktop ℕ) {inside : Bool} {area : Area} → inside ≡ true → area ≡ area_at d x0 y0
     → (not inside || gesture_needs_no_byte d (area_at d x0 y0) keys) ≡ true
     → ((all : List ℕ) → row (seen all d) ≡ pointed first_version (seen all d) area keys x0 y0 x1 y1)
-    → (gesture_needs_no_byte d area keys ≡ true → IfOk result (SettlesUnread row d after))
-    → IfOk result (SettlesUnread (λ x. unless inside outside
-    (pointed first_version x (area_at x x0 y0) keys x0 y0 x1 y1)) d after)
-unread_there d after keys x0 y0 x1 y1 result {inside} {area} {row} there here none is so =
-    IfOk-weaker result (SettlesUnread row d after) _ (λ reply settles all long.
-    settles all long ∙ ap (settled (seen all d))
+    → (gesture_needs_no_byte d area keys ≡ true
+    → IfOk result (SettlesBringing (gesture_brings area keys) (λ all. row (seen all d)) d after))
+    → IfOk result (SettlesBringing (gesture_brings (area_at d x0 y0) keys) (λ all. unless inside outside
+    (pointed first_version (seen all d) (area_at (seen all d) x0 y0) keys x0 y0 x1 y1)) d after)
+unread_there d after keys x0 y0 x1 y1 result row {inside} {area} there here none is so =
+    IfOk-weaker result (SettlesBringing (gesture_brings area keys) (λ all. row (seen all d)) d after) _
+    (λ reply settles all long.
+    ap (λ (a : Area). (seen (grown all (gesture_brings a keys) reply) after, reply)) (sym here)
+    ∙ settles all long ∙ ap (settled (seen all d))
     (is all ∙ ap (λ (a : Area). pointed first_version (seen all d) a keys x0 y0 x1 y1)
     (here ∙ sym (area_seen all d x0 y0))
     ∙ sym (ap (λ (b : Bool). unless b outside
     (pointed first_version (seen all d) (area_at (seen all d) x0 y0) keys x0 y0 x1 y1)) there)))
     (so (needs_none d inside area (area_at d x0 y0) keys there here none))
+
+-- nothing but the tool text brings characters
+pub filler_brings : (keys : Keys) → ¬ (keys ≡ Middle) → gesture_brings Filler keys ≡ []
+unfolding gesture_brings
+filler_brings Middle other = absurd (other refl)
+filler_brings keys other = refl
 
 none_is : {A : Type 0} (o : Option A) → is_none o ≡ true → o ≡ None
 none_is None h = refl

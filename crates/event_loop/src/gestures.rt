@@ -11,10 +11,11 @@ ghost use Rattle.desktop_definitions.specs.Viewers.{text_in, viewer_or_none, row
 ghost use Rattle.desktop_definitions.specs.Commands.{called};
 ghost use Rattle.desktop_definitions.specs.Gesture.{is_on_display, area_at, menu_position, text_position};
 ghost use Rattle.desktop_definitions.specs.Gesture.{stretch_drawn, pointed};
-ghost use Rattle.desktop_definitions.specs.Unread.{gesture_needs_no_byte};
+ghost use Rattle.desktop_definitions.specs.Seen.{seen};
+ghost use Rattle.desktop_definitions.specs.Unread.{gesture_needs_no_byte, gesture_brings};
 ghost use Rattle.desktop_definitions.specs.Sound.{IsOver};
 ghost use Rattle.desk_core.specs.Kept.{kept};
-ghost use Rattle.desk_core.specs.Row.{Settles, SettlesUnread, Uses};
+ghost use Rattle.desk_core.specs.Row.{Settles, SettlesUnread, SettlesBringing, Uses};
 ghost use Rattle.desk_core.specs.Mouse.{done_in_filler, done_in_menu, done_in_bar, done_at, done_with};
 
 use char_file::CharSource;
@@ -47,7 +48,8 @@ pub fn point<S: CharSource>(
         source.old source.new (kept desk.old) (kept desk.new)) }
     ensures unread { (not (is_on_display from.0 from.1 && is_on_display to.0 to.1)
         || gesture_needs_no_byte (kept desk.old) (area_at (kept desk.old) from.0 from.1) keys) ≡ true
-        → IfOk result (SettlesUnread (λ d.
+        → IfOk result (SettlesBringing (gesture_brings (area_at (kept desk.old) from.0 from.1) keys) (λ all.
+        let d = seen all (kept desk.old) in
         unless (is_on_display from.0 from.1 && is_on_display to.0 to.1) outside
         (pointed first_version d (area_at d from.0 from.1) keys from.0 from.1 to.0 to.1))
         (kept desk.old) (kept desk.new)) }
@@ -72,7 +74,7 @@ pub fn point<S: CharSource>(
     auto,
     unfolding(
         desk_core::specs::Mouse::done_in_filler,
-        desktop_definitions::specs::Unread::gesture_needs_no_byte
+        desktop_definitions::specs::Unread::gesture_brings
     )
 )]
 fn point_filler<S: CharSource>(
@@ -87,9 +89,8 @@ fn point_filler<S: CharSource>(
     requires over { IsOver (S.characters source.old) (kept desk.old) }
     ensures answered { IfOk result (Settles S.CharSource (λ d. done_in_filler d keys cell.0 cell.1)
         source.old source.new (kept desk.old) (kept desk.new)) }
-    ensures unread { gesture_needs_no_byte (kept desk.old) Filler keys ≡ true
-        → IfOk result (SettlesUnread (λ d. done_in_filler d keys cell.0 cell.1)
-        (kept desk.old) (kept desk.new)) }
+    ensures unread { IfOk result (SettlesBringing (gesture_brings Filler keys)
+        (λ all. done_in_filler (seen all (kept desk.old)) keys cell.0 cell.1) (kept desk.old) (kept desk.new)) }
     ensures uses { Uses S.CharSource result source.old source.new }
 {
     match keys {

@@ -1,4 +1,4 @@
-use Rattle.std.proofs.Common.{sym, ◌∙◌}
+use Rattle.std.proofs.Common.{List, ℕ, sym, ap, ◌∙◌}
 use Rattle.std.specs.Prelude.{codes}
 use Rattle.std.proofs.lemmas.Result.{IfOk-weaker}
 use Rattle.event_bytes.specs.Bytes.{is_letter, is_digit, is_name_byte}
@@ -7,7 +7,11 @@ use Rattle.desktop_definitions.specs.Seen.{seen}
 use Rattle.desktop_laws.specs.RowLaws.{known_no_file}
 use Rattle.desktop_laws.specs.KeyLaws.{refusal_answered, row_as}
 use Rattle.desktop_laws.specs.OpeningOnLaws.{tool_missing, tool_row}
+use Rattle.desktop_definitions.specs.Opening.{menu_line}
+use Rattle.desktop_definitions.specs.Unread.{grown}
+use Rattle.desktop_definitions.specs.Step.{settled}
 use Rattle.desk_core.specs.Kept.{kept}
+use Rattle.desk_core.proofs.UnreadLemmas.{refusal_is}
 use Rattle.desk_commands.proofs.OpeningLemmas.{no_name, same_name}
 use Rattle.desk_commands.proofs.documents.open_tool.Goals as goal
 
@@ -37,3 +41,25 @@ returns-clause-answered g c =
     (same_name name (codes "System.Tool") (sym c.in-Some.is ∙ c.new.ensures))
     (sym c.contains_key.ensures ∙ c.if-not-contains_key.false)))
     c.open_named.ensures.answered
+
+pub returns-then-not-contains_key-clause-unread : goal.returns-then-not-contains_key-clause-unread
+unfolding is_letter is_digit is_name_byte
+returns-then-not-contains_key-clause-unread g c = λ all long.
+    let d = kept c.args.desk.now in
+    let name = c.in-Some.name in
+    refusal_is (tool_missing all d name c.args.x c.args.y
+    (same_name name (codes "System.Tool") (sym c.in-Some.is ∙ c.new.ensures))
+    (sym c.contains_key.ensures ∙ c.if-not-contains_key.true))
+
+pub returns-clause-unread : goal.returns-clause-unread
+unfolding is_letter is_digit is_name_byte
+returns-clause-unread g c =
+    let d = kept c.args.desk.now in
+    let after = kept c.open_named.new.desk in
+    let name = c.in-Some.name in
+    let tool = same_name name (codes "System.Tool") (sym c.in-Some.is ∙ c.new.ensures) in
+    IfOk-weaker c.open_named.result _ _ (λ reply is all long.
+    ap (λ (n : List ℕ). (seen (grown all (menu_line n) reply) after, reply)) (sym tool) ∙ is all long
+    ∙ sym (ap (settled (seen all d)) (tool_row all d name c.args.x c.args.y tool
+    (sym c.contains_key.ensures ∙ c.if-not-contains_key.false))))
+    c.open_named.ensures.unread

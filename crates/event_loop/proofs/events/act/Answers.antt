@@ -2,7 +2,7 @@ use Rattle.std.proofs.Common.{refl}
 use Rattle.event_bytes.specs.declared.event.Event.TheVariants.{Typed, Key, Mark, Point}
 use Rattle.desktop_definitions.specs.Step.{raw}
 use Rattle.desktop_definitions.specs.Unread.{needs_no_byte, brought}
-use Rattle.event_loop.proofs.UnreadEvents.{unread_event}
+use Rattle.event_loop.proofs.UnreadEvents.{unread_event, bringing_event}
 use Rattle.event_loop.proofs.events.act.Goals as goal
 
 pub returns-in-Typed-clause-answered : goal.returns-in-Typed-clause-answered
@@ -24,22 +24,22 @@ returns-in-Point-clause-answered g c = rw c.in-Point.is c.point.ensures.answered
 pub returns-in-Typed-clause-unread : goal.returns-in-Typed-clause-unread
 unfolding raw needs_no_byte brought
 returns-in-Typed-clause-unread g c = rw c.in-Typed.is
-    (unread_event _ _ (Typed _) c.type_bytes.result (λ reply. refl) c.type_bytes.ensures.unread)
+    (unread_event _ _ (Typed _) c.type_bytes.result refl c.type_bytes.ensures.unread)
 
 pub returns-in-Key-clause-unread : goal.returns-in-Key-clause-unread
 unfolding raw needs_no_byte brought
 returns-in-Key-clause-unread g c = rw c.in-Key.is
-    (unread_event _ _ (Key _) c.press.result (λ reply. refl) c.press.ensures.unread)
+    (unread_event _ _ (Key _) c.press.result refl c.press.ensures.unread)
 
 pub returns-in-Mark-clause-unread : goal.returns-in-Mark-clause-unread
 unfolding raw needs_no_byte brought
 returns-in-Mark-clause-unread g c = rw c.in-Mark.is
-    (unread_event _ _ (Mark _ _) c.mark.result (λ reply. refl) (λ h. c.mark.ensures.unread))
+    (unread_event _ _ (Mark _ _) c.mark.result refl (λ h. c.mark.ensures.unread))
 
 pub returns-in-Point-clause-unread : goal.returns-in-Point-clause-unread
 unfolding raw needs_no_byte brought
 returns-in-Point-clause-unread g c = rw c.in-Point.is
-    (unread_event _ _ (Point _ _ _ _ _) c.point.result (λ reply. refl) c.point.ensures.unread)
+    (bringing_event _ _ (Point _ _ _ _ _) _ c.point.result refl c.point.ensures.unread)
 
 pub returns-in-File-clause-unread : goal.returns-in-File-clause-unread
 returns-in-File-clause-unread g c = rw c.in-File.is c.put_file.ensures.unread

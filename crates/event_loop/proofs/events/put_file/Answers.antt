@@ -1,7 +1,7 @@
 use Rattle.std.specs.Prelude.{⊤}
-use Rattle.std.proofs.Common.{◌≡◌, ◌++◌, ◌+◌, ◌∙◌, ℕ, List, length, refl, sym, ap, subst, append-nil, rules}
+use Rattle.std.proofs.Common.{◌≡◌, ◌++◌, ◌+◌, ◌∙◌, ℕ, List, length, refl, sym, ap, subst, rules}
 use Rattle.event_bytes.specs.declared.event.Event.TheVariants.{File}
-use Rattle.desktop_definitions.specs.declared.reply.Reply.TheVariants.{Done, No}
+use Rattle.desktop_definitions.specs.declared.reply.Reply.TheVariants.{Done}
 use Rattle.piece_ring.specs.Look.{default_look}
 use Rattle.desktop_definitions.specs.Limits.{full, too_many_files}
 use Rattle.desktop_definitions.specs.Seen.{seen}
@@ -56,8 +56,7 @@ pub returns-then-not-has_room-clause-unread : goal.returns-then-not-has_room-cla
 unfolding seen brought
 returns-then-not-has_room-clause-unread g c = λ h all long.
     let d = kept c.args.desk.now in
-    ap (λ (l : List ℕ). (seen l d, No too_many_files)) (append-nil all)
-    ∙ file_no_room (seen all d) c.args.name.now c.args.bytes.now (c.requires.whole.sound all).shown
+    file_no_room (seen all d) c.args.name.now c.args.bytes.now (c.requires.whole.sound all).shown
     (sym (c.has_room.ensures all) ∙ c.if-not-has_room.true)
 
 pub returns-then-not-file_fits-clause-unread : goal.returns-then-not-file_fits-clause-unread
@@ -65,8 +64,7 @@ unfolding seen brought
 returns-then-not-file_fits-clause-unread g c = λ h all long.
     let d = kept c.args.desk.now in
     let bytes = c.args.bytes.now in
-    ap (λ (l : List ℕ). (seen l d, No full)) (append-nil all)
-    ∙ file_full (seen all d) c.args.name.now bytes (c.requires.whole.sound all).shown
+    file_full (seen all d) c.args.name.now bytes (c.requires.whole.sound all).shown
     (sym (c.has_room.ensures all) ∙ c.if-not-has_room.false)
     (sym (c.file_fits.ensures.fits all (plain bytes)
     (length_in_look default_look bytes ∙ ap length (sym c.as_bytes-bytes.ensures.value))) ∙ c.if-not-file_fits.true)

@@ -4,7 +4,13 @@ use Rattle.desktop_definitions.specs.Seen.{seen}
 use Rattle.desk_core.specs.Kept.{kept}
 use Rattle.event_loop.proofs.GestureLemmas.{pointed_filler, pointed_menu, pointed_bar, pointed_there}
 use Rattle.event_loop.proofs.GestureLemmas.{unread_there}
-use Rattle.desk_core.proofs.UnreadLemmas.{over_all}
+use Rattle.desktop_definitions.specs.declared.area.Area.TheVariants.{Body}
+use Rattle.desktop_definitions.specs.Desktop.{Desktop}
+use Rattle.desktop_definitions.specs.Gesture.{pointed}
+use Rattle.desktop_definitions.specs.Limits.{first_version}
+use Rattle.desktop_definitions.specs.Unread.{gesture_brings}
+use Rattle.desk_core.specs.Mouse.{done_in_filler, done_in_menu, done_in_bar}
+use Rattle.desk_core.proofs.UnreadLemmas.{over_all, brings_none}
 use Rattle.desk_core.proofs.MarkLemmas.{both_inside, outside_answered}
 use Rattle.event_loop.proofs.gestures.point.Goals as goal
 
@@ -79,28 +85,39 @@ returns-then-not-are_on_display-clause-unread g c h = λ all long.
 pub returns-in-Filler-clause-unread : goal.returns-in-Filler-clause-unread
 returns-in-Filler-clause-unread g c h =
     let inside = sym c.are_on_display.ensures ∙ c.if-not-are_on_display.false in
-    unread_there (kept c.args.desk.now) _ c.args.keys c.args.from.0 c.args.from.1 c.args.to.0 c.args.to.1
-    c.point_filler.result inside c.in-Filler.ensures.area h (λ all. pointed_filler (seen all (kept c.args.desk.now)) _ _ _ _ _)
-    c.point_filler.ensures.unread
+    let d = kept c.args.desk.now in
+    unread_there d (kept c.point_filler.new.desk) c.args.keys c.args.from.0 c.args.from.1 c.args.to.0 c.args.to.1
+    c.point_filler.result (λ x. done_in_filler x c.args.keys c.args.from.0 c.args.from.1)
+    inside c.in-Filler.ensures.area h (λ all. pointed_filler (seen all d) _ _ _ _ _) (λ none. c.point_filler.ensures.unread)
 
 pub returns-in-Menu-clause-unread : goal.returns-in-Menu-clause-unread
+unfolding gesture_brings
 returns-in-Menu-clause-unread g c h =
     let inside = sym c.are_on_display.ensures ∙ c.if-not-are_on_display.false in
-    unread_there (kept c.args.desk.now) _ c.args.keys c.args.from.0 c.args.from.1 c.args.to.0 c.args.to.1
-    c.point_menu.result inside c.in-Menu.ensures.area h (λ all. pointed_menu (seen all (kept c.args.desk.now)) _ _ _ _ _ _)
-    c.point_menu.ensures.unread
+    let d = kept c.args.desk.now in
+    let row = λ (x : Desktop). done_in_menu x c.args.keys c.in-Menu.id c.args.to.0 c.args.to.1 in
+    unread_there d (kept c.point_menu.new.desk) c.args.keys c.args.from.0 c.args.from.1 c.args.to.0 c.args.to.1
+    c.point_menu.result row inside c.in-Menu.ensures.area h (λ all. pointed_menu (seen all d) _ _ _ _ _ _)
+    (λ none. brings_none row d (kept c.point_menu.new.desk) c.point_menu.result (c.point_menu.ensures.unread none))
 
 pub returns-in-Bar-clause-unread : goal.returns-in-Bar-clause-unread
-unfolding seen
+unfolding seen gesture_brings
 returns-in-Bar-clause-unread g c h =
     let inside = sym c.are_on_display.ensures ∙ c.if-not-are_on_display.false in
-    unread_there (kept c.args.desk.now) _ c.args.keys c.args.from.0 c.args.from.1 c.args.to.0 c.args.to.1
-    c.point_bar.result inside c.in-Bar.ensures.area h
-    (λ all. pointed_bar (seen all (kept c.args.desk.now)) _ _ _ _ _ _ _ c.frame_row-row.ensures)
-    c.point_bar.ensures.unread
+    let d = kept c.args.desk.now in
+    let row = λ (x : Desktop). done_in_bar x c.args.keys c.in-Bar.id c.frame_row-row.result in
+    unread_there d (kept c.point_bar.new.desk) c.args.keys c.args.from.0 c.args.from.1 c.args.to.0 c.args.to.1
+    c.point_bar.result row inside c.in-Bar.ensures.area h
+    (λ all. pointed_bar (seen all d) _ _ _ _ _ _ _ c.frame_row-row.ensures)
+    (λ none. brings_none row d (kept c.point_bar.new.desk) c.point_bar.result (c.point_bar.ensures.unread none))
 
 pub returns-in-Body-clause-unread : goal.returns-in-Body-clause-unread
+unfolding gesture_brings
 returns-in-Body-clause-unread g c h =
     let inside = sym c.are_on_display.ensures ∙ c.if-not-are_on_display.false in
-    unread_there (kept c.args.desk.now) _ c.args.keys c.args.from.0 c.args.from.1 c.args.to.0 c.args.to.1
-    c.point_text.result inside c.in-Body.ensures.area h (λ all. refl) c.point_text.ensures.unread
+    let d = kept c.args.desk.now in
+    let row = λ (x : Desktop).
+    pointed first_version x (Body c.in-Body.id) c.args.keys c.args.from.0 c.args.from.1 c.args.to.0 c.args.to.1 in
+    unread_there d (kept c.point_text.new.desk) c.args.keys c.args.from.0 c.args.from.1 c.args.to.0 c.args.to.1
+    c.point_text.result row inside c.in-Body.ensures.area h (λ all. refl)
+    (λ none. brings_none row d (kept c.point_text.new.desk) c.point_text.result (c.point_text.ensures.unread none))
