@@ -39,7 +39,7 @@ returns-in-Mark-clause-unread g c = rw c.in-Mark.is
 pub returns-in-Point-clause-unread : goal.returns-in-Point-clause-unread
 unfolding raw needs_no_byte brought
 returns-in-Point-clause-unread g c = rw c.in-Point.is
-    (bringing_event _ _ (Point _ _ _ _ _) _ c.point.result refl c.point.ensures.unread)
+    (bringing_event _ _ (Point _ _ _ c.in-Point.x1 c.in-Point.y1) _ c.point.result refl c.point.ensures.unread)
 
 pub returns-in-File-clause-unread : goal.returns-in-File-clause-unread
 returns-in-File-clause-unread g c = rw c.in-File.is c.put_file.ensures.unread

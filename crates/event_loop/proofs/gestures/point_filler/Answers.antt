@@ -19,4 +19,4 @@ returns-in_default-clause-unread g c = λ all long.
     let d = kept c.args.desk.now in
     ap (λ (bytes : List ℕ). (seen (all ++ bytes) d, Done)) (filler_brings c.args.keys other.not-Middle)
     ∙ ap (λ (l : List ℕ). (seen l d, Done)) (append-nil all)
-    ∙ (rest_done {⊤} (over_all c.requires.over all long) (filler_rest _ _ _ _ other.not-Middle)).exact tt
+    ∙ (rest_done {H = ⊤} (over_all c.requires.over all long) (filler_rest _ _ _ _ other.not-Middle)).exact tt

@@ -11,6 +11,10 @@ pub returns-in-Left-clause-answered : goal.returns-in-Left-clause-answered
 unfolding pointed done_at
 returns-in-Left-clause-answered g c = search rules
 
+pub returns-in-Left-clause-unread : goal.returns-in-Left-clause-unread
+unfolding pointed done_at
+returns-in-Left-clause-unread g c = search rules
+
 pub returns-in-Right-clause-answered : goal.returns-in-Right-clause-answered
 unfolding pointed done_with
 returns-in-Right-clause-answered g c = search rules
@@ -24,5 +28,5 @@ returns-in_default-clause-answered g c =
 pub returns-in_default-clause-unread : goal.returns-in_default-clause-unread
 returns-in_default-clause-unread g c h = λ all long.
     let other = c.in_default in
-    (rest_done {⊤} (over_all c.requires.over all long) (pointed_rest _ _ _ _ _ _ _ other.not-Left other.not-LeftMiddle
+    (rest_done {H = ⊤} (over_all c.requires.over all long) (pointed_rest _ _ _ _ _ _ _ other.not-Left other.not-LeftMiddle
     other.not-LeftRight other.not-Right other.not-RightLeft other.not-RightMiddle other.not-Middle)).exact tt
