@@ -24,8 +24,8 @@ use Rattle.desktop_definitions.specs.Step.{step}
 -- ---- events
 
 module _ {T : Type 0} where
-  -- what the keys of the mouse do in an area: the tool text opens, viewers move and change their height, a text is shown
-  -- from its beginning, what takes the newest selection is refused without one, and what isn't in the table does
+  -- what the keys of the mouse do in an area: the tool text opens, viewers move and change their height, a text is
+  -- shown from its beginning, what takes the newest selection is refused without one, and what isn't in the table does
   -- nothing; a word that is called is read, and so is the place of a cell in a text
   unfoldable pub gesture_needs_no_byte : DesktopOf T → Area → Keys → Bool
   gesture_needs_no_byte d (Menu v) Middle = false
@@ -74,7 +74,7 @@ grown all bytes (No code) = all
 
 -- Where no character is read, reply and desktop are the step's over every list of as many characters, whatever the
 -- source tells.
-abbrev pub StepsUnread : KeptDesktop → KeptDesktop → Event → Reply → Type 0
+unfoldable pub StepsUnread : KeptDesktop → KeptDesktop → Event → Reply → Type 0
 StepsUnread before after event reply =
     needs_no_byte before event ≡ true → (all : List ℕ) → length all ≡ before.written
     → (seen (grown all (brought before event) reply) after, reply) ≡ step (seen all before) event
@@ -88,6 +88,6 @@ without_name (FileEntry name size) = FileEntry name size
 without_name (Written n) = Written n
 
 -- But for the names of viewers these are the entries over every list of as many characters as were written.
-abbrev pub ListsUnread : KeptDesktop → List Entry → Type 0
+unfoldable pub ListsUnread : KeptDesktop → List Entry → Type 0
 ListsUnread d entries =
     (all : List ℕ) → length all ≡ d.written → map without_name entries ≡ map without_name (entries_of (seen all d))

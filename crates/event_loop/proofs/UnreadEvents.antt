@@ -18,7 +18,7 @@ pub bringing_event : (d after : KeptDesktop) (event : Event) (bytes : List ℕ) 
     → (needs_no_byte d event ≡ true
     → IfOk result (SettlesBringing bytes (λ all. raw first_version (seen all d) event) d after))
     → IfOk result (StepsUnread d after event)
-unfolding step step_in
+unfolding step step_in StepsUnread
 bringing_event d after event bytes (Ok reply) is settles = λ h all long.
     ap (λ (l : List ℕ). (seen (grown all l reply) after, reply)) (sym is) ∙ settles h all long
 bringing_event d after event bytes (Err stop) is settles = tt

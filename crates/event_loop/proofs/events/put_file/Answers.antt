@@ -10,7 +10,7 @@ use Rattle.desktop_definitions.specs.Change.{plain}
 use Rattle.desktop_laws.specs.StepLaws.{file_no_room, file_full}
 use Rattle.desktop_definitions.specs.Outcome.{IsAnswered}
 use Rattle.desktop_laws.specs.OutcomeLaws.{refused, length_in_look, file_answered}
-use Rattle.desktop_definitions.specs.Unread.{brought}
+use Rattle.desktop_definitions.specs.Unread.{brought, StepsUnread}
 use Rattle.desk_core.specs.Kept.{kept}
 use Rattle.desk_core.proofs.UnreadLemmas.{over_all}
 use Rattle.event_loop.proofs.events.put_file.Goals as goal
@@ -53,14 +53,14 @@ returns-clause-answered g c =
     (λ characters. sym (c.has_room.ensures characters) ∙ c.if-not-has_room.false))
 
 pub returns-then-not-has_room-clause-unread : goal.returns-then-not-has_room-clause-unread
-unfolding seen brought
+unfolding seen brought StepsUnread
 returns-then-not-has_room-clause-unread g c = λ h all long.
     let d = kept c.args.desk.now in
     file_no_room (seen all d) c.args.name.now c.args.bytes.now (c.requires.whole.sound all).shown
     (sym (c.has_room.ensures all) ∙ c.if-not-has_room.true)
 
 pub returns-then-not-file_fits-clause-unread : goal.returns-then-not-file_fits-clause-unread
-unfolding seen brought
+unfolding seen brought StepsUnread
 returns-then-not-file_fits-clause-unread g c = λ h all long.
     let d = kept c.args.desk.now in
     let bytes = c.args.bytes.now in
@@ -70,7 +70,7 @@ returns-then-not-file_fits-clause-unread g c = λ h all long.
     (length_in_look default_look bytes ∙ ap length (sym c.as_bytes-bytes.ensures.value))) ∙ c.if-not-file_fits.true)
 
 pub returns-clause-unread : goal.returns-clause-unread
-unfolding seen brought
+unfolding seen brought StepsUnread
 returns-clause-unread g c = λ h all long.
     let d = kept c.args.desk.now in
     let bytes = c.as_bytes-bytes.result.now in
@@ -80,5 +80,5 @@ returns-clause-unread g c = λ h all long.
     (over_all c.requires all long) c.in_ok-put.ensures.valid refl c.in_ok-text.ensures c.in_ok-put.ensures.put
     (λ characters text long. sym (c.file_fits.ensures.fits characters text long) ∙ c.if-not-file_fits.false)
     (λ characters. sym (c.has_room.ensures characters) ∙ c.if-not-has_room.false) in
-    subst (λ (b : List ℕ). (seen (all ++ b) after, Done) ≡ step (seen all d) (File name b)) c.as_bytes-bytes.ensures.value
-    (answered.exact tt)
+    subst (λ (b : List ℕ). (seen (all ++ b) after, Done) ≡ step (seen all d) (File name b))
+    c.as_bytes-bytes.ensures.value (answered.exact tt)

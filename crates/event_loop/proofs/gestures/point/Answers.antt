@@ -88,7 +88,8 @@ returns-in-Filler-clause-unread g c h =
     let d = kept c.args.desk.now in
     unread_there d (kept c.point_filler.new.desk) c.args.keys c.args.from.0 c.args.from.1 c.args.to.0 c.args.to.1
     c.point_filler.result (λ x. done_in_filler x c.args.keys c.args.from.0 c.args.from.1)
-    inside c.in-Filler.ensures.area h (λ all. pointed_filler (seen all d) _ _ _ _ _) (λ none. c.point_filler.ensures.unread)
+    inside c.in-Filler.ensures.area h (λ all. pointed_filler (seen all d) _ _ _ _ _)
+    (λ none. c.point_filler.ensures.unread)
 
 pub returns-in-Menu-clause-unread : goal.returns-in-Menu-clause-unread
 unfolding gesture_brings

@@ -28,5 +28,6 @@ returns-in_default-clause-answered g c =
 pub returns-in_default-clause-unread : goal.returns-in_default-clause-unread
 returns-in_default-clause-unread g c h = λ all long.
     let other = c.in_default in
-    (rest_done {H = ⊤} (over_all c.requires.over all long) (pointed_rest _ _ _ _ _ _ _ other.not-Left other.not-LeftMiddle
-    other.not-LeftRight other.not-Right other.not-RightLeft other.not-RightMiddle other.not-Middle)).exact tt
+    (rest_done {H = ⊤} (over_all c.requires.over all long)
+    (pointed_rest _ _ _ _ _ _ _ other.not-Left other.not-LeftMiddle other.not-LeftRight
+    other.not-Right other.not-RightLeft other.not-RightMiddle other.not-Middle)).exact tt

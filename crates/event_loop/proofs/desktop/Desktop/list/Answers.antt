@@ -4,7 +4,7 @@ use Rattle.desktop_definitions.specs.declared.entry.Entry.TheVariants.{Written}
 use Rattle.desktop_definitions.specs.Desktop.{KeptDesktop}
 use Rattle.desktop_definitions.specs.Seen.{seen}
 use Rattle.desktop_definitions.specs.Listing.{entries_of, track_entries}
-use Rattle.desktop_definitions.specs.Unread.{without_name}
+use Rattle.desktop_definitions.specs.Unread.{without_name, ListsUnread}
 use Rattle.desk_core.specs.Kept.{kept}
 use Rattle.desk_core.proofs.ListLemmas.{list_whole, parts_told}
 use Rattle.event_loop.proofs.desktop.Desktop.list.Goals as goal
@@ -23,6 +23,7 @@ returns-clause-entries g c = λ honest.
     ∙ ap (λ (d : KeptDesktop). entries_of (seen characters d)) c.self.view_is
 
 pub returns-clause-unread : goal.returns-clause-unread
+unfolding ListsUnread
 returns-clause-unread g c = λ all long.
     let d = kept c.self.inside.desk in
     let as_written = long ∙ sym (ap (λ (d : KeptDesktop). d.written) c.self.view_is) in
