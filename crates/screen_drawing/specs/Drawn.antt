@@ -2,10 +2,10 @@
 --
 -- Each row is drawn from the left, stretch by stretch of cells in one pen: the paper where it isn't white, and on it
 -- the text where there is one. A caret is a bar at the left of its cell.
-use Rattle.std.specs.Prelude.{ℕ, ◌+◌, ◌-◌, ◌*◌, Bool, true, false, ◌&&◌, ◌||◌, ◌==◌, not, if◌then◌else◌, List, [], ◌++◌}
-use Rattle.std.specs.Prelude.{codes, take, drop, length}
+use Rattle.std.specs.Prelude.{ℕ, ◌+◌, ◌-◌, ◌*◌, Bool, true, false, ◌&&◌, ◌||◌, ◌==◌, not, if◌then◌else◌, List, [], ◌∷◌}
+use Rattle.std.specs.Prelude.{◌++◌, codes, take, drop, length}
 use Rattle.std.specs.Fmt.{decimal}
-use Rattle.std.specs.List.{flat_map, list_all, position_or_len, range_with_len, slice_index_or}
+use Rattle.std.specs.List.{concat, flat_map, list_all, position_or_len, range_with_len, slice_index_or}
 use Rattle.viewer_tracks.specs.declared.display.TheConstants.{ROWS, COLUMNS}
 use Rattle.screen_pictures.specs.declared.cell.Cell.{Cell}
 use Rattle.screen_pictures.specs.declared.cell.Mark.{Mark}
@@ -25,9 +25,9 @@ use Rattle.screen_drawing.specs.Spelling.{baseline, caret_width, cell_height, ce
 
 -- a rectangle in one colour: its corner, width and height in units
 abbrev pub rectangle : ℕ → ℕ → ℕ → ℕ → ℕ → List ℕ
-rectangle x y width height colour =
-    codes "<rect x='" ++ (decimal x ++ (codes "' y='" ++ (decimal y ++ (codes "' width='" ++ (decimal width
-    ++ (codes "' height='" ++ (decimal height ++ (codes "' fill='" ++ (colour_code colour ++ codes "'/>\n")))))))))
+rectangle x y width height colour = concat
+    (codes "<rect x='" ∷ decimal x ∷ codes "' y='" ∷ decimal y ∷ codes "' width='" ∷ decimal width
+    ∷ codes "' height='" ∷ decimal height ∷ codes "' fill='" ∷ colour_code colour ∷ codes "'/>\n" ∷ [])
 
 -- cells of a paper from a column on, in a row from the top
 abbrev pub paper_cells : ℕ → ℕ → ℕ → ℕ → List ℕ
@@ -52,18 +52,23 @@ escaped faces = flat_map (λ face. escaped_byte face.byte) faces
 
 -- the characters of cells from a column on, in a row from the top
 abbrev pub text_cells : ℕ → ℕ → List Face → Pen → List ℕ
-text_cells x y faces pen =
-    codes "<text x='" ++ (decimal (cell_width * x) ++ (codes "' y='" ++ (decimal (cell_height * y + baseline)
-    ++ (codes "' textLength='" ++ (decimal (cell_width * length faces) ++ (codes "' fill='" ++ (colour_code pen.ink
-    ++ (codes "'" ++ (weight_text pen.weight ++ (slant_text pen.is_italic ++ (rule_text pen.rule
-    ++ (codes ">" ++ (escaped faces ++ codes "</text>\n")))))))))))))
+text_cells x y faces pen = concat
+    (codes "<text x='" ∷ decimal (cell_width * x) ∷ codes "' y='" ∷ decimal (cell_height * y + baseline)
+    ∷ codes "' textLength='" ∷ decimal (cell_width * length faces) ∷ codes "' fill='" ∷ colour_code pen.ink
+    ∷ codes "'" ∷ weight_text pen.weight ∷ slant_text pen.is_italic ∷ rule_text pen.rule
+    ∷ codes ">" ∷ escaped faces ∷ codes "</text>\n" ∷ [])
 
 -- whether nothing is to be seen of cells but their paper
+abbrev pub is_ruled : Rule → Bool
+is_ruled Plain = false
+is_ruled Under = true
+is_ruled Over = true
+
 abbrev pub are_spaces : List Face → Bool
 are_spaces faces = list_all (λ face. face.byte == space) faces
 
 abbrev pub is_bare : List Face → Pen → Bool
-is_bare faces pen = (length (rule_text pen.rule) == 0) && are_spaces faces
+is_bare faces pen = not (is_ruled pen.rule) && are_spaces faces
 
 -- cells of one pen: their paper where it isn't white, and their text where there is one
 abbrev pub drawn_paper : ℕ → ℕ → ℕ → ℕ → List ℕ
@@ -120,14 +125,14 @@ drawn_rows screen = flat_map (drawn_row screen) (range_with_len 0 ROWS)
 
 -- how it begins: its size, the font, and white paper
 abbrev pub heading : List ℕ
-heading =
-    codes "<svg xmlns='http://www.w3.org/2000/svg' width='" ++ (decimal (cell_width * COLUMNS)
-    ++ (codes "' height='" ++ (decimal (cell_height * ROWS) ++ (codes "' viewBox='0 0 "
-    ++ (decimal (cell_width * COLUMNS) ++ (codes " " ++ (decimal (cell_height * ROWS)
-    ++ codes "' font-family='DejaVu Sans Mono,Menlo,Consolas,monospace' font-size='15' xml:space='preserve'>\n")))))))
+heading = concat
+    (codes "<svg xmlns='http://www.w3.org/2000/svg' width='" ∷ decimal (cell_width * COLUMNS)
+    ∷ codes "' height='" ∷ decimal (cell_height * ROWS) ∷ codes "' viewBox='0 0 " ∷ decimal (cell_width * COLUMNS)
+    ∷ codes " " ∷ decimal (cell_height * ROWS)
+    ∷ codes "' font-family='DejaVu Sans Mono,Menlo,Consolas,monospace' font-size='15' xml:space='preserve'>\n" ∷ [])
 
 abbrev pub background : List ℕ
 background = rectangle 0 0 (cell_width * COLUMNS) (cell_height * ROWS) WHITE
 
 unfoldable pub drawn : List (List Cell) → List ℕ
-drawn screen = heading ++ (background ++ (drawn_rows screen ++ codes "</svg>\n"))
+drawn screen = concat (heading ∷ background ∷ drawn_rows screen ∷ codes "</svg>\n" ∷ [])

@@ -6,16 +6,17 @@ ghost use Rattle.viewer_tracks.specs.declared.display.TheConstants.{COLUMNS as c
 ghost use Rattle.screen_pictures.specs.Screen.{column_at};
 ghost use Rattle.screen_drawing.specs.Drawn.{background, drawn, drawn_caret, drawn_cells, drawn_column, drawn_row};
 ghost use Rattle.screen_drawing.specs.Drawn.{drawn_rows, drawn_paper, drawn_start, drawn_stretch, drawn_text, heading};
-ghost use Rattle.screen_drawing.specs.Drawn.{is_bare, is_in_another, is_start, pen_at, stretch_at, stretch_length, are_spaces};
+ghost use Rattle.screen_drawing.specs.Drawn.{is_bare, is_in_another, is_ruled, is_start, pen_at, stretch_at};
+ghost use Rattle.screen_drawing.specs.Drawn.{are_spaces, stretch_length};
 ghost use Rattle.screen_drawing.specs.Spelling.{caret_width, cell_height, cell_width};
 
 use crate::pieces::send_all;
-use crate::shapes::{Area, paper_cells, rectangle, rule_text, text_cells};
+use crate::shapes::{Area, paper_cells, rectangle, text_cells};
 use crate::spelling::{CARET_WIDTH, CELL_HEIGHT, CELL_WIDTH, digits};
 use output_bytes::{OutputFault, flush, send};
 use screen_pictures::{Cell, Mark};
 use std::io::Write;
-use terminal_painting::{BLACK, Face, Pen, Row, WHITE, row_of_cells};
+use terminal_painting::{BLACK, Face, Pen, Row, Rule, WHITE, row_of_cells};
 use viewer_tracks::{COLUMNS, ROWS};
 
 const COLUMN_COUNT: usize = COLUMNS as usize;
@@ -147,7 +148,15 @@ fn draw_column<W: Write>(
         (drawn_column place.1 cells.now row.now place.0)) }
 {
     draw_start(writer, place, row)?;
-    draw_caret(writer, place, cells[usize::from(place.0)].mark)
+    draw_caret(writer, place, mark_at(cells, place.0))
+}
+
+/// What is at a column.
+fn mark_at(cells: &[Cell; COLUMN_COUNT], x: u8) -> Mark
+    requires { x < columns }
+    ensures { result ≡ (column_at cells.now x).mark }
+{
+    cells[usize::from(x)].mark
 }
 
 /// Draws the stretch of cells in one pen that begins at a column, if one does.
@@ -199,10 +208,7 @@ fn stretch_length(faces: &[Face], pen: Pen) -> usize
     ensures value { result ≡ stretch_length pen faces.now }
     ensures within { result ≤ length faces.now }
 {
-    match other_pen(faces, pen) {
-        Some(at) => at,
-        None => faces.len(),
-    }
+    other_pen(faces, pen).unwrap_or(faces.len())
 }
 
 /// Where the first face in another pen stands.
@@ -271,7 +277,17 @@ fn draw_text<W: Write>(
 fn is_bare(faces: &[Face], pen: Pen) -> bool
     ensures { result ≡ is_bare faces.now pen }
 {
-    rule_text(pen.rule).is_empty() && are_spaces(faces)
+    !is_ruled(pen.rule) && are_spaces(faces)
+}
+
+/// Whether a line is drawn along the characters.
+fn is_ruled(rule: Rule) -> bool
+    ensures { result ≡ is_ruled rule }
+{
+    match rule {
+        Rule::Plain => false,
+        Rule::Under | Rule::Over => true,
+    }
 }
 
 /// Whether there are spaces only.

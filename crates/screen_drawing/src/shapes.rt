@@ -131,7 +131,7 @@ fn slant_text(is_italic: bool) -> &'static [u8]
 }
 
 /// What a line along the characters adds to a text.
-pub(crate) fn rule_text(rule: Rule) -> &'static [u8]
+fn rule_text(rule: Rule) -> &'static [u8]
     ensures { result.now ≡ rule_text rule }
 {
     match rule {
