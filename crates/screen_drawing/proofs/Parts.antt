@@ -1,6 +1,6 @@
 -- A drawing that is taken part by part.
 use Rattle.std.proofs.Common.{◌≡◌, ℕ, ◌+◌, ◌-◌, ◌<◌, ◌≤◌, List, [], ◌++◌, Option, refl, sym, ap, ◌∙◌, arith, subst}
-use Rattle.std.proofs.Common.{append-nil, drop, length, get_or, add-one, suc, ◌∷◌}
+use Rattle.std.proofs.Common.{append-nil, drop, length, get_or, add-one, suc}
 use Rattle.std.proofs.Math.Seq.{drop-cons}
 use Rattle.std.specs.Prelude.{Bool, true, if◌then◌else◌, OnErr, OnOk, Result}
 use Rattle.std.specs.Io.KnownBytes.{Appends, Keeps}
@@ -47,7 +47,8 @@ last_taken old mid new text part before now =
 
 pub last_front : (old mid new : Option (List ℕ)) (text part : List ℕ) → HasTaken old mid text part
     → AppendsFront mid new part → AppendsFront old new text
-last_front old mid new text part before now = next_front old mid new text part part [] (sym (append-nil part)) before now
+last_front old mid new text part before now =
+    next_front old mid new text part part [] (sym (append-nil part)) before now
 
 -- of two parts
 pub first_taken : (old new : Option (List ℕ)) (first second : List ℕ) → Appends old new first
@@ -84,7 +85,8 @@ whole_front old mid new text now kept = record {
 pub next_piece : (pieces : List (Bor (List ℕ))) (i : ℕ) (d : Bor (List ℕ)) → i < length pieces
     → joined (drop i pieces) ≡ (get_or pieces i d).now ++ joined (drop (i + 1) pieces)
 next_piece pieces i d within =
-    ap joined (drop-cons pieces i d within) ∙ ap (λ n. (get_or pieces i d).now ++ joined (drop n pieces)) (sym (add-one i))
+    ap joined (drop-cons pieces i d within)
+    ∙ ap (λ n. (get_or pieces i d).now ++ joined (drop n pieces)) (sym (add-one i))
 
 -- what is made of the numbers from x on
 pub next_number : (f : ℕ → List ℕ) (x n : ℕ) → x < n

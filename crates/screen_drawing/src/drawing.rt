@@ -160,11 +160,7 @@ fn mark_at(cells: &[Cell; COLUMN_COUNT], x: u8) -> Mark
 }
 
 /// Draws the stretch of cells in one pen that begins at a column, if one does.
-fn draw_start<W: Write>(
-    writer: &mut W,
-    place: (u8, u8),
-    row: &Row,
-) -> Result<(), OutputFault>
+fn draw_start<W: Write>(writer: &mut W, place: (u8, u8), row: &Row) -> Result<(), OutputFault>
     requires { place.0 < columns }
     ensures drawn { OnOk result (Appends (W.contents writer.old) (W.contents writer.new)
         (drawn_start place.1 row.now place.0)) }
@@ -174,7 +170,12 @@ fn draw_start<W: Write>(
     if !is_start(row, place.0) {
         return Ok(());
     }
-    draw_stretch(writer, place, stretch_at(row, place.0), pen_at(row, place.0))
+    draw_stretch(
+        writer,
+        place,
+        stretch_at(row, place.0),
+        pen_at(row, place.0),
+    )
 }
 
 /// The pen at a column.
@@ -298,11 +299,7 @@ fn are_spaces(faces: &[Face]) -> bool
 }
 
 /// Draws the caret, if there is one.
-fn draw_caret<W: Write>(
-    writer: &mut W,
-    place: (u8, u8),
-    mark: Mark,
-) -> Result<(), OutputFault>
+fn draw_caret<W: Write>(writer: &mut W, place: (u8, u8), mark: Mark) -> Result<(), OutputFault>
     ensures drawn { OnOk result (Appends (W.contents writer.old) (W.contents writer.new)
         (drawn_caret place.0 place.1 mark)) }
     ensures front { OnErr result (AppendsFront (W.contents writer.old) (W.contents writer.new)
@@ -310,7 +307,9 @@ fn draw_caret<W: Write>(
 {
     match mark {
         Mark::Caret => rectangle(writer, caret_area(place), BLACK),
-        Mark::Marker | Mark::Selected | Mark::Menu | Mark::Bar | Mark::Text | Mark::Filler => Ok(()),
+        Mark::Marker | Mark::Selected | Mark::Menu | Mark::Bar | Mark::Text | Mark::Filler => Ok(
+            (),
+        ),
     }
 }
 

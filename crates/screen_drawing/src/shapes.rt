@@ -21,11 +21,7 @@ pub(crate) struct Area {
 }
 
 /// Draws a rectangle in a colour of the terminal.
-pub(crate) fn rectangle<W: Write>(
-    writer: &mut W,
-    area: Area,
-    colour: u8,
-) -> Result<(), OutputFault>
+pub(crate) fn rectangle<W: Write>(writer: &mut W, area: Area, colour: u8) -> Result<(), OutputFault>
     ensures drawn { OnOk result (Appends (W.contents writer.old) (W.contents writer.new)
         (rectangle area.x area.y area.width area.height colour)) }
     ensures front { OnErr result (AppendsFront (W.contents writer.old) (W.contents writer.new)

@@ -11,12 +11,15 @@ loop-x-init g c = taken_none _ _
 
 pub returns-in_err-draw_column-clause-front : goal.returns-in_err-draw_column-clause-front
 returns-in_err-draw_column-clause-front g c = on_err c.from_residual.result (next_front _ _ _ _ _ _ _
-    (next_number (drawn_column c.args.y c.args.cells.now c.args.row.now) c.loop-x.x COLUMNS (omega (arith, c.loop-x-test.true))) c.loop-x.invariant c.in_err-draw_column.ensures.front)
+    (next_number (drawn_column c.args.y c.args.cells.now c.args.row.now) c.loop-x.x COLUMNS
+    (omega (arith, c.loop-x-test.true))) c.loop-x.invariant c.in_err-draw_column.ensures.front)
 
 pub loop-x-preserved : goal.loop-x-preserved
 loop-x-preserved g c = next_taken _ _ _ _ _ _ _
-    (next_number (drawn_column c.args.y c.args.cells.now c.args.row.now) c.loop-x.x COLUMNS (omega (arith, c.loop-x-test.true))) c.loop-x.invariant c.in_ok-draw_column.ensures.drawn
+    (next_number (drawn_column c.args.y c.args.cells.now c.args.row.now) c.loop-x.x COLUMNS
+    (omega (arith, c.loop-x-test.true))) c.loop-x.invariant c.in_ok-draw_column.ensures.drawn
 
 pub returns-clause-drawn : goal.returns-clause-drawn
 returns-clause-drawn g c = all_taken _ _ _ _ c.loop-x.invariant
-    (no_number (drawn_column c.args.y c.args.cells.now c.args.row.now) c.loop-x.x COLUMNS (omega (arith, c.loop-x-test.false)))
+    (no_number (drawn_column c.args.y c.args.cells.now c.args.row.now) c.loop-x.x COLUMNS
+    (omega (arith, c.loop-x-test.false)))

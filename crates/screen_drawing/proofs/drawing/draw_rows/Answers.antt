@@ -10,12 +10,15 @@ loop-y-init g c = taken_none _ _
 
 pub returns-in_err-draw_row-clause-front : goal.returns-in_err-draw_row-clause-front
 returns-in_err-draw_row-clause-front g c = on_err c.from_residual.result (next_front _ _ _ _ _ _ _
-    (next_number (drawn_row c.args.screen.now) c.loop-y.y ROWS (omega (arith, c.loop-y-test.true))) c.loop-y.invariant c.in_err-draw_row.ensures.front)
+    (next_number (drawn_row c.args.screen.now) c.loop-y.y ROWS
+    (omega (arith, c.loop-y-test.true))) c.loop-y.invariant c.in_err-draw_row.ensures.front)
 
 pub loop-y-preserved : goal.loop-y-preserved
 loop-y-preserved g c = next_taken _ _ _ _ _ _ _
-    (next_number (drawn_row c.args.screen.now) c.loop-y.y ROWS (omega (arith, c.loop-y-test.true))) c.loop-y.invariant c.in_ok-draw_row.ensures.drawn
+    (next_number (drawn_row c.args.screen.now) c.loop-y.y ROWS
+    (omega (arith, c.loop-y-test.true))) c.loop-y.invariant c.in_ok-draw_row.ensures.drawn
 
 pub returns-clause-drawn : goal.returns-clause-drawn
 returns-clause-drawn g c = all_taken _ _ _ _ c.loop-y.invariant
-    (no_number (drawn_row c.args.screen.now) c.loop-y.y ROWS (omega (arith, c.loop-y-test.false)))
+    (no_number (drawn_row c.args.screen.now) c.loop-y.y ROWS
+    (omega (arith, c.loop-y-test.false)))

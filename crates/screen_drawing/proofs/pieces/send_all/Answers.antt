@@ -1,4 +1,3 @@
-use Rattle.std.proofs.Common.{arith}
 use Rattle.output_bytes.proofs.Taking.{on_err}
 use Rattle.screen_drawing.proofs.Parts.{next_front, next_piece, next_taken}
 use Rattle.screen_drawing.proofs.pieces.send_all.Goals as goal
