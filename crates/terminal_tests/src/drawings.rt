@@ -7,7 +7,11 @@ use std::alloc::{AllocError, Global};
 use std::test::Fail;
 
 /// How each drawing begins: its size, the font, and white paper.
-const BEGINNING: &[u8] = b"<svg xmlns='http://www.w3.org/2000/svg' width='720' height='608' viewBox='0 0 720 608' font-family='DejaVu Sans Mono,Menlo,Consolas,monospace' font-size='15' xml:space='preserve'>\n<rect x='0' y='0' width='720' height='608' fill='#ffffff'/>\n";
+const BEGINNING: &[u8] =
+    b"<svg xmlns='http://www.w3.org/2000/svg' width='720' height='608' viewBox='0 0 720 608' \
+    font-family='DejaVu Sans Mono,Menlo,Consolas,monospace' font-size='15' \
+    xml:space='preserve'>\n\
+    <rect x='0' y='0' width='720' height='608' fill='#ffffff'/>\n";
 
 /// A character of a text in a look.
 fn letter(ch: u8, font: u8, colour: u8, voff: i8) -> Cell {
@@ -20,7 +24,11 @@ fn letter(ch: u8, font: u8, colour: u8, voff: i8) -> Cell {
 
 /// A character at which something is.
 fn marked(ch: u8, mark: Mark) -> Cell {
-    Cell { ch, mark, ..blank() }
+    Cell {
+        ch,
+        mark,
+        ..blank()
+    }
 }
 
 /// What is drawn for a screen whose top row begins with these cells.
@@ -46,27 +54,35 @@ fn drawings(rt: HostRuntime) -> Result<(), Fail> {
         (
             letter(b'<', 2, 1, 0),
             letter(b'>', 4, 2, 0),
-            b"<text x='0' y='14' textLength='9' fill='#ff0000' font-weight='bold'>&lt;</text>\n<text x='9' y='14' textLength='9' fill='#00ff00' font-weight='bold' font-style='italic'>&gt;</text>\n",
+            b"<text x='0' y='14' textLength='9' fill='#ff0000' font-weight='bold'>&lt;</text>\n\
+            <text x='9' y='14' textLength='9' fill='#00ff00' font-weight='bold' font-style='italic'>&gt;</text>\n",
         ),
         (
             letter(b' ', 0, 15, 4),
             letter(b'&', 1, 3, -4),
-            b"<text x='0' y='14' textLength='9' fill='#000000' text-decoration='overline'> </text>\n<text x='9' y='14' textLength='9' fill='#0000ff' font-style='italic' text-decoration='underline'>&amp;</text>\n",
+            b"<text x='0' y='14' textLength='9' fill='#000000' text-decoration='overline'> </text>\n\
+            <text x='9' y='14' textLength='9' fill='#0000ff' font-style='italic' \
+            text-decoration='underline'>&amp;</text>\n",
         ),
         (
             letter(b'x', 3, 15, 0),
             marked(200, Mark::Bar),
-            b"<text x='0' y='14' textLength='9' fill='#000000' fill-opacity='0.55'>x</text>\n<text x='9' y='14' textLength='9' fill='#949494'>?</text>\n",
+            b"<text x='0' y='14' textLength='9' fill='#000000' fill-opacity='0.55'>x</text>\n\
+            <text x='9' y='14' textLength='9' fill='#949494'>?</text>\n",
         ),
         (
             marked(b'A', Mark::Selected),
             marked(b' ', Mark::Caret),
-            b"<rect x='0' y='0' width='9' height='19' fill='#afd7ff'/>\n<text x='0' y='14' textLength='9' fill='#000000'>A</text>\n<rect x='9' y='0' width='2' height='19' fill='#000000'/>\n",
+            b"<rect x='0' y='0' width='9' height='19' fill='#afd7ff'/>\n\
+            <text x='0' y='14' textLength='9' fill='#000000'>A</text>\n\
+            <rect x='9' y='0' width='2' height='19' fill='#000000'/>\n",
         ),
         (
             marked(b'M', Mark::Menu),
             marked(b' ', Mark::Marker),
-            b"<rect x='0' y='0' width='9' height='19' fill='#000000'/>\n<text x='0' y='14' textLength='9' fill='#ffffff'>M</text>\n<rect x='9' y='0' width='9' height='19' fill='#d70000'/>\n",
+            b"<rect x='0' y='0' width='9' height='19' fill='#000000'/>\n\
+            <text x='0' y='14' textLength='9' fill='#ffffff'>M</text>\n\
+            <rect x='9' y='0' width='9' height='19' fill='#d70000'/>\n",
         ),
     ];
     for (first, second, elements) in rows {
