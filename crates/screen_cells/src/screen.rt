@@ -59,8 +59,8 @@ impl Screen {
         cell_of(&self.rows[usize::from(y)], x)
     }
 
-    /// The rows from the bottom up.
-    pub(crate) fn rows(&self) -> &[Row; HEIGHT]
+    /// The rows from the bottom up, each with its cells from the left.
+    pub fn rows(&self) -> &[Row; HEIGHT]
         ensures { result.now ≡ self.now }
     {
         &self.rows

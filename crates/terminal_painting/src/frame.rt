@@ -84,7 +84,7 @@ impl Frame<'_> {
 }
 
 /// What is shown for a row of cells.
-fn row_of_cells(cells: &[Cell; WIDTH]) -> Row
+pub fn row_of_cells(cells: &[Cell; WIDTH]) -> Row
     ensures { result ≡ row_of_cells cells.now }
 {
     let mut row = [Face::blank(WHITE); WIDTH];

@@ -17,7 +17,7 @@ mod sending;
 
 pub use changes::{Changes, row_changes};
 pub use face::Face;
-pub use frame::{Frame, Row};
+pub use frame::{Frame, Row, row_of_cells};
 pub use laws::{
     cells_are_shown, nothing_is_shown, one_telling, rest_is_kept, rows_are_shown,
     same_rows_change_nothing, spelled_is_told,
@@ -25,4 +25,4 @@ pub use laws::{
 pub use operation::Operation;
 pub use output_bytes::OutputFault;
 pub use painter::{Painter, ring};
-pub use pen::{Pen, Rule, Weight};
+pub use pen::{BLACK, Pen, Rule, WHITE, Weight};

@@ -6,7 +6,7 @@ use std::test::Fail;
 use terminal_painting::{Frame, OutputFault, Painter};
 
 /// The cell of a text where there is no character.
-fn blank() -> Cell {
+pub(crate) fn blank() -> Cell {
     Cell {
         mark: Mark::Text,
         ..Cell::filler(false)
@@ -14,7 +14,7 @@ fn blank() -> Cell {
 }
 
 /// A screen of whose top row the first two cells are these.
-fn screen(first: Cell, second: Cell) -> [[Cell; 80]; 32] {
+pub(crate) fn screen(first: Cell, second: Cell) -> [[Cell; 80]; 32] {
     let mut rows = [[blank(); 80]; 32];
     rows[31][0] = first;
     rows[31][1] = second;

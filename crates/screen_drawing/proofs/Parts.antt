@@ -1,0 +1,109 @@
+-- A drawing that is taken part by part.
+use Rattle.std.proofs.Common.{◌≡◌, ℕ, ◌+◌, ◌-◌, ◌<◌, ◌≤◌, List, [], ◌++◌, Option, refl, sym, ap, ◌∙◌, arith, subst}
+use Rattle.std.proofs.Common.{append-nil, drop, length, get_or, add-one, suc}
+use Rattle.std.proofs.Math.Seq.{drop-cons}
+use Rattle.std.specs.Prelude.{Bool, true, if◌then◌else◌, OnErr, OnOk, Result}
+use Rattle.std.specs.Io.KnownBytes.{Appends, Keeps}
+use Rattle.std.proofs.KnownBytes.{Appends-kept, Keeps-refl}
+use Rattle.std.specs.List.{flat_map, range_with_len}
+use denote.Bor.{Bor}
+use Rattle.output_bytes.specs.Sent.{AppendsFront}
+use Rattle.output_bytes.proofs.Taking.{HasTaken, front_part, taken_all, taken_none, taken_part}
+use Rattle.terminal_painting.specs.declared.face.Face.{Face}
+use Rattle.terminal_painting.specs.declared.pen.Pen.{Pen}
+use Rattle.screen_drawing.specs.Drawn.{drawn_start, drawn_stretch, is_start, pen_at, stretch_at}
+use Rattle.screen_drawing.specs.Spelling.{joined}
+
+-- the same text in other words
+pub sent_as : {T E : Type 0} (r : Result T E) (old new : Option (List ℕ)) (text same : List ℕ) → text ≡ same
+    → OnOk r (Appends old new text) → OnOk r (Appends old new same)
+sent_as r old new text same is sent = subst (λ t. OnOk r (Appends old new t)) is sent
+
+pub front_as : {T E : Type 0} (r : Result T E) (old new : Option (List ℕ)) (text same : List ℕ) → text ≡ same
+    → OnErr r (AppendsFront old new text) → OnErr r (AppendsFront old new same)
+front_as r old new text same is front = subst (λ t. OnErr r (AppendsFront old new t)) is front
+
+-- a part more of what is left, or a front of it
+pub next_taken : (old mid new : Option (List ℕ)) (text left part rest : List ℕ) → left ≡ part ++ rest
+    → HasTaken old mid text left → Appends mid new part → HasTaken old new text rest
+next_taken old mid new text left part rest next before now =
+    taken_part old mid new text part rest (subst (HasTaken old mid text) next before) now
+
+pub next_front : (old mid new : Option (List ℕ)) (text left part rest : List ℕ) → left ≡ part ++ rest
+    → HasTaken old mid text left → AppendsFront mid new part → AppendsFront old new text
+next_front old mid new text left part rest next before now =
+    front_part old mid new text part rest (subst (HasTaken old mid text) next before) now
+
+-- nothing is left
+pub all_taken : (old new : Option (List ℕ)) (text left : List ℕ) → HasTaken old new text left → left ≡ []
+    → Appends old new text
+all_taken old new text left before none = taken_all old new new text left before none (Keeps-refl new)
+
+-- the last part is taken
+pub last_taken : (old mid new : Option (List ℕ)) (text part : List ℕ) → HasTaken old mid text part
+    → Appends mid new part → Appends old new text
+last_taken old mid new text part before now =
+    all_taken old new text [] (next_taken old mid new text part part [] (sym (append-nil part)) before now) refl
+
+pub last_front : (old mid new : Option (List ℕ)) (text part : List ℕ) → HasTaken old mid text part
+    → AppendsFront mid new part → AppendsFront old new text
+last_front old mid new text part before now =
+    next_front old mid new text part part [] (sym (append-nil part)) before now
+
+-- of two parts
+pub first_taken : (old new : Option (List ℕ)) (first second : List ℕ) → Appends old new first
+    → HasTaken old new (first ++ second) second
+first_taken old new first second now =
+    taken_part old old new (first ++ second) first second (taken_none old (first ++ second)) now
+
+pub first_front : (old new : Option (List ℕ)) (first second : List ℕ) → AppendsFront old new first
+    → AppendsFront old new (first ++ second)
+first_front old new first second now =
+    front_part old old new (first ++ second) first second (taken_none old (first ++ second)) now
+
+pub both_taken : (old mid new : Option (List ℕ)) (first second : List ℕ) → Appends old mid first
+    → Appends mid new second → Appends old new (first ++ second)
+both_taken old mid new first second one two =
+    last_taken old mid new (first ++ second) second (first_taken old mid first second one) two
+
+pub second_front : (old mid new : Option (List ℕ)) (first second : List ℕ) → Appends old mid first
+    → AppendsFront mid new second → AppendsFront old new (first ++ second)
+second_front old mid new first second one two =
+    last_front old mid new (first ++ second) second (first_taken old mid first second one) two
+
+-- a text that was taken, after the writer has passed it on or couldn't
+pub whole_front : (old mid new : Option (List ℕ)) (text : List ℕ) → Appends old mid text → Keeps mid new
+    → AppendsFront old new text
+whole_front old mid new text now kept = record {
+  front = text;
+  back = [];
+  parts = sym (append-nil text);
+  taken = Appends-kept old mid new text now kept;
+}
+
+-- the pieces from an index on
+pub next_piece : (pieces : List (Bor (List ℕ))) (i : ℕ) (d : Bor (List ℕ)) → i < length pieces
+    → joined (drop i pieces) ≡ (get_or pieces i d).now ++ joined (drop (i + 1) pieces)
+next_piece pieces i d within =
+    ap joined (drop-cons pieces i d within)
+    ∙ ap (λ n. (get_or pieces i d).now ++ joined (drop n pieces)) (sym (add-one i))
+
+-- what is made of the numbers from x on
+pub next_number : (f : ℕ → List ℕ) (x n : ℕ) → x < n
+    → flat_map f (range_with_len x (n - x)) ≡ f x ++ flat_map f (range_with_len (x + 1) (n - (x + 1)))
+next_number f x n within =
+    let next : n - x ≡ suc (n - (x + 1)) = omega arith in ap (λ k. flat_map f (range_with_len x k)) next
+
+pub no_number : (f : ℕ → List ℕ) (x n : ℕ) → n ≤ x → flat_map f (range_with_len x (n - x)) ≡ []
+no_number f x n past = let none : n - x ≡ 0 = omega arith in ap (λ k. flat_map f (range_with_len x k)) none
+
+-- where a stretch begins it is drawn
+started : (x y : ℕ) (row : List Face) → is_start row x ≡ true
+    → drawn_stretch x y (stretch_at row x) (pen_at row x) ≡ drawn_start y row x
+started x y row is = sym (ap (λ b. if b then drawn_stretch x y (stretch_at row x) (pen_at row x) else []) is)
+
+pub start_drawn : (x y : ℕ) (row faces : List Face) (pen : Pen) (begins : Bool) → begins ≡ true
+    → begins ≡ is_start row x → faces ≡ stretch_at row x → pen ≡ pen_at row x
+    → drawn_stretch x y faces pen ≡ drawn_start y row x
+start_drawn x y row faces pen begins is same its_faces its_pen =
+    (λ k. drawn_stretch x y (its_faces k) (its_pen k)) ∙ started x y row (sym same ∙ is)

@@ -1,0 +1,13 @@
+use Rattle.output_bytes.proofs.Taking.{on_err}
+use Rattle.screen_drawing.proofs.Parts.{next_front, next_piece, next_taken}
+use Rattle.screen_drawing.proofs.pieces.send_all.Goals as goal
+
+pub returns-in_err-send-clause-front : goal.returns-in_err-send-clause-front
+returns-in_err-send-clause-front g c = on_err c.from_residual.result (next_front _ _ _ _ _ _ _
+    (next_piece c.args.pieces.now c.loop-piece.piece-index _ c.loop-piece-test.true) c.loop-piece.invariant
+    c.in_err-send.ensures.front)
+
+pub loop-piece-preserved : goal.loop-piece-preserved
+loop-piece-preserved g c = next_taken _ _ _ _ _ _ _
+    (next_piece c.args.pieces.now c.loop-piece.piece-index _ c.loop-piece-test.true) c.loop-piece.invariant
+    c.in_ok-send.ensures.sent

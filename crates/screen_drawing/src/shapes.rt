@@ -1,0 +1,138 @@
+//! Rectangles and texts of a drawing.
+ghost use Rattle.std.specs.Prelude.{◌≡◌, ◌<◌, ◌≤◌, length, OnOk, OnErr};
+ghost use Rattle.std.specs.Io.KnownBytes.{Appends};
+ghost use Rattle.output_bytes.specs.Sent.{AppendsFront};
+ghost use Rattle.terminal_painting.specs.declared.face.Face.{Face as AFace};
+ghost use Rattle.screen_drawing.specs.Drawn.{paper_cells, rectangle, rule_text, slant_text, text_cells, weight_text};
+
+use crate::pieces::send_all;
+use crate::spelling::{BASELINE, CELL_HEIGHT, CELL_WIDTH, colour_code, digits, escaped};
+use output_bytes::OutputFault;
+use std::io::Write;
+use terminal_painting::{Face, Pen, Rule, Weight};
+
+/// A place and a size on the drawing, in units.
+#[derive(Clone, Copy, Debug, PartialEq, Eq)]
+pub(crate) struct Area {
+    pub(crate) x: u16,
+    pub(crate) y: u16,
+    pub(crate) width: u16,
+    pub(crate) height: u16,
+}
+
+/// Draws a rectangle in a colour of the terminal.
+pub(crate) fn rectangle<W: Write>(writer: &mut W, area: Area, colour: u8) -> Result<(), OutputFault>
+    ensures drawn { OnOk result (Appends (W.contents writer.old) (W.contents writer.new)
+        (rectangle area.x area.y area.width area.height colour)) }
+    ensures front { OnErr result (AppendsFront (W.contents writer.old) (W.contents writer.new)
+        (rectangle area.x area.y area.width area.height colour)) }
+{
+    send_all(
+        writer,
+        &[
+            b"<rect x='",
+            digits(area.x).as_slice(),
+            b"' y='",
+            digits(area.y).as_slice(),
+            b"' width='",
+            digits(area.width).as_slice(),
+            b"' height='",
+            digits(area.height).as_slice(),
+            b"' fill='",
+            &colour_code(colour),
+            b"'/>\n",
+        ],
+    )
+}
+
+/// Draws the paper of cells from a column on, in a row from the top.
+pub(crate) fn paper_cells<W: Write>(
+    writer: &mut W,
+    place: (u8, u8),
+    columns: u8,
+    paper: u8,
+) -> Result<(), OutputFault>
+    ensures drawn { OnOk result (Appends (W.contents writer.old) (W.contents writer.new)
+        (paper_cells place.0 place.1 columns paper)) }
+    ensures front { OnErr result (AppendsFront (W.contents writer.old) (W.contents writer.new)
+        (paper_cells place.0 place.1 columns paper)) }
+{
+    let area = Area {
+        x: CELL_WIDTH * u16::from(place.0),
+        y: CELL_HEIGHT * u16::from(place.1),
+        width: CELL_WIDTH * u16::from(columns),
+        height: CELL_HEIGHT,
+    };
+    rectangle(writer, area, paper)
+}
+
+/// Draws the characters of cells from a column on, in a row from the top.
+pub(crate) fn text_cells<W: Write>(
+    writer: &mut W,
+    place: (u8, u8),
+    faces: &[Face],
+    pen: Pen,
+) -> Result<(), OutputFault>
+    requires { length faces.now ≤ 80 }
+    ensures drawn { OnOk result (Appends (W.contents writer.old) (W.contents writer.new)
+        (text_cells place.0 place.1 faces.now pen)) }
+    ensures front { OnErr result (AppendsFront (W.contents writer.old) (W.contents writer.new)
+        (text_cells place.0 place.1 faces.now pen)) }
+{
+    let x = CELL_WIDTH * u16::from(place.0);
+    let y = CELL_HEIGHT * u16::from(place.1) + BASELINE;
+    let width = CELL_WIDTH * faces.len() as u16;
+    send_all(
+        writer,
+        &[
+            b"<text x='",
+            digits(x).as_slice(),
+            b"' y='",
+            digits(y).as_slice(),
+            b"' textLength='",
+            digits(width).as_slice(),
+            b"' fill='",
+            &colour_code(pen.ink),
+            b"'",
+            weight_text(pen.weight),
+            slant_text(pen.is_italic),
+            rule_text(pen.rule),
+            b">",
+            escaped(faces).as_slice(),
+            b"</text>\n",
+        ],
+    )
+}
+
+/// What a weight adds to a text.
+fn weight_text(weight: Weight) -> &'static [u8]
+    ensures { result.now ≡ weight_text weight }
+{
+    match weight {
+        Weight::Regular => b"",
+        Weight::Bold => b" font-weight='bold'",
+        Weight::Faint => b" fill-opacity='0.55'",
+    }
+}
+
+/// What a slant adds to a text.
+fn slant_text(is_italic: bool) -> &'static [u8]
+    ensures { result.now ≡ slant_text is_italic }
+{
+    if is_italic {
+        b" font-style='italic'"
+    } else {
+        b""
+    }
+}
+
+/// What a line along the characters adds to a text.
+fn rule_text(rule: Rule) -> &'static [u8]
+    ensures { result.now ≡ rule_text rule }
+{
+    match rule {
+        Rule::Plain => b"",
+        Rule::Under => b" text-decoration='underline'",
+        Rule::Over => b" text-decoration='overline'",
+    }
+}
