@@ -1,8 +1,9 @@
 /* Preloaded before the program oberon, or file_calls. It writes each call that reads, writes or syncs a file, but of
-   standard output and error, as a line into the file CALLS: `read N` for standard input, `pread SECTOR`, `pwrite SECTOR`,
-   `fdatasync`, and `fsync NAME` with the last part of the path. The call named FAIL, number AT of that name counted from
-   0, isn't made, and fails with the error number ERROR (5, an input or output error, where it isn't set; 4 is a signal
-   that interrupted it). Where PART is set this call, a pread or a pwrite, doesn't fail: it moves PART bytes at most. */
+   standard output and error, as a line into the file CALLS: `read N` for standard input, `pread SECTOR`,
+   `pwrite SECTOR`, `fdatasync`, and `fsync NAME` with the last part of the path. The call named FAIL, number AT of that
+   name counted from 0, isn't made, and fails with the error number ERROR (5, an input or output error, where it isn't
+   set; 4 is a signal that interrupted it). Where PART is set this call, a pread or a pwrite, doesn't fail: it moves PART
+   bytes at most. */
 #define _GNU_SOURCE
 #include <errno.h>
 #include <fcntl.h>

@@ -19,7 +19,7 @@ done
 try pwrite 7000 ERROR=4
 try fdatasync 0 ERROR=4
 
-# Over a store: whichever call of the program is interrupted, or moves a part alone, it says and keeps what it does else.
+# Over a store: whichever call of the program is interrupted, or moves a part alone, replies and store are the same.
 "$PROGRAM" format empty.disk
 cp empty.disk desk.disk
 "$PROGRAM" play desk.disk < "$TESTS/scripts/hello.in" > whole

@@ -59,8 +59,8 @@ pub fn serve_all<D: Disk>(
 
 /// Makes the calls in order up to the first that is refused, closes the store and opens it again.
 ///
-/// Errors, each with the disk: those of `post`, `checkpoint` and `open`, but over an honest disk `NoMemory`, `Fault` and
-/// `Worn` alone: the store that was closed is found again, and is never told as damaged or as none.
+/// Errors, each with the disk: those of `post`, `checkpoint` and `open`, but over an honest disk `NoMemory`, `Fault`
+/// and `Worn` alone: the store that was closed is found again, and is never told as damaged or as none.
 pub fn serve_and_reopen<D: Disk>(
     alloc: Global,
     store: Store<D>,
