@@ -1,6 +1,9 @@
-/* Preloaded before the program oberon. It writes each call that reads, writes or syncs a file, but of standard output and error, as a line into
-   the file CALLS: `read N` for standard input, `pread SECTOR`, `pwrite SECTOR`, `fdatasync`, and `fsync NAME` with the last part of the path.
-   The call named FAIL, number AT of that name counted from 0, isn't made, and fails with the error number ERROR (5, an input or output error, where it isn't set). */
+/* Preloaded before the program oberon, or file_calls. It writes each call that reads, writes or syncs a file, but of
+   standard output and error, as a line into the file CALLS: `read N` for standard input, `pread SECTOR`,
+   `pwrite SECTOR`, `fdatasync`, and `fsync NAME` with the last part of the path. The call named FAIL, number AT of that
+   name counted from 0, isn't made, and fails with the error number ERROR (5, an input or output error, where it isn't
+   set; 4 is a signal that interrupted it). Where PART is set this call, a pread or a pwrite, doesn't fail: it moves PART
+   bytes at most. */
 #define _GNU_SOURCE
 #include <errno.h>
 #include <fcntl.h>
@@ -21,13 +24,28 @@ static void tell(const char *text) {
     syscall(SYS_close, file);
 }
 
+/* Whether this call of that name is the one that the host refuses. */
+static int is_refused(const char *name, long *count) {
+    const char *wanted = getenv("FAIL"), *at = getenv("AT");
+    return wanted && at && !strcmp(wanted, name) && (*count)++ == atol(at);
+}
+
 /* Whether this call of that name is the one that fails. */
 static int fails(const char *name, long *count) {
-    const char *wanted = getenv("FAIL"), *at = getenv("AT"), *error = getenv("ERROR");
-    if (!wanted || !at || strcmp(wanted, name) || (*count)++ != atol(at)) return 0;
+    const char *error = getenv("ERROR");
+    if (!is_refused(name, count)) return 0;
     tell("failed\n");
     errno = error ? atoi(error) : EIO;
     return 1;
+}
+
+/* How many bytes this call of that name moves: all, or PART of them, or -1 where it fails. */
+static ssize_t share(const char *name, long *count, size_t size) {
+    const char *part = getenv("PART");
+    if (!part) return fails(name, count) ? -1 : (ssize_t)size;
+    if (!is_refused(name, count)) return size;
+    tell("in part\n");
+    return (size_t)atol(part) < size ? atol(part) : (ssize_t)size;
 }
 
 static long reads, preads, pwrites, fdatasyncs, fsyncs;
@@ -41,14 +59,16 @@ ssize_t pread(int file, void *bytes, size_t size, off_t from) {
     char text[64];
     snprintf(text, sizeof text, "pread %ld\n", (long)(from / 1024));
     tell(text);
-    return fails("pread", &preads) ? -1 : syscall(SYS_pread64, file, bytes, size, from);
+    ssize_t moved = share("pread", &preads, size);
+    return moved < 0 ? -1 : syscall(SYS_pread64, file, bytes, moved, from);
 }
 
 ssize_t pwrite(int file, const void *bytes, size_t size, off_t to) {
     char text[64];
     snprintf(text, sizeof text, "pwrite %ld\n", (long)(to / 1024));
     tell(text);
-    return fails("pwrite", &pwrites) ? -1 : syscall(SYS_pwrite64, file, bytes, size, to);
+    ssize_t moved = share("pwrite", &pwrites, size);
+    return moved < 0 ? -1 : syscall(SYS_pwrite64, file, bytes, moved, to);
 }
 
 int fdatasync(int file) {

@@ -6,7 +6,7 @@ use Rattle.sector_disk.specs.Faults.{FailsAs}
 use Rattle.store_layout.specs.Meaning.{Means}
 use Rattle.desk_slots.specs.declared.error.Error.{Error}
 use Rattle.desk_slots.specs.declared.error.Error.TheVariants.{Fault, Worn}
-use Rattle.desk_slots.specs.Device.{IsSameDevice}
+use Rattle.desk_slots.specs.Device.{IsSameDevice, StaysWithin}
 use Rattle.desk_slots.specs.Errors.{OfCheckpoint}
 use Rattle.desk_journal.specs.Posting.{TurnsAway, IsBroken, IsLast, IsUnusable}
 use Rattle.desk_journal.specs.View.{StoreView, IsDurable}
@@ -36,3 +36,4 @@ module _ {D : Type 0} (d : Ghosts D) where
     pub reopen : IsUnusable answer old new
     pub faults : FailsAs Fault OfCheckpoint answer (d.failures old.disk) (d.failures new.disk)
     pub device : IsSameDevice d old.disk new.disk
+    pub within : StaysWithin d old.disk new.disk

@@ -12,7 +12,7 @@ use Rattle.desktop_definitions.specs.Unread.{StepsUnread}
 use Rattle.desk_slots.specs.declared.error.Error.{Error}
 use Rattle.desk_slots.specs.declared.error.Error.TheVariants.{NoMemory, Fault, MustReopen, Worn}
 use Rattle.store_layout.specs.declared.layout.TheConstants.{JOURNAL_EVENTS, LAST_EPOCH}
-use Rattle.desk_slots.specs.Device.{IsSameDevice}
+use Rattle.desk_slots.specs.Device.{IsSameDevice, StaysWithin}
 use Rattle.desk_slots.specs.Errors.{OfPost}
 use Rattle.store_layout.specs.Meaning.{Means, MeansEither}
 use Rattle.desk_journal.specs.View.{StoreView, IsDurable}
@@ -78,3 +78,4 @@ module _ {D : Type 0} (d : Ghosts D) where
     pub reopen : IsUnusable answer old new
     pub faults : FailsAs Fault OfPost answer (d.failures old.disk) (d.failures new.disk)
     pub device : IsSameDevice d old.disk new.disk
+    pub within : StaysWithin d old.disk new.disk

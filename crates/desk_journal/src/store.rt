@@ -2,9 +2,10 @@
 //!
 //! A clause sees a store as a `StoreView`. What each call promises is said in words, one for an outcome, of
 //! `specs/Opening.antt`, `specs/Posting.antt`, `specs/Checkpointing.antt` and `specs/Looking.antt`.
-ghost use Rattle.std.specs.Prelude.{◌≡◌, ◌<◌, ◌≤◌, ◌↔◌, true, false, Ok, Err, IfOk, IfErr, OnOk, IsErrOf, option_map};
+ghost use Rattle.std.specs.Prelude.{◌≡◌, ◌<◌, ◌≤◌, ◌↔◌, true, false, Ok, Err, None, IfOk, IfErr, OnOk, IsErrOf};
+ghost use Rattle.std.specs.Prelude.{option_map};
 ghost use Rattle.desktop_definitions.specs.Desktop.{empty_desktop, file_of};
-ghost use Rattle.desk_slots.specs.Device.{IsOnlyRead, IsSameDevice, disk_after, outcome};
+ghost use Rattle.desk_slots.specs.Device.{IsOnlyRead, IsSameDevice, StaysWithin, disk_after, outcome};
 ghost use Rattle.desk_slots.specs.Errors.{OfFormat, OfOpen, OfPost, OfLook, OfCheckpoint};
 ghost use Rattle.desk_journal.specs.Looking.{OnlyLooks};
 ghost use Rattle.store_layout.specs.Meaning.{Shows};
@@ -13,8 +14,8 @@ ghost use Rattle.desk_journal.specs.Opening.{IsOpened, IsNoStore};
 ghost use Rattle.desk_journal.specs.Posting.{LeavesEither, IsAcknowledged, IsStarved, IsBroken, IsLast, IsWorn};
 ghost use Rattle.desk_journal.specs.Posting.{IsUnusable, TurnsAway};
 ghost use Rattle.desk_journal.specs.View.{IsDurable};
-ghost use Rattle.desk_slots.specs.Words.{Leaves, now, IsConfined, FailsAs, entries_of, shown_screen};
-ghost use Rattle.desk_slots.specs.Words.{ListsUnread};
+ghost use Rattle.desk_slots.specs.Words.{Leaves, Nowhere, now, IsConfined, FailsAs, entries_of};
+ghost use Rattle.desk_slots.specs.Words.{ListsUnread, shown_screen};
 
 use desk_slots::{Error, LiveDesktop, Place, lay_out, load, record, renew};
 use desktop_definitions::{Entry, Reply};
@@ -92,8 +93,7 @@ impl<D: Disk> Store<D> {
             → Leaves (now (D.trail new)) (Shows (D.size new) 1 0 empty_desktop)) }
         ensures small { IsErrOf (outcome result) Error.TooSmall ↔ (D.size disk < STORE_SECTORS) }
         ensures untouched { IfErr result (λ e. e.0 ≡ Error.TooSmall → e.1 ≡ disk) }
-        ensures within { IsConfined D.size D.honest D.trail (λ n. n < STORE_SECTORS) disk (disk_after
-            (λ new. new) result) }
+        ensures within { StaysWithin D.Disk disk (disk_after (λ new. new) result) }
         ensures faults { FailsAs Error.Fault OfFormat (outcome result) (D.failures disk) (D.failures (disk_after
             (λ new. new) result)) }
     {
@@ -113,11 +113,14 @@ impl<D: Disk> Store<D> {
     /// Errors, each with the disk: `NotAStore` where it has fewer sectors than a store needs, or another label;
     /// `Damaged(n)`, in this order, where no slot is open (sector 1), where the head in sector n stands under an open
     /// gate and isn't one of this layout, where the image that begins in sector n is none, or where the body in sector
-    /// n, under an open gate, begins with no event; `Fault`; `NoMemory`.
+    /// n, under an open gate, begins with no event; `Fault`; `NoMemory`. Memory is taken for the characters and the
+    /// image of the slot in use and for the events of its journal, and for nothing that is read before them: a wrong
+    /// label, closed slots and a bad head are told whatever memory there is.
     pub fn open(alloc: Global, disk: D) -> Result<Store<D>, (Error, D)>
         ensures ok { IfOk result (λ store. IsOpened D.Disk disk store) }
         ensures no_store { IfErr result (λ e. IsNoStore D.Disk disk e.0) }
         ensures any_moment { IsOnlyRead D.Disk disk (disk_after (λ store. store.disk) result) }
+        ensures untouched { IsConfined D.size D.honest D.trail Nowhere disk (disk_after (λ store. store.disk) result) }
         ensures faults { FailsAs Error.Fault OfOpen (outcome result) (D.failures disk) (D.failures (disk_after
             (λ store. store.disk) result)) }
     {
@@ -151,6 +154,7 @@ impl<D: Disk> Store<D> {
         ensures reopen { IsUnusable result self.old self.new }
         ensures faults { FailsAs Error.Fault OfPost result (D.failures self.old.disk) (D.failures self.new.disk) }
         ensures device { IsSameDevice D.Disk self.old.disk self.new.disk }
+        ensures within { StaysWithin D.Disk self.old.disk self.new.disk }
     {
         if self.events >= JOURNAL_EVENTS {
             self.checkpoint()?;
@@ -168,6 +172,7 @@ impl<D: Disk> Store<D> {
         ensures reopen { IsUnusable result self.old self.new }
         ensures faults { FailsAs Error.Fault OfLook result (D.failures self.old.disk) (D.failures self.new.disk) }
         ensures device { IsSameDevice D.Disk self.old.disk self.new.disk }
+        ensures within { StaysWithin D.Disk self.old.disk self.new.disk }
     {
         if self.must_reopen {
             return Err(Error::MustReopen);
@@ -199,6 +204,7 @@ impl<D: Disk> Store<D> {
         ensures reopen { IsUnusable result self.old self.new }
         ensures faults { FailsAs Error.Fault OfCheckpoint result (D.failures self.old.disk) (D.failures self.new.disk) }
         ensures device { IsSameDevice D.Disk self.old.disk self.new.disk }
+        ensures within { StaysWithin D.Disk self.old.disk self.new.disk }
     {
         if self.must_reopen {
             return Err(Error::MustReopen);
@@ -223,10 +229,12 @@ impl<D: Disk> Store<D> {
 
     /// The characters of the file of that name, each a byte and its look; None where there is none.
     ///
-    /// Errors: `MustReopen`; `NoMemory`; `Fault`.
+    /// Errors: `MustReopen`; `NoMemory`, only where there is such a file; `Fault`.
     pub fn file(&mut self, alloc: Global, name: &Name) -> Result<Option<Vec<(u8, Look)>>, Error>
         ensures found { IfOk result (λ file. D.honest self.old.disk
             → option_map (λ characters. characters.items) file ≡ file_of self.old.desktop name.now) }
+        ensures memory { IsErrOf result Error.NoMemory → D.honest self.old.disk
+            → ¬ (file_of self.old.desktop name.now ≡ None) }
         ensures looks { OnlyLooks D.Disk result self.old self.new }
     {
         if self.must_reopen {

@@ -1,7 +1,9 @@
 -- What a call leaves of the disk that a store stands on. `d` is what is known of a disk: size, trail, failures, honest.
-use Rattle.std.specs.Prelude.{◌≡◌, Result, Ok, Err}
+use Rattle.std.specs.Prelude.{◌≡◌, ◌<◌, Result, Ok, Err}
 use Rattle.sector_disk.specs.declared.disk.Disk.{Ghosts}
 use Rattle.sector_disk.specs.Trail.{Trail, now, IsImage, LeavesOnly}
+use Rattle.sector_disk.specs.Confined.{IsConfined}
+use Rattle.store_layout.specs.declared.layout.TheConstants.{STORE_SECTORS}
 use Rattle.desk_slots.specs.declared.error.Error.{Error}
 
 -- at no moment is there an image that wasn't there before: nothing was written
@@ -13,6 +15,10 @@ pub record IsSameDevice {D : Type 0} (d : Ghosts D) (old new : D) : Type 0 where
   pub as_large : d.size new ≡ d.size old
   pub still : d.honest old → d.honest new
   pub already : d.honest new → d.honest old
+
+-- the same device, and where it is honest no sector but those of a store was touched at any moment
+abbrev pub StaysWithin : {D : Type 0} → Ghosts D → D → D → Type 0
+StaysWithin d old new = IsConfined d.size d.honest d.trail (λ n. n < STORE_SECTORS) old new
 
 -- only reads: the same device, to which nothing was written
 pub record IsOnlyRead {D : Type 0} (d : Ghosts D) (old new : D) : Type 0 where

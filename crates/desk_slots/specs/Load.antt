@@ -74,6 +74,10 @@ pub record IsLocated (size : ℕ) (c : Content) (slot : ℕ) (h : Head) : Type 0
   pub used : IsInUse c slot
   pub is : head c slot ≡ h
 
+-- a store of this size has a slot in use: its label is right, and each head under an open gate is good
+abbrev pub HasSlotInUse : ℕ → Content → Type 0
+HasSlotInUse size c = (slot : ℕ) × (h : Head) × IsLocated size c slot h
+
 -- of two slots, each with its head where it is open, the one in use
 abbrev pub IsChosen : Option Head → Option Head → Option (ℕ × Head) → Type 0
 IsChosen None None chosen = chosen ≡ None

@@ -11,7 +11,7 @@ ghost use Rattle.desk_image.specs.Image.{image_of, image_bytes, IsSpellable};
 ghost use Rattle.store_layout.specs.Layout.{slot_gate, image_at, area_at};
 ghost use Rattle.store_layout.specs.Meaning.{Means, full_sectors, left_over};
 ghost use Rattle.store_layout.specs.Kept.{OpenGate, InArea, InCheckpoint, HasFront};
-ghost use Rattle.desk_slots.specs.Device.{IsSameDevice};
+ghost use Rattle.desk_slots.specs.Device.{IsSameDevice, StaysWithin};
 ghost use Rattle.desk_slots.specs.Live.{shown, IsLive};
 ghost use Rattle.desk_slots.specs.Written.{HasGate, IsFilled, IsBeside, IsInPlace};
 ghost use Rattle.desk_slots.specs.Words.{LeavesOnly, Only, CountsFault, now, IsConfined};
@@ -201,6 +201,7 @@ pub fn renew<D: Disk>(disk: &mut D, desktop: &LiveDesktop, place: Place) -> Resu
     requires over { IsLive desktop.now }
     requires saved { SECTOR_BYTES * place.saved ≤ length desktop.now.characters }
     ensures device { IsSameDevice D.Disk disk.old disk.new }
+    ensures within { StaysWithin D.Disk disk.old disk.new }
     ensures cause { CountsFault result (D.failures disk.old) (D.failures disk.new) }
     ensures any_moment { D.honest disk.old → (live number count : ℕ) → IsBeside place (D.size disk.old)
         (D.trail disk.old) live number count desktop.now.characters (shown desktop.now)

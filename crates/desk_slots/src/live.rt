@@ -1,5 +1,5 @@
 //! The desktop that a store has in memory, with its characters.
-ghost use Rattle.std.specs.Prelude.{◌≡◌, ◌≤◌, ◌++◌, ℕ, Ok, IfOk, OnOk, option_map, length};
+ghost use Rattle.std.specs.Prelude.{◌≡◌, ◌≤◌, ◌++◌, ℕ, Ok, IfOk, OnOk, IsErrOf, None, option_map, length};
 ghost use Rattle.desktop_definitions.specs.Desktop.{file_of};
 ghost use Rattle.desktop_definitions.specs.Sound.{Grows, IsOver};
 ghost use Rattle.desk_image.specs.Image.{image_of, image_bytes, IsSpellable};
@@ -96,6 +96,8 @@ impl LiveDesktop {
         requires { IsLive self.old }
         ensures found { IfOk result (λ file. D.honest disk.old
             → option_map (λ characters. characters.items) file ≡ file_of (shown self.old) name.now) }
+        ensures memory { IsErrOf result Error.NoMemory → D.honest disk.old
+            → ¬ (file_of (shown self.old) name.now ≡ None) }
         ensures same { StaysLive (D.honest disk.old) self.old self.new }
         ensures disk { IsConfined D.size D.honest D.trail Nowhere disk.old disk.new }
         ensures faults { FailsAs Error.Fault OfDesktop result (D.failures disk.old) (D.failures disk.new) }

@@ -10,7 +10,7 @@ ghost use Rattle.store_layout.specs.Meaning.{Shows};
 ghost use Rattle.store_layout.specs.Kept.{IsKept, IsFront};
 ghost use Rattle.desk_slots.specs.Errors.{OfOpen, OfReplay};
 ghost use Rattle.desk_slots.specs.Live.{shown, IsLive};
-ghost use Rattle.desk_slots.specs.Load.{IsReadWhole};
+ghost use Rattle.desk_slots.specs.Load.{HasSlotInUse, IsReadWhole};
 ghost use Rattle.desk_slots.specs.Words.{Nowhere, now, IsConfined, FailsAs, OneOf};
 
 use crate::Error;
@@ -117,6 +117,9 @@ pub fn load<D: Disk>(alloc: Global, disk: &mut D) -> Result<Loaded, Error>
         → IsForeign (D.size disk.old) (now (D.trail disk.old)).reads }
     ensures damaged { (n : ℕ) → IsErrOf result (Error.Damaged n) → D.honest disk.old
         → IsDamagedAt (D.size disk.old) (now (D.trail disk.old)).reads n }
+    // Label, gates and heads are read before any memory is taken.
+    ensures memory { IsErrOf result Error.NoMemory → D.honest disk.old
+        → HasSlotInUse (D.size disk.old) (now (D.trail disk.old)).reads }
 {
     let (slot, head) = locate(disk)?;
     let mut desktop = load_slot(alloc, disk, slot, &head)?;

@@ -4,7 +4,7 @@ ghost use Rattle.desktop_definitions.specs.Desktop.{Desktop};
 ghost use Rattle.store_layout.specs.Layout.{is_open, gate, body};
 ghost use Rattle.store_layout.specs.Meaning.{Means, MeansEither};
 ghost use Rattle.store_layout.specs.Kept.{NextRecord, IsKept, IsFront};
-ghost use Rattle.desk_slots.specs.Device.{IsSameDevice};
+ghost use Rattle.desk_slots.specs.Device.{IsSameDevice, StaysWithin};
 ghost use Rattle.desk_slots.specs.Errors.{OfDesktop};
 ghost use Rattle.desk_slots.specs.Live.{shown, IsLive};
 ghost use Rattle.desk_slots.specs.Words.{LeavesOnly, Only, CountsFault, now, IsConfined, FailsAs, No, IsReply, step};
@@ -74,6 +74,7 @@ fn add_record<D: Disk>(disk: &mut D, slot: u32, k: u32, event: &Event) -> Result
     requires two { slot < SLOTS }
     requires index { k < JOURNAL_EVENTS }
     ensures device { IsSameDevice D.Disk disk.old disk.new }
+    ensures within { StaysWithin D.Disk disk.old disk.new }
     ensures cause { CountsFault result (D.failures disk.old) (D.failures disk.new) }
     ensures any_moment { D.honest disk.old → (number : ℕ) (desktop : Desktop)
         → IsKept (D.size disk.old) (D.trail disk.old) slot number k desktop
@@ -127,6 +128,7 @@ pub fn record<D: Disk>(
         → IsFront (now (D.trail disk.new)).reads slot saved desktop.new.characters) }
     ensures longer { OnOk result (length desktop.old.characters ≤ length desktop.new.characters) }
     ensures device { IsSameDevice D.Disk disk.old disk.new }
+    ensures within { StaysWithin D.Disk disk.old disk.new }
     ensures faults { FailsAs Error.Fault OfDesktop result (D.failures disk.old) (D.failures disk.new) }
 {
     let reply = desktop.step(alloc, event, disk)?;

@@ -1,23 +1,28 @@
 -- Calls that were all answered Ok, and then the store opened again.
-use Rattle.std.proofs.Common.{◌≡◌, inl, inr, ℕ, ◌+◌, ◌<◌, List, [], ◌∷◌, ◌++◌, length, take, drop, get_or, Ok}
+use Rattle.std.proofs.Common.{◌≡◌, inl, inr, ℕ, ◌+◌, ◌<◌, List, [], ◌∷◌, ◌++◌, length, take, drop, get_or, Ok, Err}
 use Rattle.std.proofs.Common.{length-append, refl, sym, ◌∙◌, ap, subst, arith, Bool, false}
-use Rattle.std.specs.Prelude.{if◌then◌else◌}
+use Rattle.std.specs.Prelude.{if◌then◌else◌, Result, IfErr}
 use Rattle.std.proofs.lemmas.Bool.{cases_lt, lt-ltb, le-ltb}
 use Rattle.std.proofs.lemmas.List.{take_more, take_at, take-append-drop}
 use Rattle.sector_disk.specs.declared.disk.Disk.{Ghosts}
-use Rattle.sector_disk.specs.Trail.{Content, Trail, LeavesOnly}
-use Rattle.sector_disk.proofs.Touching.{weakened, chained, at_last}
+use Rattle.sector_disk.specs.Trail.{Content, Trail, LeavesOnly, now}
+use Rattle.sector_disk.proofs.Touching.{weakened, chained, at_last, read_is_an_image}
 use Rattle.event_bytes.specs.declared.event.Event.{Event}
 use Rattle.desktop_definitions.specs.declared.reply.Reply.{Reply}
 use Rattle.desktop_definitions.specs.Desktop.{Desktop}
 use Rattle.desktop_definitions.specs.Step.{step, steps}
 use Rattle.store_layout.specs.declared.layout.TheConstants.{JOURNAL_EVENTS}
+use Rattle.store_layout.specs.Bits.{clash}
+use Rattle.store_layout.specs.Finding.{FindingLaw, FindsOneThing}
 use Rattle.store_layout.specs.Meaning.{Means}
 use Rattle.store_runs.specs.declared.call.Call.{Call}
 use Rattle.store_runs.specs.declared.call.Call.TheVariants.{Post as Posting, Checkpoint}
-use Rattle.desk_journal.specs.Device.{WritesNothing, IsSameDevice}
+use Rattle.desk_journal.specs.Device.{WritesNothing, IsSameDevice, outcome}
+use Rattle.desk_journal.specs.Errors.{Error, NoMemory, Fault, NotAStore, Damaged, OfOpen}
+use Rattle.desk_journal.specs.Opening.{IsNoStore}
 use Rattle.desk_journal.specs.Posting.{IsAcknowledged}
-use Rattle.store_runs.specs.Run.{Answer, Serves, MeansSome, events_in, counted, all_counted}
+use Rattle.desk_journal.proofs.Passing.{shows_means}
+use Rattle.store_runs.specs.Run.{Answer, Serves, StopsAReopening, MeansSome, events_in, counted, all_counted}
 use Rattle.desk_journal.specs.View.{StoreView, IsDurable}
 
 -- the same device, call after call
@@ -146,3 +151,47 @@ module _ (size : ℕ) (first : Desktop) (calls : List Call) where
   -- and then only reads
   pub then_read : (old mid new : Trail) → LeavesOnly old mid Some → WritesNothing mid new → LeavesOnly old new Some
   then_read old mid new before run = chained before (weakened run (λ c image. at_last before c image))
+
+-- ---- why it stops, over an honest disk
+
+-- a call of a store in use stops for want of memory, by a fault, or since it is worn
+pub call_stops : {D : Type 0} (d : Ghosts D) (call : Call) (e : Error) (old new : StoreView D)
+    → old.must_reopen ≡ false → Serves d call (Err e) old new → StopsAReopening e
+call_stops d (Posting event) e old new usable p = elim p.faults.errors [
+  | inl none ↦ inl none
+  | inr (inl failed) ↦ inr (inl failed)
+  | inr (inr (inl closed)) ↦ absurd (clash (p.reopen.only (ap Err closed)) usable)
+  | inr (inr (inr worn)) ↦ inr (inr worn)
+]
+call_stops d Checkpoint e old new usable p = elim p.0.faults.errors [
+  | inl failed ↦ inr (inl failed)
+  | inr (inl closed) ↦ absurd (clash (p.0.reopen.only (ap Err closed)) usable)
+  | inr (inr worn) ↦ inr (inr worn)
+]
+
+-- what was closed is found again: opening it stops for want of memory or by a fault
+module _ {D : Type 0} (d : Ghosts D) (closed : StoreView D) (law : FindingLaw) (honest : d.honest closed.disk)
+    (durable : IsDurable d closed) where
+  abbrev there : Content
+  there = (now (d.trail closed.disk)).reads
+
+  one_thing : FindsOneThing (d.size closed.disk) there
+  one_thing = law (d.size closed.disk) there
+
+  meant : Means (d.size closed.disk) closed.desktop there
+  meant = shows_means (d.size closed.disk) closed.epoch closed.events closed.desktop there
+      (durable honest there (read_is_an_image (now (d.trail closed.disk))))
+
+  pub opening_stops : (e : Error) → OfOpen e → IsNoStore d closed.disk e → StopsAReopening e
+  opening_stops e (inl (inl none)) wrong = inl none
+  opening_stops e (inl (inr (inl failed))) wrong = inr (inl failed)
+  opening_stops e (inl (inr (inr foreign))) wrong =
+      absurd (one_thing.not_foreign closed.desktop meant (wrong.foreign foreign honest))
+  opening_stops e (inr (n, damaged)) wrong =
+      absurd (one_thing.not_damaged closed.desktop n meant (wrong.damaged n damaged honest))
+
+  pub result_stops : {A : Type 0} (disk : D) → disk ≡ closed.disk → (r : Result A (Error × D))
+      → IfErr r (λ e. IsNoStore d disk e.0) → IfErr (outcome r) OfOpen → IfErr r (λ e. StopsAReopening e.0)
+  result_stops disk is (Ok opened) wrong named = tt
+  result_stops disk is (Err e) wrong named =
+      opening_stops e.0 named (subst (λ old. IsNoStore d old e.0) is wrong)

@@ -13,6 +13,7 @@ use Rattle.store_layout.specs.declared.layout.TheConstants.{JOURNAL_EVENTS}
 use Rattle.store_layout.specs.Meaning.{Means}
 use Rattle.store_runs.specs.declared.call.Call.{Call}
 use Rattle.store_runs.specs.declared.call.Call.TheVariants.{Post as Posting, Checkpoint}
+use Rattle.sector_disk.specs.Faults.{OneOf}
 use Rattle.desk_journal.specs.Errors.{Error}
 use Rattle.desk_journal.specs.Errors.{NoMemory, Fault, MustReopen}
 use Rattle.desk_journal.specs.Errors.{NotAStore, Damaged, TooSmall, Worn}
@@ -155,6 +156,10 @@ pub record MeansSome (size : ℕ) (desktop : Desktop) (events : List Event) (c :
   pub count : ℕ
   pub within : count ≤ length events
   pub means : Means size (steps desktop (take count events)) c
+
+-- why calls and an opening stop over an honest disk: what they leave is a store, and opening finds it
+abbrev pub StopsAReopening : Error → Type 0
+StopsAReopening = OneOf (NoMemory ∷ Fault ∷ Worn ∷ [])
 
 -- the store that was opened after all the calls: nothing is lost
 pub record IsReopened {D : Type 0} (d : Ghosts D) (calls : List Call) (closed reopened : StoreView D) : Type 0 where

@@ -1,14 +1,15 @@
 //! Runs of calls.
-ghost use Rattle.std.specs.Prelude.{◌≡◌, false, length, IfOk, IsErr};
+ghost use Rattle.std.specs.Prelude.{◌≡◌, false, length, IfOk, IfErr, IsErr};
 ghost use Rattle.sector_disk.specs.Trail.{LeavesOnly};
 ghost use Rattle.sector_disk.specs.Faults.{FailsAs};
 ghost use Rattle.desk_journal.specs.Device.{IsSameDevice, disk_after, outcome};
 ghost use Rattle.desk_journal.specs.Errors.{OfReopen};
 ghost use Rattle.store_runs.specs.Run.{IsRun, SurvivesRun, Serves, MeansSome, IsReopened, served_of, events_in};
+ghost use Rattle.store_runs.specs.Run.{StopsAReopening};
 
 use crate::call::{Answer, Call};
 use crate::laws::{reopening_law, runs_survive};
-use desk_journal::{Error, Store};
+use desk_journal::{Error, Store, finding_law};
 use desktop_definitions::Reply;
 use sector_disk::{Disk, NoMemory};
 use std::alloc::Global;
@@ -58,7 +59,8 @@ pub fn serve_all<D: Disk>(
 
 /// Makes the calls in order up to the first that is refused, closes the store and opens it again.
 ///
-/// Errors, each with the disk: those of `post`, `checkpoint` and `open`.
+/// Errors, each with the disk: those of `post`, `checkpoint` and `open`, but over an honest disk `NoMemory`, `Fault`
+/// and `Worn` alone: the store that was closed is found again, and is never told as damaged or as none.
 pub fn serve_and_reopen<D: Disk>(
     alloc: Global,
     store: Store<D>,
@@ -70,6 +72,7 @@ pub fn serve_and_reopen<D: Disk>(
     ensures any_moment { D.honest store.disk
         → LeavesOnly (D.trail store.disk) (D.trail (disk_after (λ reopened. reopened.disk) result))
         (MeansSome (D.size store.disk) store.desktop (events_in calls.now)) }
+    ensures stops { D.honest store.disk → IfErr result (λ e. StopsAReopening e.0) }
     ensures device { IsSameDevice D.Disk store.disk (disk_after (λ reopened. reopened.disk) result) }
     ensures faults { FailsAs Error.Fault OfReopen (outcome result) (D.failures store.disk) (D.failures (disk_after
         (λ reopened. reopened.disk) result)) }
@@ -83,5 +86,6 @@ pub fn serve_and_reopen<D: Disk>(
         }
     }
     reopening_law::<D>();
+    finding_law();
     Store::open(alloc, store.close())
 }

@@ -8,7 +8,7 @@ use Rattle.desk_journal.proofs.Passing.{at_start, shows_means}
 use Rattle.desk_journal.specs.Opening.{IsOpened}
 use Rattle.store_runs.specs.Run.{MeansSome, events_in, all_counted}
 use Rattle.store_runs.proofs.Reopening.{same_device, went_on, counts_next, desktop_next}
-use Rattle.store_runs.proofs.Reopening.{after_some, call_more, then_read}
+use Rattle.store_runs.proofs.Reopening.{after_some, call_more, then_read, call_stops, result_stops}
 use Rattle.store_runs.proofs.run.serve_and_reopen.Goals as goal
 
 pub loop-call-init : goal.loop-call-init
@@ -69,6 +69,11 @@ returns-in-Err-clause-any_moment g c = λ h.
     (g.D.Disk.trail first.disk) old c.serve.new.store c.loop-call-test.true c.call-item.is i.usable
     (i.device.still h) i.device.as_large (i.so_far h) (i.images h) c.serve.ensures)
 
+pub returns-in-Err-clause-stops : goal.returns-in-Err-clause-stops
+returns-in-Err-clause-stops g c = λ h.
+    call_stops g.D.Disk c.call-item.result c.in-Err.error c.loop-call.store c.serve.new.store
+    c.loop-call.invariant.usable c.in-Err.ensures
+
 pub returns-clause-ok : goal.returns-clause-ok
 returns-clause-ok g c = IfOk-weaker c.open.result _ _ (λ reopened found.
     let i = c.loop-call.invariant in
@@ -100,3 +105,9 @@ returns-clause-any_moment g c = λ h.
     (λ disk. IsOnlyRead g.D.Disk disk last) c.close-2.ensures c.open.ensures.any_moment in
     then_read (g.D.Disk.size first.disk) first.desktop c.args.calls.now (g.D.Disk.trail first.disk)
     (g.D.Disk.trail store.disk) (g.D.Disk.trail last) (i.images h) (read.unwritten (i.device.still h))
+
+pub returns-clause-stops : goal.returns-clause-stops
+returns-clause-stops g c = λ h.
+    let i = c.loop-call.invariant in
+    result_stops g.D.Disk c.loop-call.store c.finding_law.ensures (i.device.still h) i.durable c.close-2.result
+    c.close-2.ensures c.open.result c.open.ensures.no_store c.open.ensures.faults.errors
