@@ -10,8 +10,8 @@ abbrev pub invariant-loop-line : goal.invariant-loop-line
 invariant-loop-line g l = record {
   played : HasPlayed (g.D.Disk.honest l.fn.store.disk) (Ran g.D.Disk l.fn.store l.store)
       (session_of l.fn.store) (session_of l.store)
-      (g.R.ScriptReader.remaining l.fn.reader) (g.R.ScriptReader.remaining l.reader) (g.W.AnswerWriter.contents l.fn.writer)
-      (g.W.AnswerWriter.contents l.writer) l.fn.reads l.script;
+      (g.R.ScriptReader.remaining l.fn.reader) (g.R.ScriptReader.remaining l.reader)
+      (g.W.AnswerWriter.contents l.fn.writer) (g.W.AnswerWriter.contents l.writer) l.fn.reads l.script;
   usable : l.store.must_reopen ≡ false;
   started : IsDurable g.D.Disk l.fn.store;
   durable : IsDurable g.D.Disk l.store;
