@@ -1,6 +1,6 @@
 //! Stores in memory, by the scripts that are played over them.
 
-use oberon_main::{STORE_SECTORS, Store, play, refuse};
+use oberon_main::{CountedReader, CountedWriter, STORE_SECTORS, Store, play, refuse};
 use sector_disk::{Disk, Fuse, MemoryDisk};
 use std::alloc::{AllocError, Global};
 
@@ -9,14 +9,14 @@ const LOOKS: &[u8] = b"list\nshow System.Tool\nshow A.Text\nshow B.Text\nshow C.
 
 /// Opens the store on a disk and plays a script over it, or says why there is none. The disk, once the store is closed.
 pub fn played<D: Disk + Drop>(alloc: Global, disk: D, script: &[u8], said: &mut Vec<u8>) -> D {
+    let mut writer = CountedWriter::new(said);
     match Store::open(alloc, disk) {
         Err((error, disk)) => {
-            refuse(said, &error);
+            refuse(&mut writer, &error);
             disk
         }
         Ok(mut store) => {
-            let mut script = script;
-            play(alloc, &mut script, said, &mut store);
+            play(alloc, &mut CountedReader::new(script), &mut writer, &mut store);
             store.close()
         }
     }

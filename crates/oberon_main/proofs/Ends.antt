@@ -17,6 +17,26 @@ pub record IsRefusal (error : Error) (failed failed' : ℕ) : Type 0 where
   pub rose : error ≡ Fault → failed < failed'
   pub calm : ¬ error ≡ Fault → failed' ≡ failed
 
+another_end : ends.Fault ≡ ends.Memory → ⊥
+another_end is = cc
+
+-- want of memory is told for nothing else
+memory_alone : (error : Error) → end_of error ≡ ends.Memory → error ≡ NoMemory
+memory_alone NoMemory is = refl
+memory_alone Fault is = absurd (another_end is)
+memory_alone MustReopen is = absurd (another_end is)
+memory_alone NotAStore is = absurd (another_end is)
+memory_alone (Damaged sector) is = absurd (another_end is)
+memory_alone TooSmall is = absurd (another_end is)
+memory_alone Worn is = absurd (another_end is)
+
+pub only_memory : (error : Error) (result : Result Answer PlayEnd)
+    → IfErr result (λ end. (error ≢ Worn) × (end ≡ end_of error)) → result ≡ Err ends.Memory → error ≡ NoMemory
+only_memory error result other is =
+    let why : IfErr {T = Answer} (Err ends.Memory) (λ end. (error ≢ Worn) × (end ≡ end_of error)) =
+    subst (λ r. IfErr r (λ end. (error ≢ Worn) × (end ≡ end_of error))) is other in
+    memory_alone error (sym why.1)
+
 another_error : (error : Error) → (error ≡ NoMemory → ⊥) → (error ≡ Fault → ⊥) → (error ≡ NoMemory) ⊎ (error ≡ Fault)
     → ⊥
 another_error error memory fault (inl is) = memory is

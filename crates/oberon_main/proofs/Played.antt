@@ -350,7 +350,7 @@ stopped_in_line Honest end before now now' failed failed'
 
 -- ---- the end of the script
 
-begins_rest : (script : List ℕ) (lines : List (List ℕ)) (rest : List ℕ) → IsSplit script lines rest → rest ≢ []
+pub begins_rest : (script : List ℕ) (lines : List (List ℕ)) (rest : List ℕ) → IsSplit script lines rest → rest ≢ []
     → BeginsWith script (lines ++ rest ∷ [])
 begins_rest script lines rest split there = record {
   ends = lines;
@@ -399,7 +399,7 @@ rest_ends Output script left before now now' failed failed' held held' held'' li
     (begins_rest script lines rest split last.there) written session counts last.why
 
 -- all that came, with a rest after the last line feed
-split_rest : (read read' pending rest : List ℕ) (lines : List (List ℕ)) → read ≡ flat_map ended lines ++ pending
+pub split_rest : (read read' pending rest : List ℕ) (lines : List (List ℕ)) → read ≡ flat_map ended lines ++ pending
     → pending ++ read' ≡ rest
     → read ++ read' ≡ flat_map ended lines ++ rest
 split_rest read read' pending rest lines before now = ap (λ l. l ++ read') before
@@ -431,15 +431,6 @@ ended_with_rest Honest end before now now' failed failed'
     rest_ends end script left'' before now now' failed failed' held held' held'' so_far.lines taken.rest
     (split_with_rest script so_far taken at_end)
     (so_far.written honest) (so_far.session honest) counts (last honest taken.rest taken.holds)
-
-pub begins_before_rest : {Honest : Type 0} {Known : List (List ℕ) → Type 0} {before now : Session}
-    {left' left'' held held' : Option (List ℕ)} {most : ℕ} {old new : Unplayed} {line : Line} (script : List ℕ)
-    → (so_far : HasPlayed Honest Known before now (Some script) left' held held' most old)
-    → TakesRest old new left' left'' line → BeginsWith script so_far.lines
-begins_before_rest {left' = left'} {left'' = left''} {old = old} script so_far taken =
-    begins_read script left'' (so_far.read ++ taken.read) taken.rest so_far.lines
-    (Consumes-trans (Some script) left' left'' so_far.read taken.read so_far.came taken.came) so_far.each
-    (split_rest so_far.read taken.read old.pending taken.rest so_far.lines so_far.parts taken.parts)
 
 pub cut_off : (Honest : Type 0) {Known : List (List ℕ) → Type 0} (before now : Session) (failed failed' : ℕ)
     (left left' left'' held held' : Option (List ℕ)) (most : ℕ) (old new : Unplayed) (line : Line)

@@ -1,20 +1,16 @@
--- What a crash leaves of lines that are played, one after another.
-use Rattle.std.proofs.Common.{◌≡◌, ◌≢◌, inl, inr, ℕ, ◌+◌, ◌≤◌, Bool, true, false, List, [], ◌∷◌, ◌++◌, length, take}
-use Rattle.std.proofs.Common.{Option, None, Some, IfSome, refl, sym, ◌∙◌, ap, subst, arith}
-use Rattle.std.proofs.Common.{length-append, append_assoc, append-nil}
+-- What a crash leaves of lines that are served, one after another, in events.
+use Rattle.std.proofs.Common.{◌≡◌, inl, inr, ℕ, ◌+◌, ◌≤◌, Bool, true, false, List, [], ◌∷◌, ◌++◌, length, take}
+use Rattle.std.proofs.Common.{refl, sym, ◌∙◌, ap, subst, arith, length-append, append_assoc}
 use Rattle.std.specs.Prelude.{if◌then◌else◌}
 use Rattle.std.proofs.lemmas.Bool.{cond-true, cond-false}
 use Rattle.std.proofs.lemmas.List.{take-append-le}
 use Rattle.std.proofs.Math.Seq.{take-length, take-append-add}
-use Rattle.std.specs.Io.KnownBytes.{Appends, Keeps, IsAtEnd}
-use Rattle.std.proofs.KnownBytes.{Appends-nil, Appends-trans, Appends-kept}
 use Rattle.sector_disk.specs.declared.disk.Disk.{Ghosts}
 use Rattle.sector_disk.specs.Trail.{Content, now, Leaves, LeavesOnly}
 use Rattle.sector_disk.proofs.Touching.{weakened, chained, at_last}
 use Rattle.event_bytes.specs.declared.event.Event.{Event}
 use Rattle.desktop_definitions.specs.Desktop.{Desktop}
 use Rattle.desktop_definitions.specs.Step.{step, steps}
-use Rattle.screen_cells.specs.Sent.{AppendsFront}
 use Rattle.store_layout.specs.Bits.{true_or_false}
 use Rattle.store_layout.specs.Meaning.{Means, MeansEither}
 use Rattle.store_layout.specs.declared.layout.TheConstants.{JOURNAL_EVENTS}
@@ -23,22 +19,13 @@ use Rattle.desk_journal.specs.Device.{IsOnlyRead, IsSameDevice}
 use Rattle.desk_journal.specs.Posting.{LeavesEither, TurnsAway, IsLast}
 use Rattle.desk_journal.specs.View.{StoreView, IsDurable}
 use Rattle.desk_journal.proofs.Passing.{at_start, shows_means}
-use Rattle.script_lines.specs.declared.line.Line.{Line}
-use Rattle.oberon_main.specs.declared.playing.PlayEnd.{PlayEnd}
-use Rattle.oberon_main.specs.declared.playing.PlayEnd.TheVariants.{Done, Fault, Memory, Input, Output}
 use Rattle.script_lines.specs.declared.request.Request.{Request}
 use Rattle.script_lines.specs.declared.request.Request.TheVariants.{Post, Checkpoint, Show, Listing, Display, Malformed}
-use Rattle.script_lines.specs.Script.{BeginsWith, lines_at_end}
 use Rattle.script_lines.specs.Request.{request_of}
-use Rattle.script_lines.specs.Reading.{Holds, Unplayed, TakesLine, TakesRest}
-use Rattle.oberon_main.specs.Worked.{IsWorkEnd}
-use Rattle.oberon_main.specs.Session.{Session, is_full, is_last, is_worn, renewed, stepped, after, out, after_all}
+use Rattle.oberon_main.specs.Session.{Session, is_full, is_last, is_worn, renewed, stepped, after, after_all}
 use Rattle.oberon_main.specs.Opened.{session_of}
-use Rattle.oberon_main.specs.Play.{LineEndsAs, RestEndsAs, last_word}
-use Rattle.oberon_main.specs.Surviving.{posted, accepted, LinesAreSteps, MeansPrefix, KeepsAnswered, Withstands}
-use Rattle.oberon_main.specs.Surviving.{answered_at, LineSurvives, Outlives, TakesAnswers, TakesAll, Survives}
-use Rattle.oberon_main.proofs.Played.{HasPlayed, out_both, out_one, last_line, lines_then}
-use Rattle.oberon_main.proofs.Played.{begins_with_line, begins_before_rest, split_with_rest}
+use Rattle.oberon_main.specs.Surviving.{posted, accepted, LinesAreSteps, MeansPrefix, KeepsAnswered, Withstands, Spares}
+use Rattle.oberon_main.specs.ByLines.{Lasts, LeavesLine, Serves}
 use Rattle.oberon_main.proofs.Sessions.{worn_parts}
 
 -- ---- the events of lines
@@ -182,16 +169,21 @@ prefix_behind size s lines answered more c p =
 -- ---- one line
 
 module _ {D : Type 0} (d : Ghosts D) where
+  -- where a crash leaves what the store shows, it leaves its desktop
+  pub lasting_means : (store : StoreView D) → Lasts d store
+      → Leaves (now (d.trail store.disk)) (Means (d.size store.disk) store.desktop)
+  lasting_means store lasts c image = shows_means (d.size store.disk) store.epoch store.events store.desktop c
+      (lasts c image)
+
   -- a durable store means its desktop
   pub durable_means : (store : StoreView D) → IsDurable d store → d.honest store.disk
       → Leaves (now (d.trail store.disk)) (Means (d.size store.disk) store.desktop)
-  durable_means store durable honest c image = shows_means (d.size store.disk) store.epoch store.events
-      store.desktop c (durable honest c image)
+  durable_means store durable honest = lasting_means store (durable honest)
 
   -- no line at all
-  pub no_line : (store : StoreView D) → IsDurable d store → d.honest store.disk → KeepsAnswered d [] [] store store
-  no_line store durable honest =
-      let means = durable_means store durable honest in
+  pub no_line : (store : StoreView D) → Lasts d store → KeepsAnswered d [] [] store store
+  no_line store lasts =
+      let means = lasting_means store lasts in
       let prefix : Leaves (now (d.trail store.disk)) (MeansPrefix (d.size store.disk) (session_of store) [] [])
       = λ c image. no_prefix (d.size store.disk) (session_of store) [] c (means c image) in
       record {
@@ -199,30 +191,32 @@ module _ {D : Type 0} (d : Ghosts D) where
         at_last = prefix;
       }
 
-  module _ (old new : StoreView D) (line : List ℕ) (moments : LeavesOnly (d.trail old.disk) (d.trail new.disk)
-      (MeansEither (d.size old.disk) old.desktop (after (session_of old) (request_of line)).desktop)) where
-    line_moments : LeavesOnly (d.trail old.disk) (d.trail new.disk)
-        (MeansPrefix (d.size old.disk) (session_of old) [] (line ∷ []))
-    line_moments = weakened moments (λ c either. elim either [
-      | inl means ↦ no_prefix (d.size old.disk) (session_of old) (line ∷ []) c means
-      | inr means ↦ fewer_answered (d.size old.disk) (session_of old) (line ∷ []) (line ∷ []) c
-          (whole_prefix (d.size old.disk) (session_of old) (line ∷ []) c means)
-    ])
+  line_moments : (old new : StoreView D) (line : List ℕ) → LeavesLine d line old new
+      → LeavesOnly (d.trail old.disk) (d.trail new.disk) (MeansPrefix (d.size old.disk) (session_of old) [] (line ∷ []))
+  line_moments old new line moments = weakened moments (λ c either. elim either [
+    | inl means ↦ no_prefix (d.size old.disk) (session_of old) (line ∷ []) c means
+    | inr means ↦ fewer_answered (d.size old.disk) (session_of old) (line ∷ []) (line ∷ []) c
+        (whole_prefix (d.size old.disk) (session_of old) (line ∷ []) c means)
+  ])
 
-    -- it wasn't answered
-    pub failed_line : KeepsAnswered d [] (line ∷ []) old new
-    failed_line = record { any_moment = line_moments; at_last = at_last line_moments }
+  -- a line that wasn't answered
+  pub failed_line : (old new : StoreView D) (line : List ℕ) → LeavesLine d line old new
+      → KeepsAnswered d [] (line ∷ []) old new
+  failed_line old new line moments = record {
+    any_moment = line_moments old new line moments;
+    at_last = at_last (line_moments old new line moments);
+  }
 
-    -- it was answered, and the store is durable
-    pub answered_line : d.size new.disk ≡ d.size old.disk → IsDurable d new → d.honest new.disk
-        → session_of new ≡ after (session_of old) (request_of line) → KeepsAnswered d (line ∷ []) (line ∷ []) old new
-    answered_line as_large durable honest session = record {
-      any_moment = line_moments;
-      at_last = λ c image. whole_prefix (d.size old.disk) (session_of old) (line ∷ []) c
-          (subst (λ n. Means n (after (session_of old) (request_of line)).desktop c) as_large
-          (subst (λ (s : Session). Means (d.size new.disk) s.desktop c) session
-          (durable_means new durable honest c image)));
-    }
+  -- a line that was served
+  pub served_line : (old new : StoreView D) (line : List ℕ) → Serves d line old new
+      → KeepsAnswered d (line ∷ []) (line ∷ []) old new
+  served_line old new line serves = record {
+    any_moment = line_moments old new line serves.any_moment;
+    at_last = λ c image. whole_prefix (d.size old.disk) (session_of old) (line ∷ []) c
+        (subst (λ n. Means n (after (session_of old) (request_of line)).desktop c) serves.as_large
+        (subst (λ (s : Session). Means (d.size new.disk) s.desktop c) serves.session
+        (lasting_means new serves.lasts c image)));
+  }
 
   -- ---- lines after lines
 
@@ -245,8 +239,8 @@ module _ {D : Type 0} (d : Ghosts D) where
         at_last = λ c image. seen answered c (following.at_last c image);
       }
 
-  more_lines : (old new : StoreView D) (answered lines more : List (List ℕ)) → KeepsAnswered d answered lines old new
-      → KeepsAnswered d answered (lines ++ more) old new
+  pub more_lines : (old new : StoreView D) (answered lines more : List (List ℕ))
+      → KeepsAnswered d answered lines old new → KeepsAnswered d answered (lines ++ more) old new
   more_lines old new answered lines more kept =
       let size = d.size old.disk in
       let s = session_of old in
@@ -254,141 +248,6 @@ module _ {D : Type 0} (d : Ghosts D) where
         any_moment = weakened kept.any_moment (λ c p. prefix_of_more size s [] lines more c p);
         at_last = λ c image. prefix_of_more size s answered lines more c (kept.at_last c image);
       }
-
-  -- ---- a script
-
-  -- lines that the script begins with were played, and the first of them answered
-  pub script_survives : (Written : List ℕ → Type 0) (script : List ℕ) (old new : StoreView D)
-      (answered lines others : List (List ℕ)) → BeginsWith script lines → lines ≡ answered ++ others
-      → Written (out (session_of old) answered) → KeepsAnswered d answered lines old new
-      → Outlives d Written script old new
-  script_survives Written script old new answered lines others begins parts written kept = record {
-    answered = answered;
-    begins = record {
-      ends = begins.ends;
-      rest = begins.rest;
-      split = begins.split;
-      more = others ++ begins.more;
-      first = begins.first ∙ ap (λ ls. ls ++ begins.more) parts ∙ append_assoc answered others begins.more;
-    };
-    written = written;
-    kept = subst (λ ls. KeepsAnswered d answered ls old new) (sym begins.first)
-        (more_lines old new answered lines begins.more kept);
-  }
-
-  -- what else follows of what was written
-  pub written_on : (Written Wanted : List ℕ → Type 0) (script : List ℕ) (old new : StoreView D)
-      → Outlives d Written script old new → ((text : List ℕ) → Written text → Wanted text)
-      → Outlives d Wanted script old new
-  written_on Written Wanted script old new survives implies = record {
-    answered = survives.answered;
-    begins = survives.begins;
-    written = implies (out (session_of old) survives.answered) survives.written;
-    kept = survives.kept;
-  }
-
--- ---- what was written
-
--- of lines that end so, those that don't count as answered
-abbrev left_at : PlayEnd → List (List ℕ) → List (List ℕ)
-left_at Done lines = []
-left_at Fault lines = lines
-left_at Memory lines = lines
-left_at Input lines = lines
-left_at Output lines = []
-
-parted : (end : PlayEnd) (lines more : List (List ℕ))
-    → lines ++ more ≡ (lines ++ answered_at end more) ++ left_at end more
-parted Done lines more = sym (append-nil (lines ++ more))
-parted Fault lines more = ap (λ ls. ls ++ more) (sym (append-nil lines))
-parted Memory lines more = ap (λ ls. ls ++ more) (sym (append-nil lines))
-parted Input lines more = ap (λ ls. ls ++ more) (sym (append-nil lines))
-parted Output lines more = sym (append-nil (lines ++ more))
-
-none_at : (end : PlayEnd) (lines : List (List ℕ)) → IsWorkEnd end → answered_at end lines ≡ []
-none_at end lines (inl is) = ap (λ e. answered_at e lines) is
-none_at end lines (inr is) = ap (λ e. answered_at e lines) is
-
-whole_front : (held held' held'' : Option (List ℕ)) (x y : List ℕ) → Appends held held' x → Appends held' held'' y
-    → AppendsFront held held'' (x ++ y)
-whole_front held held' held'' x y before following = record {
-  front = x ++ y;
-  back = [];
-  parts = sym (append-nil (x ++ y));
-  taken = Appends-trans held held' held'' x y before following;
-}
-
-front_after : (held held' held'' : Option (List ℕ)) (x y : List ℕ) → Appends held held' x → AppendsFront held' held'' y
-    → AppendsFront held held'' (x ++ y)
-front_after held held' held'' x y all front = record {
-  front = x ++ front.front;
-  back = front.back;
-  parts = ap (λ l. x ++ l) front.parts ∙ sym (append_assoc x front.front front.back);
-  taken = Appends-trans held held' held'' x front.front all front.taken;
-}
-
-pub takes_after : (end : PlayEnd) (held held' held'' : Option (List ℕ)) (x y : List ℕ) → Appends held held' x
-    → TakesAnswers held' held'' end y → TakesAnswers held held'' end (x ++ y)
-takes_after Done held held' held'' x y before following = Appends-trans held held' held'' x y before following
-takes_after Fault held held' held'' x y before following = Appends-trans held held' held'' x y before following
-takes_after Memory held held' held'' x y before following = Appends-trans held held' held'' x y before following
-takes_after Input held held' held'' x y before following = Appends-trans held held' held'' x y before following
-takes_after Output held held' held'' x y before following = front_after held held' held'' x y before following
-
-kept_nothing : (held held' : Option (List ℕ)) → Keeps held held' → Appends held held' []
-kept_nothing held held' keeps = Appends-kept held held held' [] (Appends-nil held) keeps
-
-pub line_takes : (end : PlayEnd) (s : Session) (held held' : Option (List ℕ)) (line : List ℕ)
-    → LineEndsAs end (request_of line) s held held'
-    → TakesAnswers held held' end (out s (answered_at end (line ∷ [])))
-line_takes Done s held held' line why = absurd why
-line_takes Fault s held held' line why = kept_nothing held held' why.0
-line_takes Memory s held held' line why = kept_nothing held held' why.0
-line_takes Input s held held' line why = absurd why
-line_takes Output s held held' line why = subst (AppendsFront held held') (sym (out_one s line)) why
-
-pub rest_takes : (end : PlayEnd) (s after_it : Session) (held held' : Option (List ℕ)) (rest : List ℕ)
-    → RestEndsAs end rest s after_it held held'
-    → TakesAnswers held held' end (out s (answered_at end (lines_at_end [] rest)))
-rest_takes Done s after_it held held' rest last = last.written
-rest_takes Fault s after_it held held' rest last = line_takes Fault s held held' rest last.why
-rest_takes Memory s after_it held held' rest last = line_takes Memory s held held' rest last.why
-rest_takes Input s after_it held held' rest last = absurd last
-rest_takes Output s after_it held held' rest last =
-    subst (λ ls. AppendsFront held held' (out s ls)) (sym (last_line rest last.there))
-    (line_takes Output s held held' rest last.why)
-
--- with the last word, written as a whole or in part
-pub all_taken : (end : PlayEnd) (held held' held'' : Option (List ℕ)) (text : List ℕ) → TakesAnswers held held' end text
-    → Appends held' held'' (last_word end) → TakesAll held held'' text
-all_taken Done held held' held'' text taken said = (Done, whole_front held held' held'' text [] taken said)
-all_taken Fault held held' held'' text taken said =
-    (Fault, whole_front held held' held'' text (last_word Fault) taken said)
-all_taken Memory held held' held'' text taken said =
-    (Memory, whole_front held held' held'' text (last_word Memory) taken said)
-all_taken Input held held' held'' text taken said =
-    (Input, whole_front held held' held'' text (last_word Input) taken said)
-all_taken Output held held' held'' text taken said = (
-  Output,
-  record {
-    front = taken.front;
-    back = taken.back;
-    parts = append-nil text ∙ taken.parts;
-    taken = subst (Appends held held'') (append-nil taken.front)
-        (Appends-trans held held' held'' taken.front [] taken.taken said);
-  },
-)
-
-pub front_taken : (end : PlayEnd) (held held' held'' : Option (List ℕ)) (text : List ℕ) → (end ≡ Output → ⊥)
-    → TakesAnswers held held' end text → AppendsFront held' held'' (last_word end) → TakesAll held held'' text
-front_taken Done held held' held'' text output taken front = (Done, front_after held held' held'' text [] taken front)
-front_taken Fault held held' held'' text output taken front =
-    (Fault, front_after held held' held'' text (last_word Fault) taken front)
-front_taken Memory held held' held'' text output taken front =
-    (Memory, front_after held held' held'' text (last_word Memory) taken front)
-front_taken Input held held' held'' text output taken front =
-    (Input, front_after held held' held'' text (last_word Input) taken front)
-front_taken Output held held' held'' text output taken front = absurd (output refl)
 
 -- ---- one request
 
@@ -408,6 +267,10 @@ module _ {D : Type 0} (d : Ghosts D) where
         (λ c image. inl (durable_means d old durable honest c image));
     as_large = read.device.as_large;
   }
+
+  pub look_spares : (old new : StoreView D) → IsOnlyRead d old.disk new.disk → Spares d old new
+  look_spares old new read durable honest = weakened (read.unwritten honest)
+      (λ c image. durable_means d old durable honest c image)
 
   pub checkpoint_withstands : (old new : StoreView D) → old.must_reopen ≡ false → LeavesDesktop d old new
       → IsSameDevice d old.disk new.disk → Withstands d Checkpoint old new
@@ -432,158 +295,3 @@ module _ {D : Type 0} (d : Ghosts D) where
       as_large = device.as_large;
     }
   ]
-
-  -- ---- one line
-
-  pub line_stopped : (line : Line) (request : Request) (end : PlayEnd) (old new : StoreView D)
-      → ((bytes : List ℕ) → Holds line bytes → request ≡ request_of bytes) → IsWorkEnd end
-      → Withstands d request old new → LineSurvives d line (λ bytes. bytes ∷ []) (answered_at end) old new
-  line_stopped line request end old new asked named withstands durable honest bytes holds =
-      let moments = subst (λ r. LeavesOnly (d.trail old.disk) (d.trail new.disk)
-      (MeansEither (d.size old.disk) old.desktop (after (session_of old) r).desktop)) (asked bytes holds)
-      (withstands.any_moment durable honest) in
-      subst (λ ls. KeepsAnswered d ls (bytes ∷ []) old new) (sym (none_at end (bytes ∷ []) named))
-      (failed_line d old new bytes moments)
-
-  pub line_answered : (line : Line) (request : Request) (old new : StoreView D)
-      → ((bytes : List ℕ) → Holds line bytes → request ≡ request_of bytes)
-      → (d.honest old.disk → session_of new ≡ after (session_of old) request)
-      → IsDurable d new → (d.honest old.disk → d.honest new.disk)
-      → Withstands d request old new → LineSurvives d line (λ bytes. bytes ∷ []) (λ lines. lines) old new
-  line_answered line request old new asked session lasting still withstands durable honest bytes holds =
-      let is = asked bytes holds in
-      let moments = subst (λ r. LeavesOnly (d.trail old.disk) (d.trail new.disk)
-      (MeansEither (d.size old.disk) old.desktop (after (session_of old) r).desktop)) is
-      (withstands.any_moment durable honest) in
-      answered_line d old new bytes moments withstands.as_large lasting (still honest)
-      (session honest ∙ ap (after (session_of old)) is)
-
-  pub rest_survives : (line : Line) (answered_of : List (List ℕ) → List (List ℕ)) (old new : StoreView D)
-      → ((bytes : List ℕ) → Holds line bytes → bytes ≢ [])
-      → LineSurvives d line (λ bytes. bytes ∷ []) answered_of old new
-      → LineSurvives d line (lines_at_end []) answered_of old new
-  rest_survives line answered_of old new there survives durable honest bytes holds =
-      subst (λ ls. KeepsAnswered d (answered_of ls) ls old new) (sym (last_line bytes (there bytes holds)))
-      (survives durable honest bytes holds)
-
-  pub no_rest : (line : Line) (store : StoreView D) → ((bytes : List ℕ) → Holds line bytes → bytes ≡ [])
-      → LineSurvives d line (lines_at_end []) (λ lines. lines) store store
-  no_rest line store none durable honest bytes holds =
-      subst (λ bs. KeepsAnswered d (lines_at_end [] bs) (lines_at_end [] bs) store store)
-      (sym (none bytes holds)) (no_line d store durable honest)
-
--- ---- the loop
-
-module _ {D : Type 0} (d : Ghosts D) (end : PlayEnd) (held held' held'' : Option (List ℕ)) (script : List ℕ)
-    (old mid new : StoreView D) where
-  -- lines were answered, and then the script ended with these
-  part_survives : (lines ls : List (List ℕ)) → BeginsWith script (lines ++ ls) → KeepsAnswered d lines lines old mid
-      → session_of mid ≡ after_all (session_of old) lines → d.size mid.disk ≡ d.size old.disk
-      → Appends held held' (out (session_of old) lines) → KeepsAnswered d (answered_at end ls) ls mid new
-      → TakesAnswers held' held'' end (out (session_of mid) (answered_at end ls))
-      → Outlives d (TakesAnswers held held'' end) script old new
-  part_survives lines ls begins before session as_large written part taken =
-      let last = answered_at end ls in
-      let following : TakesAnswers held' held'' end (out (after_all (session_of old) lines) last) =
-      subst (λ (s : Session). TakesAnswers held' held'' end (out s last)) session taken in
-      script_survives d (TakesAnswers held held'' end) script old new (lines ++ last) (lines ++ ls) (left_at end ls)
-      begins (parted end lines ls)
-      (subst (TakesAnswers held held'' end) (sym (out_both (session_of old) lines last))
-      (takes_after end held held' held'' (out (session_of old) lines) (out (after_all (session_of old) lines) last)
-      written following))
-      (lines_after d old mid new lines last ls before session as_large part)
-
-module _ {D : Type 0} (d : Ghosts D) where
-  -- what is known of lines that were answered
-  abbrev pub AnsweredLines : StoreView D → StoreView D → List (List ℕ) → Type 0
-  AnsweredLines old new lines = d.honest old.disk → KeepsAnswered d lines lines old new
-
-  -- a line more, which was answered
-  pub one_line_more : {left left' left'' held held' : Option (List ℕ)} {most : ℕ} {u u' : Unplayed} {line : Line}
-      {old mid : StoreView D} (new : StoreView D)
-      → (so_far : HasPlayed (d.honest old.disk) (AnsweredLines old mid) (session_of old) (session_of mid)
-      left left' held held' most u) → (taken : TakesLine u u' left' left'' line) → d.size mid.disk ≡ d.size old.disk
-      → IsDurable d mid → (d.honest old.disk → d.honest mid.disk)
-      → LineSurvives d line (λ bytes. bytes ∷ []) (λ lines. lines) mid new
-      → AnsweredLines old new (so_far.lines ++ taken.line ∷ [])
-  one_line_more {old = old} {mid = mid} new so_far taken as_large durable still survives honest =
-      lines_after d old mid new so_far.lines (taken.line ∷ []) (taken.line ∷ []) (so_far.known honest)
-      (so_far.session honest) as_large (survives durable (still honest) taken.line taken.holds)
-
-  -- a line ended the script
-  pub script_stopped : (end : PlayEnd) (left left' left'' held held' held'' : Option (List ℕ)) (most : ℕ)
-      (u u' : Unplayed) (line : Line) (old mid new : StoreView D)
-      → HasPlayed (d.honest old.disk) (AnsweredLines old mid) (session_of old) (session_of mid)
-      left left' held held' most u → TakesLine u u' left' left'' line → d.size mid.disk ≡ d.size old.disk
-      → IsDurable d mid → (d.honest old.disk → d.honest mid.disk)
-      → LineSurvives d line (λ bytes. bytes ∷ []) (answered_at end) mid new
-      → (d.honest mid.disk → (bytes : List ℕ) → Holds line bytes
-      → LineEndsAs end (request_of bytes) (session_of mid) held' held'')
-      → d.honest old.disk → IfSome left (λ script. Outlives d (TakesAnswers held held'' end) script old new)
-  script_stopped end None left' left'' held held' held'' most u u' line old mid new so_far taken as_large durable
-      still survives why honest = tt
-  script_stopped end (Some script) left' left'' held held' held'' most u u' line old mid new so_far taken as_large
-      durable still survives why honest =
-      part_survives d end held held' held'' script old mid new so_far.lines (taken.line ∷ [])
-      (begins_with_line script so_far taken) (so_far.known honest) (so_far.session honest) as_large
-      (so_far.written honest) (survives durable (still honest) taken.line taken.holds)
-      (line_takes end (session_of mid) held' held'' taken.line (why (still honest) taken.line taken.holds))
-
-  -- the script came to its end
-  pub script_ended : (end : PlayEnd) (left left' left'' held held' held'' : Option (List ℕ)) (most : ℕ)
-      (u u' : Unplayed) (line : Line) (old mid new : StoreView D)
-      → HasPlayed (d.honest old.disk) (AnsweredLines old mid) (session_of old) (session_of mid)
-      left left' held held' most u → TakesRest u u' left' left'' line → IsAtEnd left''
-      → d.size mid.disk ≡ d.size old.disk → IsDurable d mid → (d.honest old.disk → d.honest mid.disk)
-      → LineSurvives d line (lines_at_end []) (answered_at end) mid new
-      → (d.honest mid.disk → (rest : List ℕ) → Holds line rest
-      → RestEndsAs end rest (session_of mid) (session_of new) held' held'')
-      → d.honest old.disk → IfSome left (λ script. Outlives d (TakesAnswers held held'' end) script old new)
-  script_ended end None left' left'' held held' held'' most u u' line old mid new so_far taken at_end as_large durable
-      still survives last honest = tt
-  script_ended end (Some script) left' left'' held held' held'' most u u' line old mid new so_far taken at_end
-      as_large durable still survives last honest =
-      let split = split_with_rest script so_far taken at_end in
-      let more : List (List ℕ) = lines_at_end [] taken.rest in
-      part_survives d end held held' held'' script old mid new so_far.lines more
-      (record {
-        ends = so_far.lines;
-        rest = taken.rest;
-        split = split;
-        more = [];
-        first = lines_then so_far.lines taken.rest ∙ sym (append-nil (so_far.lines ++ more));
-      })
-      (so_far.known honest) (so_far.session honest) as_large (so_far.written honest)
-      (survives durable (still honest) taken.rest taken.holds)
-      (rest_takes end (session_of mid) (session_of new) held' held'' taken.rest
-      (last (still honest) taken.rest taken.holds))
-
-  -- a read failed
-  pub script_cut_off : (left left' left'' held held' : Option (List ℕ)) (most : ℕ) (u u' : Unplayed) (line : Line)
-      (old new : StoreView D)
-      → HasPlayed (d.honest old.disk) (AnsweredLines old new) (session_of old) (session_of new)
-      left left' held held' most u → TakesRest u u' left' left'' line
-      → d.honest old.disk → IfSome left (λ script. Outlives d (TakesAnswers held held' Input) script old new)
-  script_cut_off None left' left'' held held' most u u' line old new so_far taken honest = tt
-  script_cut_off (Some script) left' left'' held held' most u u' line old new so_far taken honest =
-      script_survives d (TakesAnswers held held' Input) script old new so_far.lines so_far.lines []
-      (begins_before_rest script so_far taken) (sym (append-nil so_far.lines)) (so_far.written honest)
-      (so_far.known honest)
-
-  -- ---- the last word
-
-  pub all_survives : (end : PlayEnd) (from held held' held'' : Option (List ℕ)) (old new : StoreView D)
-      → IfSome from (λ script. Outlives d (TakesAnswers held held' end) script old new)
-      → Appends held' held'' (last_word end) → IfSome from (λ script. Survives d script held held'' old new)
-  all_survives end None held held' held'' old new played said = tt
-  all_survives end (Some script) held held' held'' old new played said =
-      written_on d (TakesAnswers held held' end) (TakesAll held held'') script old new played
-      (λ text taken. all_taken end held held' held'' text taken said)
-
-  pub front_survives : (end : PlayEnd) (from held held' held'' : Option (List ℕ)) (old new : StoreView D)
-      → (end ≡ Output → ⊥) → IfSome from (λ script. Outlives d (TakesAnswers held held' end) script old new)
-      → AppendsFront held' held'' (last_word end) → IfSome from (λ script. Survives d script held held'' old new)
-  front_survives end None held held' held'' old new output played front = tt
-  front_survives end (Some script) held held' held'' old new output played front =
-      written_on d (TakesAnswers held held' end) (TakesAll held held'') script old new played
-      (λ text taken. front_taken end held held' held'' text output taken front)

@@ -3,4 +3,6 @@ pub mod Opened
 pub mod Play
 pub mod Worked
 pub mod Surviving
+pub mod Moments
+pub mod ByLines
 pub mod Report

@@ -1,8 +1,7 @@
 -- What playing a script comes to. Before and after are the sessions; held and held' what the writer held and holds;
--- left is what the
--- reader has left.
-use Rattle.std.specs.Prelude.{◌≡◌, ◌≢◌, ◌<◌, ◌≤◌, ◌⊎◌, ◌↔◌, ℕ, List, [], ◌∷◌, ◌++◌, Option, Some, IfSome, Result, OnOk}
-use Rattle.std.specs.Prelude.{IfErr, codes, false}
+-- left is what the reader has left.
+use Rattle.std.specs.Prelude.{◌≡◌, ◌≢◌, ◌+◌, ◌<◌, ◌≤◌, ◌⊎◌, ◌↔◌, ℕ, List, [], ◌∷◌, ◌++◌, Option, Some, IfSome}
+use Rattle.std.specs.Prelude.{Result, OnOk, IfErr, codes, false}
 use Rattle.std.specs.Io.KnownBytes.{Appends, Consumes, Keeps}
 use Rattle.oberon_main.specs.declared.playing.PlayEnd.{PlayEnd}
 use Rattle.oberon_main.specs.declared.playing.PlayEnd.TheVariants.{Done, Fault, Memory, Input, Output}
@@ -124,6 +123,24 @@ CountsPlay Fault failed failed' = failed < failed'
 CountsPlay Memory failed failed' = failed' ≡ failed
 CountsPlay Input failed failed' = failed' ≡ failed
 CountsPlay Output failed failed' = failed ≤ failed'
+
+-- The failures of an output: it failed just where the script ended by that.
+abbrev pub CountsOutput : PlayEnd → ℕ → ℕ → Type 0
+CountsOutput Done failed failed' = failed' ≡ failed
+CountsOutput Fault failed failed' = failed' ≡ failed
+CountsOutput Memory failed failed' = failed' ≡ failed
+CountsOutput Input failed failed' = failed' ≡ failed
+CountsOutput Output failed failed' = failed < failed'
+
+-- The failures of an input, and the reads that gave bytes, of which there may be so many: after `Input` a read has
+-- failed, or there were just so many. An output may also have failed in the word of that.
+abbrev pub CountsInput : ℕ → PlayEnd → ℕ → ℕ → ℕ → ℕ → Type 0
+CountsInput most Done reads reads' failed failed' = failed' ≡ failed
+CountsInput most Fault reads reads' failed failed' = failed' ≡ failed
+CountsInput most Memory reads reads' failed failed' = failed' ≡ failed
+CountsInput most Input reads reads' failed failed' =
+    (failed < failed') ⊎ ((reads' ≡ reads + most) × (failed' ≡ failed))
+CountsInput most Output reads reads' failed failed' = failed ≤ failed'
 
 -- ---- one line
 

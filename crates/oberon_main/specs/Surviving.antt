@@ -1,21 +1,18 @@
 -- What a crash leaves of a script that is played: the desktop after a prefix of the events that its lines post.
-use Rattle.std.specs.Prelude.{◌≡◌, ◌≤◌, ℕ, List, [], ◌∷◌, ◌++◌, length, take, if◌then◌else◌, Option, Result, Ok, Err}
-use Rattle.std.specs.Io.KnownBytes.{Appends}
+use Rattle.std.specs.Prelude.{◌≡◌, ◌≤◌, ℕ, List, [], ◌∷◌, ◌++◌, length, take, if◌then◌else◌, Option}
 use Rattle.sector_disk.specs.declared.disk.Disk.{Ghosts}
 use Rattle.sector_disk.specs.Trail.{Content, now, Leaves, LeavesOnly}
 use Rattle.event_bytes.specs.declared.event.Event.{Event}
+use Rattle.desktop_definitions.specs.Desktop.{Desktop}
 use Rattle.desktop_definitions.specs.Step.{steps}
 use Rattle.screen_cells.specs.Sent.{AppendsFront}
 use Rattle.store_layout.specs.Meaning.{Means, MeansEither}
 use Rattle.desk_journal.specs.View.{StoreView, IsDurable}
-use Rattle.script_lines.specs.declared.line.Line.{Line}
 use Rattle.oberon_main.specs.declared.playing.PlayEnd.{PlayEnd}
-use Rattle.oberon_main.specs.declared.playing.PlayEnd.TheVariants.{Done, Fault, Memory, Input, Output}
 use Rattle.script_lines.specs.declared.request.Request.{Request}
 use Rattle.script_lines.specs.declared.request.Request.TheVariants.{Post, Checkpoint, Show, Listing, Display, Malformed}
 use Rattle.script_lines.specs.Script.{BeginsWith, lines_at_end}
 use Rattle.script_lines.specs.Request.{request_of}
-use Rattle.script_lines.specs.Reading.{Holds}
 use Rattle.oberon_main.specs.Session.{Session, is_worn, after, out, after_all}
 use Rattle.oberon_main.specs.Opened.{session_of}
 use Rattle.oberon_main.specs.Play.{last_word}
@@ -41,6 +38,10 @@ abbrev pub LinesAreSteps : Type 0
 LinesAreSteps = (s : Session) (lines : List (List ℕ))
     → (after_all s lines).desktop ≡ steps s.desktop (accepted s lines)
 
+-- the desktop to which the events lead that are accepted of the lines
+abbrev pub led_to : Session → List (List ℕ) → Desktop
+led_to s lines = steps s.desktop (accepted s lines)
+
 -- ---- what an image means
 
 -- The content means the desktop after some of the events accepted of the lines, the first of them and none left out,
@@ -61,6 +62,10 @@ pub record KeepsAnswered {D : Type 0} (d : Ghosts D) (answered lines : List (Lis
 
 -- ---- one request
 
+-- at every moment from the one state of a store to the other a crash leaves the desktop of the first
+abbrev pub LeavesFirst : {D : Type 0} → Ghosts D → StoreView D → StoreView D → Type 0
+LeavesFirst d old new = LeavesOnly (d.trail old.disk) (d.trail new.disk) (Means (d.size old.disk) old.desktop)
+
 -- Whatever comes of a request, at each moment a crash leaves the desktop before it or the one after it.
 pub record Withstands {D : Type 0} (d : Ghosts D) (request : Request) (old new : StoreView D) : Type 0 where
   pub any_moment : IsDurable d old → d.honest old.disk
@@ -68,47 +73,11 @@ pub record Withstands {D : Type 0} (d : Ghosts D) (request : Request) (old new :
       (MeansEither (d.size old.disk) old.desktop (after (session_of old) request).desktop)
   pub as_large : d.size new.disk ≡ d.size old.disk
 
--- ---- lines that were played
-
--- Of lines that are played: those that count as answered. A line counts so once its answer was worked out, which is
--- before the writer takes it; of a line that failed there is none.
-abbrev pub answered_at : PlayEnd → List (List ℕ) → List (List ℕ)
-answered_at Done lines = lines
-answered_at Fault lines = []
-answered_at Memory lines = []
-answered_at Input lines = []
-answered_at Output lines = lines
-
-abbrev pub answered_by : Result Unit PlayEnd → List (List ℕ) → List (List ℕ)
-answered_by (Ok done) lines = lines
-answered_by (Err end) lines = answered_at end lines
-
--- What a crash leaves of a line that is held, whatever the line is: of the lines that it comes to, these were answered.
-abbrev pub LineSurvives : {D : Type 0} → Ghosts D → Line → (List ℕ → List (List ℕ))
-    → (List (List ℕ) → List (List ℕ)) → StoreView D → StoreView D → Type 0
-LineSurvives d line lines_of answered_of old new = IsDurable d old → d.honest old.disk
-    → (bytes : List ℕ) → Holds line bytes → KeepsAnswered d (answered_of (lines_of bytes)) (lines_of bytes) old new
+-- Nothing of a request is in any image: at each moment a crash leaves the desktop before it.
+abbrev pub Spares : {D : Type 0} → Ghosts D → StoreView D → StoreView D → Type 0
+Spares d old new = IsDurable d old → d.honest old.disk → LeavesFirst d old new
 
 -- ---- a script
-
--- What a crash leaves of a script that was played so far, wherever it cuts it off.
-pub record Outlives {D : Type 0} (d : Ghosts D) (Written : List ℕ → Type 0) (script : List ℕ)
-    (old new : StoreView D) : Type 0 where
-  -- the first lines of the script, whose answers were worked out
-  pub answered : List (List ℕ)
-  pub begins : BeginsWith script answered
-  -- what is known of their answers
-  pub written : Written (out (session_of old) answered)
-  -- the desktop after a prefix of the events of all its lines, which at last holds those of the lines answered
-  pub kept : KeepsAnswered d answered (lines_at_end begins.ends begins.rest) old new
-
--- before the last word: the answers were written as a whole, or a prefix of them where the output failed
-abbrev pub TakesAnswers : Option (List ℕ) → Option (List ℕ) → PlayEnd → List ℕ → Type 0
-TakesAnswers held held' Done answers = Appends held held' answers
-TakesAnswers held held' Fault answers = Appends held held' answers
-TakesAnswers held held' Memory answers = Appends held held' answers
-TakesAnswers held held' Input answers = Appends held held' answers
-TakesAnswers held held' Output answers = AppendsFront held held' answers
 
 -- all that was written is a prefix of the answers and the word that says why the script ended
 abbrev pub TakesAll : Option (List ℕ) → Option (List ℕ) → List ℕ → Type 0
@@ -117,6 +86,12 @@ TakesAll held held' answers = (end : PlayEnd) × AppendsFront held held' (answer
 -- At every moment each image that a crash may leave means the desktop after a prefix of the events that the lines of
 -- the script post and that are accepted. At the end this prefix holds each event whose answer was worked out, and so
 -- each whose answer was written, in whole or in part.
-abbrev pub Survives : {D : Type 0} → Ghosts D → List ℕ → Option (List ℕ) → Option (List ℕ) → StoreView D
-    → StoreView D → Type 0
-Survives d script held held' old new = Outlives d (TakesAll held held') script old new
+pub record Survives {D : Type 0} (d : Ghosts D) (script : List ℕ) (held held' : Option (List ℕ))
+    (old new : StoreView D) : Type 0 where
+  -- the first lines of the script, whose answers were worked out
+  pub answered : List (List ℕ)
+  pub begins : BeginsWith script answered
+  -- what was written of their answers
+  pub written : TakesAll held held' (out (session_of old) answered)
+  -- the desktop after a prefix of the events of all its lines, which at last holds those of the lines answered
+  pub kept : KeepsAnswered d answered (lines_at_end begins.ends begins.rest) old new

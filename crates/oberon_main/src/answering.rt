@@ -1,5 +1,5 @@
 //! The answer to a request, worked out over a store.
-ghost use Rattle.std.specs.Prelude.{◌≡◌, ◌≢◌, false, IsOk, IfOk, IfErr};
+ghost use Rattle.std.specs.Prelude.{◌≡◌, ◌≢◌, false, IsOk, IfOk, IfErr, IsErrOf};
 ghost use Rattle.sector_disk.specs.Faults.{FailsAs};
 ghost use Rattle.desk_journal.specs.Device.{IsOnlyRead};
 ghost use Rattle.script_lines.specs.declared.request.Request.TheVariants.{Post, Checkpoint, Show};
@@ -7,7 +7,7 @@ ghost use Rattle.script_lines.specs.declared.request.Request.TheVariants.{Listin
 ghost use Rattle.oberon_main.specs.declared.playing.PlayEnd.TheVariants as ends;
 ghost use Rattle.oberon_main.specs.Session.{worn_line};
 ghost use Rattle.oberon_main.specs.Worked.{bytes_of, end_of, IsWorkEnd, IsWorkedOut};
-ghost use Rattle.oberon_main.specs.Surviving.{Withstands};
+ghost use Rattle.oberon_main.specs.Surviving.{Withstands, Spares};
 
 use crate::playing::PlayEnd;
 use desk_journal::{Error, Store};
@@ -50,6 +50,7 @@ pub fn work_out<D: Disk>(
     ensures worked_out { IsWorkedOut D.Disk request.now result store.old store.new }
     ensures faults { FailsAs ends.Fault IsWorkEnd result (D.failures store.old.disk) (D.failures store.new.disk) }
     ensures crash { Withstands D.Disk request.now store.old store.new }
+    ensures spared { IsErrOf result ends.Memory → Spares D.Disk store.old store.new }
     ensures malformed { request.now ≡ Malformed → IsOk result }
 {
     match request {
@@ -68,6 +69,7 @@ fn post<D: Disk>(alloc: Global, event: &Event, store: &mut Store<D>) -> Result<A
     ensures worked_out { IsWorkedOut D.Disk (Post event.now) result store.old store.new }
     ensures faults { FailsAs ends.Fault IsWorkEnd result (D.failures store.old.disk) (D.failures store.new.disk) }
     ensures crash { Withstands D.Disk (Post event.now) store.old store.new }
+    ensures spared { IsErrOf result ends.Memory → Spares D.Disk store.old store.new }
 {
     match store.post(alloc, event) {
         Ok(reply) => Ok(Answer::Short(reply_bytes(reply))),
@@ -81,6 +83,7 @@ fn checkpoint<D: Disk>(store: &mut Store<D>) -> Result<Answer, PlayEnd>
     ensures worked_out { IsWorkedOut D.Disk Checkpoint result store.old store.new }
     ensures faults { FailsAs ends.Fault IsWorkEnd result (D.failures store.old.disk) (D.failures store.new.disk) }
     ensures crash { Withstands D.Disk Checkpoint store.old store.new }
+    ensures spared { IsErrOf result ends.Memory → Spares D.Disk store.old store.new }
 {
     match store.checkpoint() {
         Ok(()) => Ok(Answer::Short(short_line(b"ok"))),

@@ -14,3 +14,4 @@ pub use desk_journal::{Error, STORE_SECTORS, Store};
 pub use laws::lines_are_steps;
 pub use playing::{PlayEnd, play, play_bounded};
 pub use report::{check, refuse, status};
+pub use script_streams::{AnswerWriter, CountedReader, CountedWriter, ScriptReader};

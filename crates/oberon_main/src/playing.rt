@@ -1,5 +1,5 @@
 //! Playing a script over a store.
-ghost use Rattle.std.specs.Prelude.{◌≡◌, ◌↔◌, ℕ, List, [], ◌∷◌, false, IfSome, OnOk, OnErr, IsOk, IfErr};
+ghost use Rattle.std.specs.Prelude.{◌≡◌, ◌+◌, ◌≤◌, ◌↔◌, ℕ, List, [], ◌∷◌, false, IfSome, OnOk, OnErr, IsOk, IfErr};
 ghost use Rattle.std.specs.Io.KnownBytes.{Appends, Keeps};
 ghost use Rattle.sector_disk.specs.Faults.{FailsAs, OneOf};
 ghost use Rattle.screen_cells.specs.Sent.{AppendsFront};
@@ -7,9 +7,12 @@ ghost use Rattle.oberon_main.specs.declared.playing.PlayEnd.TheVariants as ends;
 ghost use Rattle.script_lines.specs.Request.{request_of};
 ghost use Rattle.script_lines.specs.Reading.{Holds, ComesInPieces};
 ghost use Rattle.oberon_main.specs.Opened.{session_of};
-ghost use Rattle.oberon_main.specs.Play.{Plays, CountsPlay, CountsEnd, PlaysLine, RestEndsAs, last_word, no_word};
-ghost use Rattle.script_lines.specs.Script.{lines_at_end};
-ghost use Rattle.oberon_main.specs.Surviving.{Survives, Outlives, TakesAnswers, LineSurvives, answered_at, answered_by};
+ghost use Rattle.oberon_main.specs.Play.{Plays, CountsPlay, CountsEnd, CountsInput, CountsOutput, PlaysLine};
+ghost use Rattle.oberon_main.specs.Play.{RestEndsAs, last_word, no_word};
+ghost use Rattle.script_streams.specs.Counting.{CountsFault};
+ghost use Rattle.oberon_main.specs.Surviving.{Survives};
+ghost use Rattle.oberon_main.specs.Moments.{LeavesLines};
+ghost use Rattle.oberon_main.specs.ByLines.{PlaysByLines, PlaysLines, LineSurvives, RestSurvives};
 ghost use Rattle.oberon_main.specs.Worked.{end_of};
 ghost use Rattle.desk_journal.specs.View.{IsDurable};
 
@@ -17,9 +20,9 @@ use crate::answering::work_out;
 use desk_journal::{Error, Store};
 use script_answers::{OutputFault, send, short_line};
 use script_lines::{Ending, Line, Script};
+use script_streams::{AnswerWriter, ScriptReader};
 use sector_disk::Disk;
 use std::alloc::{AllocError, Global};
-use std::io::{Read, Write};
 
 /// How a script came to its end.
 #[derive(Clone, Copy, Debug, PartialEq, Eq)]
@@ -78,7 +81,7 @@ pub const MOST_READS: u32 = 67_108_864;
 /// It ends with the script, or earlier where the disk, the memory, the reader or the writer fails; but for the
 /// writer's failure a last line then says why: `fault`, `memory` or `input`. After `MOST_READS` reads that gave bytes
 /// the reader counts as failed. The store must be one that needn't be opened again.
-pub fn play<R: Read, W: Write, D: Disk>(
+pub fn play<R: ScriptReader, W: AnswerWriter, D: Disk>(
     alloc: Global,
     reader: &mut R,
     writer: &mut W,
@@ -88,7 +91,15 @@ pub fn play<R: Read, W: Write, D: Disk>(
     ensures played { Plays last_word D.Disk result (R.remaining reader.old) (R.remaining reader.new)
         (W.contents writer.old) (W.contents writer.new) store.old store.new }
     ensures pieces { ComesInPieces MOST_READS (R.remaining reader.old) (R.remaining reader.new) }
+    ensures limit { R.reads reader.new ≤ R.reads reader.old + MOST_READS }
     ensures faults { CountsPlay result (D.failures store.old.disk) (D.failures store.new.disk) }
+    ensures input { CountsInput MOST_READS result (R.reads reader.old) (R.reads reader.new)
+        (R.failures reader.old) (R.failures reader.new) }
+    ensures output { CountsOutput result (W.failures writer.old) (W.failures writer.new) }
+    ensures by_lines { D.honest store.old.disk → PlaysByLines D.Disk result (R.remaining reader.old)
+        (R.remaining reader.new) (W.contents writer.old) (W.contents writer.new) store.old store.new }
+    ensures any_moment { D.honest store.old.disk
+        → LeavesLines D.Disk (R.remaining reader.old) store.old store.new }
     ensures survives { D.honest store.old.disk → IfSome (R.remaining reader.old)
         (λ script. Survives D.Disk script (W.contents writer.old) (W.contents writer.new) store.old store.new) }
 {
@@ -96,7 +107,7 @@ pub fn play<R: Read, W: Write, D: Disk>(
 }
 
 /// Plays as `play` does, with another bound on the reads: after so many that gave bytes the reader counts as failed.
-pub fn play_bounded<R: Read, W: Write, D: Disk>(
+pub fn play_bounded<R: ScriptReader, W: AnswerWriter, D: Disk>(
     alloc: Global,
     reader: &mut R,
     writer: &mut W,
@@ -107,7 +118,15 @@ pub fn play_bounded<R: Read, W: Write, D: Disk>(
     ensures played { Plays last_word D.Disk result (R.remaining reader.old) (R.remaining reader.new)
         (W.contents writer.old) (W.contents writer.new) store.old store.new }
     ensures pieces { ComesInPieces reads (R.remaining reader.old) (R.remaining reader.new) }
+    ensures limit { R.reads reader.new ≤ R.reads reader.old + reads }
     ensures faults { CountsPlay result (D.failures store.old.disk) (D.failures store.new.disk) }
+    ensures input { CountsInput reads result (R.reads reader.old) (R.reads reader.new)
+        (R.failures reader.old) (R.failures reader.new) }
+    ensures output { CountsOutput result (W.failures writer.old) (W.failures writer.new) }
+    ensures by_lines { D.honest store.old.disk → PlaysByLines D.Disk result (R.remaining reader.old)
+        (R.remaining reader.new) (W.contents writer.old) (W.contents writer.new) store.old store.new }
+    ensures any_moment { D.honest store.old.disk
+        → LeavesLines D.Disk (R.remaining reader.old) store.old store.new }
     ensures survives { D.honest store.old.disk → IfSome (R.remaining reader.old)
         (λ script. Survives D.Disk script (W.contents writer.old) (W.contents writer.new) store.old store.new) }
 {
@@ -119,11 +138,12 @@ pub fn play_bounded<R: Read, W: Write, D: Disk>(
 }
 
 /// Writes why the script ended early, where the output can still take it.
-fn say<W: Write>(writer: &mut W, end: PlayEnd) -> Result<(), OutputFault>
+fn say<W: AnswerWriter>(writer: &mut W, end: PlayEnd) -> Result<(), OutputFault>
     ensures said { OnOk result (Appends (W.contents writer.old) (W.contents writer.new) (last_word end)) }
     ensures front { OnErr result (AppendsFront (W.contents writer.old) (W.contents writer.new) (last_word end)) }
     ensures done { end ≡ ends.Done → IsOk result }
     ensures output { end ≡ ends.Output → IsOk result }
+    ensures cause { CountsFault result (W.failures writer.old) (W.failures writer.new) }
 {
     match end {
         PlayEnd::Done | PlayEnd::Output => Ok(()),
@@ -134,7 +154,7 @@ fn say<W: Write>(writer: &mut W, end: PlayEnd) -> Result<(), OutputFault>
 }
 
 /// Plays all lines. It says nothing of why the script ended early.
-fn play_lines<R: Read, W: Write, D: Disk>(
+fn play_lines<R: ScriptReader, W: AnswerWriter, D: Disk>(
     alloc: Global,
     reader: &mut R,
     writer: &mut W,
@@ -145,10 +165,13 @@ fn play_lines<R: Read, W: Write, D: Disk>(
     ensures played { Plays no_word D.Disk result (R.remaining reader.old) (R.remaining reader.new)
         (W.contents writer.old) (W.contents writer.new) store.old store.new }
     ensures pieces { ComesInPieces reads (R.remaining reader.old) (R.remaining reader.new) }
+    ensures limit { R.reads reader.new ≤ R.reads reader.old + reads }
     ensures faults { CountsEnd result (D.failures store.old.disk) (D.failures store.new.disk) }
-    ensures survives { D.honest store.old.disk → IfSome (R.remaining reader.old)
-        (λ script. Outlives D.Disk (TakesAnswers (W.contents writer.old) (W.contents writer.new) result)
-        script store.old store.new) }
+    ensures input { CountsInput reads result (R.reads reader.old) (R.reads reader.new)
+        (R.failures reader.old) (R.failures reader.new) }
+    ensures output { CountsOutput result (W.failures writer.old) (W.failures writer.new) }
+    ensures by_lines { D.honest store.old.disk → PlaysLines D.Disk result (R.remaining reader.old)
+        (R.remaining reader.new) (W.contents writer.old) (W.contents writer.new) store.old store.new }
 {
     // What the store shows is what a crash would leave now.
     let _ = store.info();
@@ -168,7 +191,7 @@ fn play_lines<R: Read, W: Write, D: Disk>(
 }
 
 /// Plays what stands after the last line feed, where that is anything.
-fn play_rest<W: Write, D: Disk>(
+fn play_rest<W: AnswerWriter, D: Disk>(
     alloc: Global,
     line: &Line,
     writer: &mut W,
@@ -182,7 +205,8 @@ fn play_rest<W: Write, D: Disk>(
     ensures no_input { result ≡ ends.Input → ⊥ }
     ensures premise { D.honest store.new.disk ↔ D.honest store.old.disk }
     ensures faults { CountsEnd result (D.failures store.old.disk) (D.failures store.new.disk) }
-    ensures survives { LineSurvives D.Disk line.now (lines_at_end []) (answered_at result) store.old store.new }
+    ensures output { CountsOutput result (W.failures writer.old) (W.failures writer.new) }
+    ensures survives { RestSurvives D.Disk line.now result store.old store.new }
 {
     if line.is_empty() {
         return PlayEnd::Done;
@@ -194,7 +218,7 @@ fn play_rest<W: Write, D: Disk>(
 }
 
 /// Plays one line: its answer is worked out, and then written.
-fn play_line<W: Write, D: Disk>(
+fn play_line<W: AnswerWriter, D: Disk>(
     alloc: Global,
     line: &Line,
     writer: &mut W,
@@ -205,7 +229,9 @@ fn play_line<W: Write, D: Disk>(
         store.old store.new }
     ensures faults { FailsAs ends.Fault (OneOf (ends.Fault ∷ ends.Memory ∷ ends.Output ∷ [])) result
         (D.failures store.old.disk) (D.failures store.new.disk) }
-    ensures survives { LineSurvives D.Disk line.now (λ bytes. bytes ∷ []) (answered_by result) store.old store.new }
+    ensures output { FailsAs ends.Output (OneOf (ends.Fault ∷ ends.Memory ∷ ends.Output ∷ [])) result
+        (W.failures writer.old) (W.failures writer.new) }
+    ensures survives { LineSurvives D.Disk line.now result store.old store.new }
     ensures durable { OnOk result (IsDurable D.Disk store.new) }
     ensures as_large { D.size store.new.disk ≡ D.size store.old.disk }
 {

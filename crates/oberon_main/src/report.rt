@@ -3,23 +3,25 @@ ghost use Rattle.std.specs.Prelude.{◌≡◌, ◌⊎◌, ◌++◌, false, OnOk,
 ghost use Rattle.std.specs.Io.KnownBytes.{Appends};
 ghost use Rattle.oberon_main.specs.declared.playing.PlayEnd.TheVariants as ends;
 ghost use Rattle.screen_cells.specs.Sent.{AppendsFront};
+ghost use Rattle.oberon_main.specs.Play.{CountsOutput};
 ghost use Rattle.oberon_main.specs.Report.{check_line, refusal_line, refusal_status, end_status};
 
 use crate::playing::PlayEnd;
 use arrayvec::ArrayVec;
 use desk_journal::{Error, Store};
 use script_answers::{OutputFault, ShortLine, numbered_line, send, short_line};
+use script_streams::AnswerWriter;
 use sector_disk::Disk;
-use std::io::Write;
 
 /// Says the layout, the epoch and the number of events of a store that can be used.
-pub fn check<W: Write, D: Disk>(writer: &mut W, store: &Store<D>) -> PlayEnd
+pub fn check<W: AnswerWriter, D: Disk>(writer: &mut W, store: &Store<D>) -> PlayEnd
     requires { store.now.must_reopen ≡ false }
     ensures done { result ≡ ends.Done → Appends (W.contents writer.old) (W.contents writer.new)
         (check_line 1 store.now.epoch store.now.events) }
     ensures output { result ≡ ends.Output → AppendsFront (W.contents writer.old) (W.contents writer.new)
         (check_line 1 store.now.epoch store.now.events) }
     ensures named { (result ≡ ends.Done) ⊎ (result ≡ ends.Output) }
+    ensures cause { CountsOutput result (W.failures writer.old) (W.failures writer.new) }
 {
     let Ok(info) = store.info() else {
         unreachable!()
@@ -63,7 +65,7 @@ pub fn status(end: &PlayEnd) -> u8
 
 /// Says why a store was refused, as far as the writer takes it. Returns the status of the program: 3 where
 /// there is no store or a damaged one, 5 for want of memory, else 4.
-pub fn refuse<W: Write>(writer: &mut W, error: &Error) -> u8
+pub fn refuse<W: AnswerWriter>(writer: &mut W, error: &Error) -> u8
     ensures status { result ≡ refusal_status error.now }
     ensures said { AppendsFront (W.contents writer.old) (W.contents writer.new) (refusal_line error.now) }
 {
@@ -76,7 +78,7 @@ pub fn refuse<W: Write>(writer: &mut W, error: &Error) -> u8
 }
 
 /// Writes the line about a refusal.
-fn say_refusal<W: Write>(writer: &mut W, error: &Error) -> Result<(), OutputFault>
+fn say_refusal<W: AnswerWriter>(writer: &mut W, error: &Error) -> Result<(), OutputFault>
     ensures said { OnOk result (Appends (W.contents writer.old) (W.contents writer.new) (refusal_line error.now)) }
     ensures front { OnErr result
         (AppendsFront (W.contents writer.old) (W.contents writer.new) (refusal_line error.now)) }

@@ -6,7 +6,7 @@ ghost use Rattle.std.specs.Prelude.{◌≡◌, IfOk, false};
 
 use host_files::{HostFault, lock_alone, lock_or_make, lock_shared, sync_folder};
 use oberon_arguments::{Order, Refusal, order_of, words};
-use oberon_main::{Error, Store, check, play, refuse, status};
+use oberon_main::{CountedReader, CountedWriter, Error, Store, check, play, refuse, status};
 use screen_cells::Screen;
 use script_answers::send;
 use sector_disk::{Disk, FILE_SECTORS, FileDisk, MemoryDisk};
@@ -34,14 +34,14 @@ pub fn run(rt: &HostRuntime) -> u8 {
     };
     match done {
         Ok(status) => status,
-        Err(error) => refuse(&mut rt.stderr(), &error),
+        Err(error) => refuse(&mut CountedWriter::new(rt.stderr()), &error),
     }
 }
 
 /// Says on standard error why the arguments weren't taken, and returns the status.
 fn decline(rt: &HostRuntime, refusal: Refusal) -> u8 {
     match refusal {
-        Refusal::Memory => refuse(&mut rt.stderr(), &Error::NoMemory),
+        Refusal::Memory => refuse(&mut CountedWriter::new(rt.stderr()), &Error::NoMemory),
         Refusal::Usage => {
             let _ = eprintln!(rt; "usage: oberon format|play|screen|check PATH");
             USAGE
@@ -83,7 +83,7 @@ fn format_file(rt: &HostRuntime, path: &str) -> Result<u8, Error> {
 fn make_store(rt: &HostRuntime, path: &str) -> Result<u8, Error> {
     close(formatted(FileDisk::create(rt, path)?)?);
     sync_folder(rt, path).map_err(store_error)?;
-    match send(&mut rt.stdout(), b"ok\n") {
+    match send(&mut CountedWriter::new(rt.stdout()), b"ok\n") {
         Ok(()) => Ok(0),
         Err(_) => Ok(FAULT),
     }
@@ -114,7 +114,9 @@ fn play_path(rt: &HostRuntime, path: &str) -> Result<u8, Error> {
 /// Plays the script on standard input over the store on a disk.
 fn play_over<D: Disk + Drop>(rt: &HostRuntime, disk: D) -> Result<u8, Error> {
     let mut store = opened(rt, disk)?;
-    Ok(status(&play(rt.alloc(), &mut rt.stdin(), &mut rt.stdout(), &mut store)))
+    let mut reader = CountedReader::new(rt.stdin());
+    let mut writer = CountedWriter::new(rt.stdout());
+    Ok(status(&play(rt.alloc(), &mut reader, &mut writer, &mut store)))
 }
 
 /// Prints the screen of the store in the file.
@@ -148,5 +150,5 @@ fn check_file(rt: &HostRuntime, path: &str) -> Result<u8, Error> {
 /// The same, while the file is locked.
 fn check_path(rt: &HostRuntime, path: &str) -> Result<u8, Error> {
     let store = opened(rt, FileDisk::open(rt, path)?)?;
-    Ok(status(&check(&mut rt.stdout(), &store)))
+    Ok(status(&check(&mut CountedWriter::new(rt.stdout()), &store)))
 }

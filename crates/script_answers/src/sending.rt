@@ -1,47 +1,22 @@
 //! Writing an answer.
-ghost use Rattle.std.specs.Prelude.{◌≡◌, ◌<◌, ◌≤◌, length, take, OnOk, OnErr, IfOk};
-ghost use Rattle.std.specs.Io.KnownBytes.{Appends, Keeps};
+ghost use Rattle.std.specs.Prelude.{OnOk, OnErr};
+ghost use Rattle.std.specs.Io.KnownBytes.{Appends};
 ghost use Rattle.screen_cells.specs.Sent.{AppendsFront};
+ghost use Rattle.script_streams.specs.Counting.{CountsFault};
 
-use std::io::Write;
+use script_streams::{AnswerWriter, OutputFault};
 
-/// The output took no more.
-#[derive(Clone, Copy, Debug, PartialEq, Eq)]
-pub struct OutputFault;
-
-/// Writes all of the bytes and flushes the writer. It fails where a write or the flush does, and where a write takes
-/// no byte; then a prefix of the bytes may have been taken.
-pub fn send<W: Write>(writer: &mut W, bytes: &[u8]) -> Result<(), OutputFault>
+/// Writes all of the bytes and flushes the writer. It fails where a write or the flush does; then a prefix of the
+/// bytes may have been taken.
+pub fn send<W: AnswerWriter>(writer: &mut W, bytes: &[u8]) -> Result<(), OutputFault>
     ensures sent { OnOk result (Appends (W.contents writer.old) (W.contents writer.new) bytes.now) }
     ensures front { OnErr result (AppendsFront (W.contents writer.old) (W.contents writer.new) bytes.now) }
+    ensures cause { CountsFault result (W.failures writer.old) (W.failures writer.new) }
 {
     let mut rest = bytes;
     while !rest.is_empty() {
-        let taken = take_some(writer, rest)?;
+        let taken = writer.write_some(rest)?;
         rest = &rest[taken..];
     }
-    flush(writer)
-}
-
-/// One write, which takes at least one of the bytes. Returns how many it took.
-fn take_some<W: Write>(writer: &mut W, bytes: &[u8]) -> Result<usize, OutputFault>
-    ensures some { IfOk result (λ n. 0 < n) }
-    ensures within { IfOk result (λ n. n ≤ length bytes.now) }
-    ensures taken { IfOk result (λ n. Appends (W.contents writer.old) (W.contents writer.new) (take n bytes.now)) }
-    ensures kept { OnErr result (Keeps (W.contents writer.old) (W.contents writer.new)) }
-{
-    match writer.write(bytes) {
-        Ok(0) | Err(_) => Err(OutputFault),
-        Ok(taken) => Ok(taken),
-    }
-}
-
-/// Flushes the writer.
-fn flush<W: Write>(writer: &mut W) -> Result<(), OutputFault>
-    ensures { Keeps (W.contents writer.old) (W.contents writer.new) }
-{
-    match writer.flush() {
-        Ok(()) => Ok(()),
-        Err(_) => Err(OutputFault),
-    }
+    writer.flush()
 }

@@ -1,5 +1,5 @@
 -- How lines come from a reader.
-use Rattle.std.specs.Prelude.{◌≡◌, ℕ, ◌+◌, ◌*◌, ◌<◌, ◌≤◌, List, [], ◌++◌, length, true, false, Option}
+use Rattle.std.specs.Prelude.{◌≡◌, ◌⊎◌, ℕ, ◌+◌, ◌*◌, ◌<◌, ◌≤◌, List, [], ◌++◌, length, true, false, Option}
 use Rattle.std.specs.Io.KnownBytes.{Consumes}
 use Rattle.script_lines.specs.Request.{longest_line}
 use Rattle.script_lines.specs.Script.{ended, IsLine}
@@ -28,6 +28,10 @@ pub record ComesInPieces (reads : ℕ) (left left' : Option (List ℕ)) : Type 0
   pub read : List ℕ
   pub came : Consumes left left' read
   pub few : length read ≤ most_bytes reads
+
+-- Why a script gives no more: a read failed, or none is left, and none has failed.
+abbrev pub IsReadFault : ℕ → ℕ → ℕ → Type 0
+IsReadFault reads failed failed' = (failed < failed') ⊎ ((reads ≡ 0) × (failed' ≡ failed))
 
 -- a bound on the lines that can still come
 abbrev pub most_lines : Unplayed → ℕ

@@ -1,13 +1,13 @@
 //! Taking the lines of a script from a reader, in whatever pieces it gives them.
 ghost use Rattle.std.specs.Prelude.{◌≡◌, ◌==◌, ℕ, List, [], ◌∷◌, ◌+◌, ◌<◌, ◌≤◌, ◌++◌, ◌↔◌, length, position, IsTrue};
-ghost use Rattle.std.specs.Prelude.{true, false, Some, IfSome, MatchOption};
+ghost use Rattle.std.specs.Prelude.{true, false, Some, None, IfSome, MatchOption};
 ghost use Rattle.std.specs.Io.KnownBytes.{Consumes, IsAtEnd};
 ghost use Rattle.script_lines.specs.Script.{ended, IsLine};
 ghost use Rattle.script_lines.specs.Request.{request_of};
 
 use crate::request::{Request, parse};
 use arrayvec::ArrayVec;
-use std::io::Read;
+use script_streams::ScriptReader;
 use std::marker::Model;
 
 /// A line of a script, as far as it is kept: of a line of more than 4,096 bytes it is only known that it is so long.
@@ -102,7 +102,7 @@ impl Model for Script {
 }
 
 impl Script {
-    ghost use Rattle.script_lines.specs.Reading.{Holds, TakesLine, TakesRest, most_lines};
+    ghost use Rattle.script_lines.specs.Reading.{Holds, TakesLine, TakesRest, most_lines, IsReadFault};
 
     /// A script of which nothing is read yet, and that may take so many reads before the one that says that it is at
     /// its end.
@@ -119,13 +119,17 @@ impl Script {
     }
 
     /// Takes the next line from the reader. It ends at a line feed, at the end of the script, or where a read fails.
-    pub fn take_line<R: Read>(&mut self, line: &mut Line, reader: &mut R) -> Ending
+    pub fn take_line<R: ScriptReader>(&mut self, line: &mut Line, reader: &mut R) -> Ending
         ensures line { result ≡ Ending.Feed
             → TakesLine self.old self.new (R.remaining reader.old) (R.remaining reader.new) line.new }
         ensures fewer { result ≡ Ending.Feed → most_lines self.new < most_lines self.old }
         ensures rest { (result ≡ Ending.Feed → ⊥)
             → TakesRest self.old self.new (R.remaining reader.old) (R.remaining reader.new) line.new }
         ensures end { result ≡ Ending.End → IsAtEnd (R.remaining reader.new) }
+        ensures counted { R.reads reader.new + self.new.reads ≡ R.reads reader.old + self.old.reads }
+        ensures calm { (result ≡ Ending.Fault → ⊥) → R.failures reader.new ≡ R.failures reader.old }
+        ensures fault { result ≡ Ending.Fault
+            → IsReadFault self.new.reads (R.failures reader.old) (R.failures reader.new) }
     {
         line.clear();
         while !self.take_pending(line) {
@@ -164,7 +168,7 @@ impl Script {
 
     /// Reads the next piece. Returns how many bytes it has, 0 at the end of the script; None where the read
     /// failed or would be one too many.
-    fn read_piece<R: Read>(&mut self, reader: &mut R) -> Option<usize>
+    fn read_piece<R: ScriptReader>(&mut self, reader: &mut R) -> Option<usize>
         requires { self.old.pending ≡ [] }
         ensures came { Consumes (R.remaining reader.old) (R.remaining reader.new) self.new.pending }
         ensures count { MatchOption result (self.new.pending ≡ []) (λ n. (length self.new.pending ≡ n)) }
@@ -172,13 +176,17 @@ impl Script {
         ensures end { result ≡ Some 0 → IsAtEnd (R.remaining reader.new) }
         ensures reads { IfSome result (λ n. 0 < n → self.new.reads + 1 ≡ self.old.reads) }
         ensures no_more { self.new.reads ≤ self.old.reads }
+        ensures counted { R.reads reader.new + self.new.reads ≡ R.reads reader.old + self.old.reads }
+        ensures calm { IfSome result (λ _. R.failures reader.new ≡ R.failures reader.old) }
+        ensures fault { result ≡ None
+            → IsReadFault self.new.reads (R.failures reader.old) (R.failures reader.new) }
     {
         if self.reads == 0 {
             return None;
         }
         self.next = 0;
         self.end = 0;
-        match reader.read(&mut self.piece) {
+        match reader.read_some(&mut self.piece) {
             Ok(0) => Some(0),
             Ok(count) => {
                 self.end = count;

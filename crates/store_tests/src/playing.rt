@@ -2,7 +2,7 @@
 ghost use Rattle.std.specs.Prelude.{◌≡◌, IfOk, false};
 
 use crate::stores::{fresh, played};
-use oberon_main::{PlayEnd, Store, play, play_bounded};
+use oberon_main::{CountedReader, CountedWriter, PlayEnd, Store, play, play_bounded};
 use sector_disk::{MemoryDisk, OneFault};
 use std::alloc::Global;
 use std::cell::Cell;
@@ -30,7 +30,8 @@ fn opened(alloc: Global) -> Result<Store<MemoryDisk>, Fail>
 fn replies<R: Read>(alloc: Global, reader: &mut R) -> Result<(PlayEnd, Vec<u8>), Fail> {
     let mut store = opened(alloc)?;
     let mut written = Vec::new(alloc);
-    let end = play(alloc, reader, &mut written, &mut store);
+    let mut writer = CountedWriter::new(&mut written);
+    let end = play(alloc, &mut CountedReader::new(reader), &mut writer, &mut store);
     Ok((end, written))
 }
 
@@ -213,12 +214,13 @@ fn script_of_long_lines(alloc: Global) -> Result<Vec<u8>, Fail> {
 fn ten_lines(alloc: Global, reads: u32) -> Result<(PlayEnd, Vec<u8>), Fail> {
     let mut store = opened(alloc)?;
     let mut written = Vec::new(alloc);
-    let mut reader = Pieces {
+    let mut reader = CountedReader::new(Pieces {
         bytes: b"\n\n\n\n\n\n\n\n\n\n",
         size: 1,
         fails: false,
-    };
-    let end = play_bounded(alloc, &mut reader, &mut written, &mut store, reads);
+    });
+    let mut writer = CountedWriter::new(&mut written);
+    let end = play_bounded(alloc, &mut reader, &mut writer, &mut store, reads);
     Ok((end, written))
 }
 
@@ -252,9 +254,14 @@ fn twenty_lines(alloc: Global) -> Result<(PlayEnd, bool, u32), Fail> {
         given: 0,
         late: false,
     };
-    let mut writer = Holding { shelf: &shelf };
+    let mut writer = CountedWriter::new(Holding { shelf: &shelf });
     let mut store = opened(alloc)?;
-    let end = play(alloc, &mut reader, &mut writer, &mut store);
+    let end = play(
+        alloc,
+        &mut CountedReader::new(&mut reader),
+        &mut writer,
+        &mut store,
+    );
     Ok((end, reader.late, shelf.lines.get()))
 }
 
@@ -278,8 +285,12 @@ fn halted(
         flushes,
         fails,
     };
-    let mut script = HELLO;
-    let end = play(alloc, &mut script, &mut writer, &mut store);
+    let end = play(
+        alloc,
+        &mut CountedReader::new(HELLO),
+        &mut CountedWriter::new(&mut writer),
+        &mut store,
+    );
     Ok((end, writer.taken))
 }
 

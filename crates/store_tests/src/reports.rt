@@ -1,6 +1,6 @@
 //! What is said of refusals, and the statuses.
 
-use oberon_main::{Error, PlayEnd, refuse, status};
+use oberon_main::{CountedWriter, Error, PlayEnd, refuse, status};
 use std::test::Fail;
 
 #[test]
@@ -16,7 +16,8 @@ fn statuses(rt: HostRuntime) -> Result<(), Fail> {
     ];
     for (error, wanted, line) in rows {
         let mut written = Vec::new(rt.alloc());
-        assert!(rt; refuse(&mut written, &error) == wanted && written.as_slice() == line);
+        let status = refuse(&mut CountedWriter::new(&mut written), &error);
+        assert!(rt; status == wanted && written.as_slice() == line);
     }
     let rows = [
         (PlayEnd::Done, 0),

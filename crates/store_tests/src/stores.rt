@@ -1,7 +1,7 @@
 //! Stores, by the scripts that are played over them: worked rows, and what is said of a disk that has none.
 ghost use Rattle.std.specs.Prelude.{◌≡◌, false};
 
-use oberon_main::{PlayEnd, STORE_SECTORS, Store, check, play, refuse};
+use oberon_main::{CountedReader, CountedWriter, PlayEnd, STORE_SECTORS, Store, check, play, refuse};
 use sector_disk::{Disk, Fault, MemoryDisk, Sector};
 use std::alloc::{AllocError, Global};
 use std::test::Fail;
@@ -30,7 +30,7 @@ const SHOWN: [&[u8]; 4] = [
 pub fn played<D: Disk + Drop>(alloc: Global, disk: D, script: &[u8], written: &mut Vec<u8>) -> D {
     match Store::open(alloc, disk) {
         Err((error, disk)) => {
-            refuse(written, &error);
+            refuse(&mut CountedWriter::new(written), &error);
             disk
         }
         Ok(mut store) => {
@@ -44,9 +44,9 @@ pub fn played<D: Disk + Drop>(alloc: Global, disk: D, script: &[u8], written: &m
 fn say<D: Disk>(alloc: Global, store: &mut Store<D>, script: &[u8], written: &mut Vec<u8>)
     requires { store.old.must_reopen ≡ false }
 {
-    let mut script = script;
-    if play(alloc, &mut script, written, store) == PlayEnd::Done {
-        check(written, store);
+    let mut writer = CountedWriter::new(written);
+    if play(alloc, &mut CountedReader::new(script), &mut writer, store) == PlayEnd::Done {
+        check(&mut writer, store);
     }
 }
 

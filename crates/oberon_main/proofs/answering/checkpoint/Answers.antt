@@ -24,6 +24,9 @@ pub returns-in-Ok-clause-crash : goal.returns-in-Ok-clause-crash
 returns-in-Ok-clause-crash g c = checkpoint_withstands g.D.Disk c.args.store.now c.checkpoint.new.self c.requires
     c.in-Ok.ensures.any_moment c.in-Ok.ensures.device
 
+pub returns-in-Ok-clause-spared : goal.returns-in-Ok-clause-spared
+returns-in-Ok-clause-spared g c = λ wrong durable honest. c.in-Ok.ensures.any_moment c.requires honest
+
 pub returns-in-Err : goal.returns-in-Err
 returns-in-Err g c = record {
   worked_out = record {
@@ -46,4 +49,5 @@ returns-in-Err g c = record {
       c.refused.ensures.worn c.refused.ensures.other;
   crash = checkpoint_withstands g.D.Disk c.args.store.now c.checkpoint.new.self c.requires
       c.in-Err.ensures.any_moment c.in-Err.ensures.device;
+  spared = λ is durable honest. c.in-Err.ensures.any_moment c.requires honest;
 }

@@ -5,7 +5,7 @@ use Rattle.desk_journal.specs.View.{StoreView}
 use Rattle.oberon_main.specs.Opened.{session_of}
 use Rattle.oberon_main.proofs.Sessions.{worn_answer, worn_after, reply_answer, reply_after}
 use Rattle.oberon_main.proofs.Surviving.{post_withstands}
-use Rattle.oberon_main.proofs.Ends.{counts_post}
+use Rattle.oberon_main.proofs.Ends.{counts_post, only_memory}
 use Rattle.oberon_main.proofs.answering.post.Goals as goal
 
 pub returns-in-Ok-clause-worked_out : goal.returns-in-Ok-clause-worked_out
@@ -25,6 +25,9 @@ returns-in-Ok-clause-worked_out g c = record {
 pub returns-in-Ok-clause-crash : goal.returns-in-Ok-clause-crash
 returns-in-Ok-clause-crash g c = post_withstands g.D.Disk c.args.event.now _ c.args.store.now c.post.new.self c.requires
     c.in-Ok.ensures.any_moment c.in-Ok.ensures.worn c.in-Ok.ensures.device
+
+pub returns-in-Ok-clause-spared : goal.returns-in-Ok-clause-spared
+returns-in-Ok-clause-spared g c = λ wrong. absurd (cc wrong)
 
 pub returns-in-Err : goal.returns-in-Err
 returns-in-Err g c = record {
@@ -48,4 +51,6 @@ returns-in-Err g c = record {
       c.refused.ensures.worn c.refused.ensures.other;
   crash = post_withstands g.D.Disk c.args.event.now _ c.args.store.now c.post.new.self c.requires
       c.in-Err.ensures.any_moment c.in-Err.ensures.worn c.in-Err.ensures.device;
+  spared = λ is durable honest. (c.in-Err.ensures.memory (ap (λ e. Err e)
+      (only_memory c.in-Err.error c.refused.result c.refused.ensures.other is))).unrecorded c.requires honest;
 }

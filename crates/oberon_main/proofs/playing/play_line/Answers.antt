@@ -1,9 +1,9 @@
-use Rattle.std.proofs.Common.{ap, ◌∙◌, subst}
+use Rattle.std.proofs.Common.{ap, ◌∙◌, subst, Err}
 use Rattle.std.proofs.lemmas.Result.{err_from_is_err_and}
 use Rattle.oberon_main.specs.Opened.{session_of}
 use Rattle.oberon_main.specs.Session.{answer}
 use Rattle.screen_cells.specs.Sent.{AppendsFront}
-use Rattle.oberon_main.proofs.Surviving.{line_stopped, line_answered}
+use Rattle.oberon_main.proofs.ByLines.{line_stopped, line_served}
 use Rattle.oberon_main.proofs.playing.play_line.Goals as goal
 
 pub returns-in_err-send-clause-played : goal.returns-in_err-send-clause-played
@@ -24,19 +24,19 @@ returns-in_err-answer-clause-survives g c =
     let p = err_from_is_err_and c.from_residual.result c.from_residual.ensures.1 in
     let made = c.in_err-answer.ensures in
     rw (p.1, p.2) (line_stopped g.D.Disk c.args.line.now c.request.result c.in_err-answer.field-0.0 c.args.store.now
-    c.work_out.new.store c.request.ensures made.faults.errors made.crash)
+    c.work_out.new.store c.request.ensures made.faults.errors made.crash (λ is. made.spared (ap (λ e. Err e) is)))
 
 pub returns-in_err-send-clause-survives : goal.returns-in_err-send-clause-survives
 returns-in_err-send-clause-survives g c =
     let p = err_from_is_err_and c.from_residual-in_err-send.result c.from_residual-in_err-send.ensures.1 in
     let made = c.in_ok-answer.ensures in
-    rw (p.1, p.2) (line_answered g.D.Disk c.args.line.now c.request.result c.args.store.now c.work_out.new.store
+    rw (p.1, p.2) (line_served g.D.Disk c.args.line.now c.request.result c.args.store.now c.work_out.new.store
     c.request.ensures made.worked_out.session (c.info.ensures.durable made.worked_out.usable)
     made.worked_out.premise.1 made.crash)
 
 pub returns-clause-survives : goal.returns-clause-survives
 returns-clause-survives g c =
     let made = c.in_ok-answer.ensures in
-    line_answered g.D.Disk c.args.line.now c.request.result c.args.store.now c.work_out.new.store
+    line_served g.D.Disk c.args.line.now c.request.result c.args.store.now c.work_out.new.store
     c.request.ensures made.worked_out.session (c.info.ensures.durable made.worked_out.usable)
     made.worked_out.premise.1 made.crash

@@ -1,8 +1,10 @@
-use Rattle.std.proofs.Common.{refl, ◌∙◌, inl, inr}
+use Rattle.std.proofs.Common.{refl, ◌∙◌, inl, inr, ap, ◌+◌}
 use Rattle.oberon_main.proofs.Played.{played_more, stopped_in_line, ended_with_rest, cut_off, pieces_with_line}
 use Rattle.oberon_main.proofs.Played.{pieces_with_rest, counts_of_line, counts_from, only_failures}
 use Rattle.oberon_main.proofs.Played.{played_none}
-use Rattle.oberon_main.proofs.Surviving.{no_line, one_line_more, script_stopped, script_ended, script_cut_off}
+use Rattle.oberon_main.proofs.Causes.{few_reads, input_of_line, input_of_rest, input_failed}
+use Rattle.oberon_main.proofs.Causes.{output_of_line, output_from}
+use Rattle.oberon_main.proofs.ByLines.{ran_none, ran_more, ended_by_line, ended_by_rest, cut_off_by_lines}
 use Rattle.oberon_main.proofs.playing.play_lines.Goals as goal
 
 pub loop-line-init : goal.loop-line-init
@@ -10,11 +12,15 @@ loop-line-init g c =
     let durable = c.info.ensures.durable c.requires in
     record {
       played = played_none _ _ _ _ _ _ c.new-script.ensures.pending c.new-script.ensures.reads
-          (λ honest. no_line g.D.Disk c.args.store.now durable honest);
+          (ran_none g.D.Disk c.args.store.now);
       usable = c.requires;
+      started = durable;
       durable = durable;
       as_large = refl;
       calm = refl;
+      counted = ap (λ n. g.R.ScriptReader.reads c.args.reader.now + n) c.new-script.ensures.reads;
+      reading = refl;
+      writing = refl;
       still = λ honest. honest;
       already = λ honest. honest;
     }
@@ -33,27 +39,41 @@ returns-in-Err-clause-played g c = record {
   );
 }
 
-pub returns-in-Err-clause-survives : goal.returns-in-Err-clause-survives
-returns-in-Err-clause-survives g c =
+pub returns-in-Err-clause-by_lines : goal.returns-in-Err-clause-by_lines
+returns-in-Err-clause-by_lines g c =
     let i = c.loop-line.invariant in
-    script_stopped g.D.Disk c.in-Err.end _ _ _ _ _ _ _ _ _ _ _ _ _ i.played (c.in-Feed.ensures.line refl) i.as_large
-    i.durable i.still c.in-Err.ensures.survives c.in-Err.ensures.played.unanswered
+    ended_by_line g.D.Disk c.in-Err.end _ _ i.played (c.in-Feed.ensures.line refl) i.started i.durable i.still
+    c.in-Err.ensures.survives c.in-Err.ensures.played.unanswered
 
 pub returns-in-Err-clause-pieces : goal.returns-in-Err-clause-pieces
 returns-in-Err-clause-pieces g c = pieces_with_line _ _ _ _ _ _ _ _ _ _ _ _ c.loop-line.invariant.played
     (c.in-Feed.ensures.line refl)
 
+pub returns-in-Err-clause-limit : goal.returns-in-Err-clause-limit
+returns-in-Err-clause-limit g c = few_reads _ _ _ _ (c.take_line.ensures.counted ∙ c.loop-line.invariant.counted)
+
+pub returns-in-Err-clause-input : goal.returns-in-Err-clause-input
+returns-in-Err-clause-input g c = input_of_line c.in-Err.end _ _ _ _ _ c.in-Err.ensures.faults.errors
+    (c.in-Feed.ensures.calm (λ wrong. cc) ∙ c.loop-line.invariant.reading)
+
+pub returns-in-Err-clause-output : goal.returns-in-Err-clause-output
+returns-in-Err-clause-output g c = output_from c.in-Err.end _ _ _ c.loop-line.invariant.writing
+    (output_of_line c.in-Err.end _ _ _ _ c.in-Err.is c.play_line.ensures.output)
+
 pub loop-line-preserved : goal.loop-line-preserved
 loop-line-preserved g c = record {
   played = played_more _ _ _ _ _ _ _ _ _ _ _ _ _ _ c.loop-line.invariant.played (c.in-Feed.ensures.line refl)
       (λ honest. c.in_default.ensures.played.answered (c.loop-line.invariant.still honest))
-      (one_line_more g.D.Disk _ c.loop-line.invariant.played (c.in-Feed.ensures.line refl)
-      c.loop-line.invariant.as_large c.loop-line.invariant.durable c.loop-line.invariant.still
-      c.in_default.ensures.survives);
+      (ran_more g.D.Disk _ c.loop-line.invariant.played (c.in-Feed.ensures.line refl)
+      c.loop-line.invariant.durable c.loop-line.invariant.still c.in_default.ensures.survives);
   usable = c.in_default.ensures.played.usable;
+  started = c.loop-line.invariant.started;
   durable = c.in_default.ensures.durable;
   as_large = c.in_default.ensures.as_large ∙ c.loop-line.invariant.as_large;
   calm = c.in_default.ensures.faults.calm (λ wrong. cc) ∙ c.loop-line.invariant.calm;
+  counted = c.take_line.ensures.counted ∙ c.loop-line.invariant.counted;
+  reading = c.in-Feed.ensures.calm (λ wrong. cc) ∙ c.loop-line.invariant.reading;
+  writing = c.in_default.ensures.output.calm (λ wrong. cc) ∙ c.loop-line.invariant.writing;
   still = λ honest. c.in_default.ensures.played.premise.1 (c.loop-line.invariant.still honest);
   already = λ honest. c.loop-line.invariant.already (c.in_default.ensures.played.premise.0 honest);
 }
@@ -75,16 +95,36 @@ returns-in-End-clause-played g c = record {
   );
 }
 
-pub returns-in-End-clause-survives : goal.returns-in-End-clause-survives
-returns-in-End-clause-survives g c =
+pub returns-in-End-clause-by_lines : goal.returns-in-End-clause-by_lines
+returns-in-End-clause-by_lines g c =
     let i = c.loop-line.invariant in
-    script_ended g.D.Disk c.play_rest.result _ _ _ _ _ _ _ _ _ _ _ _ _ i.played
-    (c.in-End.ensures.rest (λ wrong. cc)) (c.in-End.ensures.end refl) i.as_large i.durable i.still
-    c.play_rest.ensures.survives c.play_rest.ensures.told
+    ended_by_rest g.D.Disk c.play_rest.result _ _ i.played (c.in-End.ensures.rest (λ wrong. cc))
+    (c.in-End.ensures.end refl) i.started i.durable i.still c.play_rest.ensures.survives c.play_rest.ensures.told
 
 pub returns-in-End-clause-pieces : goal.returns-in-End-clause-pieces
 returns-in-End-clause-pieces g c = pieces_with_rest _ _ _ _ _ _ _ _ _ _ _ _ c.loop-line.invariant.played
     (c.in-End.ensures.rest (λ wrong. cc))
+
+pub returns-in-End-clause-limit : goal.returns-in-End-clause-limit
+returns-in-End-clause-limit g c = few_reads _ _ _ _ (c.take_line.ensures.counted ∙ c.loop-line.invariant.counted)
+
+pub returns-in-End-clause-input : goal.returns-in-End-clause-input
+returns-in-End-clause-input g c = input_of_rest c.play_rest.result _ _ _ _ _ c.play_rest.ensures.no_input
+    (c.in-End.ensures.calm (λ wrong. cc) ∙ c.loop-line.invariant.reading)
+
+pub returns-in-End-clause-output : goal.returns-in-End-clause-output
+returns-in-End-clause-output g c = output_from c.play_rest.result _ _ _ c.loop-line.invariant.writing
+    c.play_rest.ensures.output
+
+pub returns-in-Fault-clause-limit : goal.returns-in-Fault-clause-limit
+returns-in-Fault-clause-limit g c = few_reads _ _ _ _ (c.take_line.ensures.counted ∙ c.loop-line.invariant.counted)
+
+pub returns-in-Fault-clause-input : goal.returns-in-Fault-clause-input
+returns-in-Fault-clause-input g c = input_failed _ _ _ _ _ _ _ c.loop-line.invariant.reading
+    (c.take_line.ensures.counted ∙ c.loop-line.invariant.counted) (c.in-Fault.ensures.fault refl)
+
+pub returns-in-Fault-clause-output : goal.returns-in-Fault-clause-output
+returns-in-Fault-clause-output g c = c.loop-line.invariant.writing
 
 pub returns-in-Fault-clause-played : goal.returns-in-Fault-clause-played
 returns-in-Fault-clause-played g c = record {
@@ -93,9 +133,9 @@ returns-in-Fault-clause-played g c = record {
   premise = (c.loop-line.invariant.already, c.loop-line.invariant.still);
 }
 
-pub returns-in-Fault-clause-survives : goal.returns-in-Fault-clause-survives
-returns-in-Fault-clause-survives g c = script_cut_off g.D.Disk _ _ _ _ _ _ _ _ _ _ _ c.loop-line.invariant.played
-    (c.in-Fault.ensures.rest (λ wrong. cc))
+pub returns-in-Fault-clause-by_lines : goal.returns-in-Fault-clause-by_lines
+returns-in-Fault-clause-by_lines g c = cut_off_by_lines g.D.Disk c.loop-line.invariant.played
+    (c.in-Fault.ensures.rest (λ wrong. cc)) c.loop-line.invariant.started
 
 pub returns-in-Fault-clause-pieces : goal.returns-in-Fault-clause-pieces
 returns-in-Fault-clause-pieces g c = pieces_with_rest _ _ _ _ _ _ _ _ _ _ _ _ c.loop-line.invariant.played

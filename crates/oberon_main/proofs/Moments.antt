@@ -1,0 +1,185 @@
+-- What a crash leaves at every moment of a script that is played by lines.
+use Rattle.std.proofs.Common.{◌≡◌, inl, inr, ℕ, ◌≤◌, List, [], ◌∷◌, ◌++◌, length, Option, IfSome}
+use Rattle.std.proofs.Common.{refl, sym, ◌∙◌, ap, subst, arith, append_assoc, append-nil}
+use Rattle.std.specs.List.{AllByRecursion}
+use Rattle.sector_disk.specs.declared.disk.Disk.{Ghosts}
+use Rattle.sector_disk.specs.Trail.{Content, Trail, now, IsImage, LeavesOnly}
+use Rattle.sector_disk.proofs.Touching.{weakened}
+use Rattle.desktop_definitions.specs.Desktop.{Desktop}
+use Rattle.store_layout.specs.Meaning.{Means, MeansEither}
+use Rattle.desk_journal.specs.View.{StoreView}
+use Rattle.desk_journal.proofs.Passing.{at_start}
+use Rattle.script_lines.specs.Script.{IsLine, BeginsWith}
+use Rattle.script_lines.specs.Request.{request_of}
+use Rattle.oberon_main.specs.declared.playing.PlayEnd.{PlayEnd}
+use Rattle.oberon_main.specs.declared.playing.PlayEnd.TheVariants.{Done, Fault, Memory, Input, Output}
+use Rattle.oberon_main.specs.Session.{Session, after, after_all}
+use Rattle.oberon_main.specs.Opened.{session_of}
+use Rattle.oberon_main.specs.Surviving.{led_to}
+use Rattle.oberon_main.specs.ByLines.{IsNextLine, Lasts, LeavesLine, Serves, IsRun, Stops, EndsSaid, PlaysByLines}
+use Rattle.oberon_main.specs.Moments.{AreAnswered, LeavesLines}
+use Rattle.oberon_main.specs.Moments.AreAnswered.{none, one_more}
+use Rattle.oberon_main.proofs.Played.{all_both, after_both}
+use Rattle.oberon_main.proofs.Surviving.{lines_steps, lasting_means}
+use Rattle.oberon_main.proofs.ByLines.{begins_all, begins_came, run_session, run_size}
+
+-- ---- the same meaning in other words
+
+moved : (n n' : ℕ) (x y : Desktop) (c : Content) → n' ≡ n → x ≡ y → Means n x c → Means n' y c
+moved n n' x y c size same means = subst (λ d. Means n' d c) same (subst (λ m. Means m x c) (sym size) means)
+
+moved_either : (n n' : ℕ) (x y x' y' : Desktop) (c : Content) → n' ≡ n → x ≡ x' → y ≡ y' → MeansEither n x y c
+    → MeansEither n' x' y' c
+moved_either n n' x y x' y' c size first second (inl means) = inl (moved n n' x x' c size first means)
+moved_either n n' x y x' y' c size first second (inr means) = inr (moved n n' y y' c size second means)
+
+-- lines that lead on from where others led
+led_on : (s now : Session) (lines more : List (List ℕ)) → now ≡ after_all s lines
+    → (after_all now more).desktop ≡ led_to s (lines ++ more)
+led_on s now lines more session = ap (λ (t : Session). (after_all t more).desktop) session
+    ∙ ap (λ (t : Session). t.desktop) (sym (after_both s lines more)) ∙ lines_steps s (lines ++ more)
+
+led_here : (s now : Session) (lines : List (List ℕ)) → now ≡ after_all s lines → now.desktop ≡ led_to s lines
+led_here s now lines session = ap (λ (t : Session). t.desktop) session ∙ lines_steps s lines
+
+module _ {D : Type 0} (d : Ghosts D) where
+  -- ---- the line at which a script ended
+
+  -- it isn't known yet which lines came before it
+  record IsTail (from : Option (List ℕ)) (answered : List (List ℕ)) (mid new : StoreView D) : Type 0 where
+    begun : List (List ℕ)
+    one : length begun ≤ 1
+    plain : AllByRecursion IsLine begun
+    begins : IfSome from (λ script. BeginsWith script (answered ++ begun))
+    moments : LeavesOnly (d.trail mid.disk) (d.trail new.disk)
+        (MeansEither (d.size mid.disk) mid.desktop (after_all (session_of mid) begun).desktop)
+
+  module _ (from : Option (List ℕ)) (answered : List (List ℕ)) (mid new : StoreView D) where
+    nothing_begun : Lasts d mid → new ≡ mid → IfSome from (λ script. BeginsWith script answered)
+        → IsTail from answered mid new
+    nothing_begun lasts same begins = record {
+      begun = [];
+      one = omega arith;
+      plain = tt;
+      begins = subst (λ ls. IfSome from (λ script. BeginsWith script ls)) (sym (append-nil answered)) begins;
+      moments = subst (λ (store : StoreView D). LeavesOnly (d.trail mid.disk) (d.trail store.disk)
+          (MeansEither (d.size mid.disk) mid.desktop mid.desktop)) (sym same)
+          (at_start (d.trail mid.disk) _ (λ c image. inl (lasting_means d mid lasts c image)));
+    }
+
+    line_begun : (line : List ℕ) → IsNextLine from answered line → LeavesLine d line mid new
+        → IsTail from answered mid new
+    line_begun line follows leaves = record {
+      begun = line ∷ [];
+      one = omega arith;
+      plain = (follows.plain, tt);
+      begins = follows.begins;
+      moments = leaves;
+    }
+
+    tail_at : (why : PlayEnd) (left : Option (List ℕ)) → Lasts d mid → Stops d why from left answered mid new
+        → IsTail from answered mid new
+    tail_at Done left lasts stops = nothing_begun lasts stops.0 (begins_all from answered stops.1)
+    tail_at Fault left lasts stops = line_begun stops.line stops.follows stops.leaves
+    tail_at Memory left lasts stops = line_begun stops.line stops.follows
+        (weakened stops.leaves (λ c means. inl means))
+    tail_at Input left lasts stops = nothing_begun lasts stops.0 (begins_came from left answered stops.1)
+    tail_at Output left lasts stops = absurd stops
+
+    tail_of : (end : PlayEnd) (left held held' : Option (List ℕ)) (failed failed' : ℕ) → Lasts d mid
+        → EndsSaid d end from left answered mid new failed failed' held held' → IsTail from answered mid new
+    tail_of Done left held held' failed failed' lasts ends = tail_at Done left lasts ends.0
+    tail_of Fault left held held' failed failed' lasts ends = tail_at Fault left lasts ends.0
+    tail_of Memory left held held' failed failed' lasts ends = tail_at Memory left lasts ends.0
+    tail_of Input left held held' failed failed' lasts ends = tail_at Input left lasts ends.0
+    tail_of Output left held held' failed failed' lasts (inl cut) =
+        line_begun cut.0.line cut.0.follows cut.0.serves.any_moment
+    tail_of Output left held held' failed failed' lasts (inr unsaid) = tail_at unsaid.why left lasts unsaid.stops
+
+  -- ---- the lines before it
+
+  run_lasts : (lines : List (List ℕ)) (old new : StoreView D) → Lasts d old → IsRun d lines old new → Lasts d new
+  run_lasts [] old new lasts run = subst (λ store. Lasts d store) (sym run) lasts
+  run_lasts (line ∷ lines) old new lasts run = run_lasts lines run.0 new run.1.lasts run.2
+
+  module _ (trail : Trail) where
+    -- the trail goes on from this state of the store
+    record GoesOn (store : StoreView D) : Type 0 where
+      later : (d.trail store.disk).clock ≤ trail.clock
+      kept : (t : ℕ) → t ≤ (d.trail store.disk).clock → trail.at t ≡ (d.trail store.disk).at t
+
+    run_goes_on : (lines : List (List ℕ)) (old new : StoreView D) → IsRun d lines old new → GoesOn new → GoesOn old
+    run_goes_on [] old new run on = subst GoesOn run on
+    run_goes_on (line ∷ lines) old new run on =
+        let following : GoesOn run.0 = run_goes_on lines run.0 new run.2 on in
+        let moments = run.1.any_moment in
+        record {
+          later = omega (arith, moments.later, following.later);
+          kept = λ t early. following.kept t (omega (arith, early, moments.later)) ∙ moments.kept t early;
+        }
+
+    module _ (size : ℕ) (s : Session) (from : ℕ) where
+      answer_more : (done : List (List ℕ)) (line : List ℕ) (first mid : StoreView D)
+          → AreAnswered size s trail from (d.trail first.disk).clock done → session_of first ≡ after_all s done
+          → d.size first.disk ≡ size → Serves d line first mid → GoesOn mid
+          → AreAnswered size s trail from (d.trail mid.disk).clock (done ++ line ∷ [])
+      answer_more done line first mid so_far session as_large serves on = one_more line so_far serves.any_moment.later
+          (λ t above below c image. moved_either (d.size first.disk) size first.desktop
+          (after (session_of first) (request_of line)).desktop (led_to s done) (led_to s (done ++ line ∷ [])) c
+          (sym as_large) (led_here s (session_of first) done session)
+          (led_on s (session_of first) done (line ∷ []) session)
+          (serves.any_moment.each t above below c (subst (λ m. IsImage m c) (on.kept t below) image)))
+          (λ c image. moved (d.size mid.disk) size mid.desktop (led_to s (done ++ line ∷ [])) c
+          (sym as_large ∙ sym serves.as_large)
+          (ap (λ (t : Session). t.desktop) serves.session ∙ led_on s (session_of first) done (line ∷ []) session)
+          (lasting_means d mid serves.lasts c
+          (subst (λ m. IsImage m c) (on.kept (d.trail mid.disk).clock (omega arith)) image)))
+
+      all_answered : (done lines : List (List ℕ)) (first mid : StoreView D)
+          → AreAnswered size s trail from (d.trail first.disk).clock done → session_of first ≡ after_all s done
+          → d.size first.disk ≡ size → IsRun d lines first mid → GoesOn mid
+          → AreAnswered size s trail from (d.trail mid.disk).clock (done ++ lines)
+      all_answered done [] first mid so_far session as_large run on =
+          subst (λ ls. AreAnswered size s trail from (d.trail mid.disk).clock ls) (sym (append-nil done))
+          (subst (λ (store : StoreView D). AreAnswered size s trail from (d.trail store.disk).clock done) (sym run)
+          so_far)
+      all_answered done (line ∷ lines) first mid so_far session as_large run on =
+          subst (λ ls. AreAnswered size s trail from (d.trail mid.disk).clock ls)
+          (append_assoc done (line ∷ []) lines)
+          (all_answered (done ++ line ∷ []) lines run.0 mid
+          (answer_more done line first run.0 so_far session as_large run.1 (run_goes_on lines run.0 mid run.2 on))
+          (run.1.session ∙ ap (λ (t : Session). after t (request_of line)) session
+          ∙ sym (after_both s done (line ∷ []))) (run.1.as_large ∙ as_large) run.2 on)
+
+  -- ---- a script
+
+  pub leaves_lines : (end : PlayEnd) (from left held held' : Option (List ℕ)) (old new : StoreView D)
+      → PlaysByLines d end from left held held' old new → LeavesLines d from old new
+  leaves_lines end from left held held' old new played =
+      let mid : StoreView D = played.mid in
+      let s : Session = session_of old in
+      let trail : Trail = d.trail new.disk in
+      let session : session_of mid ≡ after_all s played.answered = run_session d played.answered old mid played.run in
+      let as_large : d.size mid.disk ≡ d.size old.disk = run_size d played.answered old mid played.run in
+      let tail : IsTail from played.answered mid new = tail_of from played.answered mid new end left played.held_mid
+      held' (d.failures old.disk) (d.failures new.disk) (run_lasts played.answered old mid played.lasts played.run)
+      played.ends in
+      let on : GoesOn trail mid = record { later = tail.moments.later; kept = tail.moments.kept } in
+      record {
+        answered = played.answered;
+        begun = tail.begun;
+        one = tail.one;
+        plain = all_both played.answered tail.begun played.plain tail.plain;
+        begins = tail.begins;
+        past = (run_goes_on trail played.answered old mid played.run on).kept;
+        last = (d.trail mid.disk).clock;
+        each = all_answered trail (d.size old.disk) s (d.trail old.disk).clock [] played.answered old mid none refl
+            refl played.run on;
+        later = tail.moments.later;
+        rest = λ t above below c image. moved_either (d.size mid.disk) (d.size old.disk) mid.desktop
+            (after_all (session_of mid) tail.begun).desktop (led_to s played.answered)
+            (led_to s (played.answered ++ tail.begun)) c (sym as_large)
+            (led_here s (session_of mid) played.answered session)
+            (led_on s (session_of mid) played.answered tail.begun session)
+            (tail.moments.each t above below c image);
+      }

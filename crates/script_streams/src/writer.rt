@@ -1,0 +1,83 @@
+//! What takes the answers to a script.
+ghost use Rattle.std.specs.Prelude.{◌≡◌, ◌+◌, ◌<◌, ℕ, List, Option, IfOk};
+ghost use Rattle.std.specs.Io.{WritesAtMost};
+ghost use Rattle.std.specs.Io.KnownBytes.{Keeps, WriteAppends};
+ghost use Rattle.script_streams.specs.Counting.{CountsFault};
+
+use crate::count::CallCount;
+use std::io::Write;
+
+/// The output took no more.
+#[derive(Clone, Copy, Debug, PartialEq, Eq)]
+pub struct OutputFault;
+
+/// Takes the answers to a script.
+pub trait AnswerWriter {
+    /// The bytes that it holds, where they are known.
+    ghost contents: { Self → Option (List ℕ) };
+
+    /// How many calls have failed. Contracts alone see it, so nothing bounds it.
+    ghost failures: { Self → ℕ };
+
+    /// Takes bytes from the front of these, and returns how many: one at least. `OutputFault`: the write failed, or
+    /// took no byte.
+    fn write_some(&mut self, bytes: &[u8]) -> Result<usize, OutputFault>
+        ensures some { IfOk result (λ n. 0 < n) }
+        ensures bound { WritesAtMost result bytes.now }
+        ensures taken { WriteAppends (contents self.old) (contents self.new) result bytes.now }
+        ensures cause { CountsFault result (failures self.old) (failures self.new) };
+
+    /// Hands on what it took. `OutputFault`: that failed.
+    fn flush(&mut self) -> Result<(), OutputFault>
+        ensures kept { Keeps (contents self.old) (contents self.new) }
+        ensures cause { CountsFault result (failures self.old) (failures self.new) };
+}
+
+/// A writer whose failures are counted.
+#[derive(Drop)]
+pub struct CountedWriter<W: Write> {
+    writer: W,
+    failed: CallCount,
+}
+
+impl<W: Write> CountedWriter<W> {
+    /// A writer over this one, of which no failure is counted yet.
+    pub fn new(writer: W) -> Self
+        ensures contents { ⟦<Self as AnswerWriter>⟧.contents result ≡ W.contents writer }
+        ensures failures { ⟦<Self as AnswerWriter>⟧.failures result ≡ 0 }
+    {
+        CountedWriter {
+            writer,
+            failed: CallCount::new(),
+        }
+    }
+
+    /// Counts a call that failed.
+    fn fault(&mut self) -> OutputFault
+        ensures counted { self.new.failed.count ≡ self.old.failed.count + 1 }
+        ensures same { self.new.writer ≡ self.old.writer }
+    {
+        self.failed.rise();
+        OutputFault
+    }
+}
+
+impl<W: Write> AnswerWriter for CountedWriter<W> {
+    ghost contents = { λ w. W.contents w.writer };
+
+    ghost failures = { λ w. w.failed.count };
+
+    fn write_some(&mut self, bytes: &[u8]) -> Result<usize, OutputFault> {
+        match self.writer.write(bytes) {
+            Ok(0) | Err(_) => Err(self.fault()),
+            Ok(taken) => Ok(taken),
+        }
+    }
+
+    fn flush(&mut self) -> Result<(), OutputFault> {
+        match self.writer.flush() {
+            Ok(()) => Ok(()),
+            Err(_) => Err(self.fault()),
+        }
+    }
+}
