@@ -58,7 +58,7 @@ text_cells x y faces pen = concat
     ∷ codes "'" ∷ weight_text pen.weight ∷ slant_text pen.is_italic ∷ rule_text pen.rule
     ∷ codes ">" ∷ escaped faces ∷ codes "</text>\n" ∷ [])
 
--- whether nothing is to be seen of cells but their paper
+-- whether a pen draws a line along its characters
 abbrev pub is_ruled : Rule → Bool
 is_ruled Plain = false
 is_ruled Under = true
@@ -67,6 +67,7 @@ is_ruled Over = true
 abbrev pub are_spaces : List Face → Bool
 are_spaces faces = list_all (λ face. face.byte == space) faces
 
+-- whether nothing is to be seen of cells but their paper
 abbrev pub is_bare : List Face → Pen → Bool
 is_bare faces pen = not (is_ruled pen.rule) && are_spaces faces
 

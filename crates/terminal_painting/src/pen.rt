@@ -6,7 +6,7 @@ ghost use Rattle.terminal_painting.specs.Pen.{rule_code, same_pen, slant_code, w
 use screen_pictures::{Cell, Mark};
 use viewer_tracks::SYSTEM_LEFT;
 
-/// Colours by their numbers among the terminal's 256.
+/// Black. Colours go by their numbers among the terminal's 256.
 pub const BLACK: u8 = 16;
 
 pub const DARK_GREY: u8 = 238;
@@ -19,6 +19,7 @@ pub const LIGHT_GREY: u8 = 250;
 
 pub const RED: u8 = 160;
 
+/// White.
 pub const WHITE: u8 = 231;
 
 /// Oberon's sixteen colours among the terminal's.
