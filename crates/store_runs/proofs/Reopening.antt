@@ -18,7 +18,7 @@ use Rattle.store_layout.specs.Meaning.{Means}
 use Rattle.store_runs.specs.declared.call.Call.{Call}
 use Rattle.store_runs.specs.declared.call.Call.TheVariants.{Post as Posting, Checkpoint}
 use Rattle.desk_journal.specs.Device.{WritesNothing, IsSameDevice, outcome}
-use Rattle.desk_journal.specs.Errors.{Error, NoMemory, Fault, NotAStore, Damaged, OfOpen}
+use Rattle.desk_journal.specs.Errors.{Error, OfOpen}
 use Rattle.desk_journal.specs.Opening.{IsNoStore}
 use Rattle.desk_journal.specs.Posting.{IsAcknowledged}
 use Rattle.desk_journal.proofs.Passing.{shows_means}
