@@ -16,7 +16,12 @@ pub fn played<D: Disk + Drop>(alloc: Global, disk: D, script: &[u8], said: &mut 
             disk
         }
         Ok(mut store) => {
-            play(alloc, &mut CountedReader::new(script), &mut writer, &mut store);
+            play(
+                alloc,
+                &mut CountedReader::new(script),
+                &mut writer,
+                &mut store,
+            );
             store.close()
         }
     }

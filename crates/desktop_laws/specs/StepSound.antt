@@ -209,11 +209,11 @@ longest_named bs (suc n) = by_form (longest_named bs n) (form (take (suc n) bs))
 first_named : (bs : List ℕ) → IsFileName (first_symbol bs).0
 first_named [] = tt
 first_named (b ∷ bs) = by_form (longest_form (b ∷ bs) (length (b ∷ bs))) (longest_named (b ∷ bs) (length (b ∷ bs)))
-    where
-  by_form : (o : Option (Symbol × ℕ)) → IfSome o (λ found. IsFileName found.0)
-      → IsFileName (unwrap_or o (Special b, 1)).0
-  by_form None is = tt
-  by_form (Some found) is = is
+  where
+    by_form : (o : Option (Symbol × ℕ)) → IfSome o (λ found. IsFileName found.0)
+        → IsFileName (unwrap_or o (Special b, 1)).0
+    by_form None is = tt
+    by_form (Some found) is = is
 
 symbol_named : (bs : List ℕ) (p : ℕ) → IsFileName (symbol bs p).0
 unfolding symbol
@@ -341,8 +341,7 @@ module _ (d : Desktop) (shaped : IsShaped d) where
   unfolding files_deleted
   deleted_shaped names = by_test IsShaped (can_be_deleted (keys_of d.files) names) no_file
       (Ok (all_logged (record d { files = fold without_file d.files names }) (map deleting_line names)))
-      (λ can. all_logged_shaped (record d { files = fold without_file d.files names }) (map deleting_line names) (record
-      {
+      (λ can. all_logged_shaped (record d { files = fold without_file d.files names }) (map deleting_line names) (record {
         viewers = shaped.viewers;
         places = shaped.places;
         marks = shaped.marks;
@@ -441,8 +440,7 @@ module _ (d : Desktop) (shaped : IsShaped d) where
 
   meant_placed : (call : Call) (v : ℕ) → IsPlaced call.viewer d.columns → meant d call ≡ Some v → IsPlaced v d.columns
   meant_placed call v placed = elim call.in_menu as
-      (λ b. (let o : Option ℕ = if b then Some call.viewer else seen_at_marker d in o) ≡ Some v → IsPlaced v d.columns)
-      [
+      (λ b. (let o : Option ℕ = if b then Some call.viewer else seen_at_marker d in o) ≡ Some v → IsPlaced v d.columns) [
         | true ↦ λ is. (let same : call.viewer ≡ v = cc is in subst (λ w. IsPlaced w d.columns) same placed)
         | false ↦ seen_marker v
       ]

@@ -70,13 +70,7 @@ pub fn point<S: CharSource>(
 }
 
 /// In a filler, at a cell.
-#[tactic(
-    auto,
-    unfolding(
-        desk_core::specs::Mouse::done_in_filler,
-        desktop_definitions::specs::Unread::gesture_brings
-    )
-)]
+#[tactic(auto, unfolding(desk_core::specs::Mouse::done_in_filler, desktop_definitions::specs::Unread::gesture_brings))]
 fn point_filler<S: CharSource>(
     desk: &mut Desk,
     alloc: Global,
@@ -100,13 +94,7 @@ fn point_filler<S: CharSource>(
 }
 
 /// In the menu of a viewer; the keys went up at a cell.
-#[tactic(
-    auto,
-    unfolding(
-        desk_core::specs::Mouse::done_in_menu,
-        desktop_definitions::specs::Unread::gesture_needs_no_byte
-    )
-)]
+#[tactic(auto, unfolding(desk_core::specs::Mouse::done_in_menu, desktop_definitions::specs::Unread::gesture_needs_no_byte))]
 fn point_menu<S: CharSource>(
     desk: &mut Desk,
     alloc: Global,
@@ -154,13 +142,7 @@ fn call_in_menu<S: CharSource>(
 }
 
 /// In the scroll bar of a viewer, at a row of its main frame.
-#[tactic(
-    auto,
-    unfolding(
-        desk_core::specs::Mouse::done_in_bar,
-        desktop_definitions::specs::Unread::gesture_needs_no_byte
-    )
-)]
+#[tactic(auto, unfolding(desk_core::specs::Mouse::done_in_bar, desktop_definitions::specs::Unread::gesture_needs_no_byte))]
 fn point_bar<S: CharSource>(
     desk: &mut Desk,
     keys: Keys,
@@ -243,13 +225,7 @@ fn point_cell<S: CharSource>(
 }
 
 /// At a position of a viewer's main text.
-#[tactic(
-    auto,
-    unfolding(
-        desk_core::specs::Mouse::done_at,
-        desktop_definitions::specs::Unread::gesture_needs_no_byte
-    )
-)]
+#[tactic(auto, unfolding(desk_core::specs::Mouse::done_at, desktop_definitions::specs::Unread::gesture_needs_no_byte))]
 fn point_position<S: CharSource>(
     desk: &mut Desk,
     alloc: Global,

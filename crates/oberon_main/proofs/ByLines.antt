@@ -262,15 +262,15 @@ module _ {D : Type 0} (d : Ghosts D) where
       → PlaysLines d end from left'' held held'' old new
   stops_at {from = from} {held' = held'} {mid = mid} end left'' held'' new line so_far durable honest follows leaves
       why = record {
-    lasts = durable honest;
-    answered = so_far.lines;
-    plain = so_far.each;
-    mid = mid;
-    run = so_far.known.run honest;
-    held_mid = held';
-    written = so_far.written honest;
-    ends = ends_in_line end from left'' so_far.lines line mid new held' held'' follows leaves why;
-  }
+        lasts = durable honest;
+        answered = so_far.lines;
+        plain = so_far.each;
+        mid = mid;
+        run = so_far.known.run honest;
+        held_mid = held';
+        written = so_far.written honest;
+        ends = ends_in_line end from left'' so_far.lines line mid new held' held'' follows leaves why;
+      }
 
   -- a line ended the script
   pub ended_by_line : {from left' left'' held held' : Option (List ℕ)} {most : ℕ} {u u' : Unplayed} {line : Line}
@@ -530,9 +530,12 @@ module _ {D : Type 0} (d : Ghosts D) where
             parts = sym (append-nil more);
             plain = all_both answered (cut.line ∷ []) plain (cut.follows.plain, tt);
             begins = cut.follows.begins;
-            written = (Output, subst (AppendsFront held held') (answers ∙ sym (append-nil (out s more)))
-                (front_after held held_mid held' (out s answered) (answer (session_of mid) (request_of cut.line))
-                written cut.written));
+            written = (
+              Output,
+              subst (AppendsFront held held') (answers ∙ sym (append-nil (out s more)))
+                  (front_after held held_mid held' (out s answered) (answer (session_of mid) (request_of cut.line))
+                  written cut.written),
+            );
             kept = lines_after d old mid new answered (cut.line ∷ []) (cut.line ∷ [])
                 (run_keeps answered old mid lasts run) (run_session answered old mid run)
                 (run_size answered old mid run) (served_line d mid new cut.line cut.serves);
@@ -550,9 +553,11 @@ module _ {D : Type 0} (d : Ghosts D) where
       kept_ends Memory left failed failed' ends = kept_at Memory left ends.0 (whole_word Memory ends.1)
       kept_ends Input left failed failed' ends = kept_at Input left ends.0 (whole_word Input ends.1)
       kept_ends Output left failed failed' (inl cut) = kept_with cut.0
-      kept_ends Output left failed failed' (inr unsaid) = kept_at unsaid.why left unsaid.stops
-          (unsaid.why, front_after held held_mid held' (out (session_of old) answered) (last_word unsaid.why) written
-          unsaid.written)
+      kept_ends Output left failed failed' (inr unsaid) = kept_at unsaid.why left unsaid.stops (
+        unsaid.why,
+        front_after held held_mid held' (out (session_of old) answered) (last_word unsaid.why) written
+            unsaid.written,
+      )
 
   is_kept : (end : PlayEnd) (from left held held' : Option (List ℕ)) (old new : StoreView D)
       → PlaysByLines d end from left held held' old new → IsKept from held held' old new

@@ -31,7 +31,12 @@ fn replies<R: Read>(alloc: Global, reader: &mut R) -> Result<(PlayEnd, Vec<u8>),
     let mut store = opened(alloc)?;
     let mut written = Vec::new(alloc);
     let mut writer = CountedWriter::new(&mut written);
-    let end = play(alloc, &mut CountedReader::new(reader), &mut writer, &mut store);
+    let end = play(
+        alloc,
+        &mut CountedReader::new(reader),
+        &mut writer,
+        &mut store,
+    );
     Ok((end, written))
 }
 

@@ -1,7 +1,9 @@
 //! Stores, by the scripts that are played over them: worked rows, and what is said of a disk that has none.
 ghost use Rattle.std.specs.Prelude.{◌≡◌, false};
 
-use oberon_main::{CountedReader, CountedWriter, PlayEnd, STORE_SECTORS, Store, check, play, refuse};
+use oberon_main::{
+    CountedReader, CountedWriter, PlayEnd, STORE_SECTORS, Store, check, play, refuse,
+};
 use sector_disk::{Disk, Fault, MemoryDisk, Sector};
 use std::alloc::{AllocError, Global};
 use std::test::Fail;

@@ -18,7 +18,11 @@ loop-self-preserved g c =
           (c.take_pending.ensures.none c.loop-self-test.true).1
           (c.take_pending.ensures.none c.loop-self-test.true).2
           c.read_piece.ensures.came c.read_piece.ensures.most (one_less ∙ c.take_pending.ensures.reads) fewer;
-      counted = omega (arith, c.loop-self.invariant.counted, c.take_pending.ensures.reads,
-          c.read_piece.ensures.counted);
+      counted = omega (
+        arith,
+        c.loop-self.invariant.counted,
+        c.take_pending.ensures.reads,
+        c.read_piece.ensures.counted,
+      );
       calm = c.in-Some.ensures.calm ∙ c.loop-self.invariant.calm;
     }
