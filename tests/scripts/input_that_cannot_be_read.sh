@@ -4,7 +4,9 @@ echo "$?"
 "$PROGRAM" <&-
 echo "$?"
 cc -shared -fPIC -o calls.so "$TESTS/fail_calls.c" || exit 1
+# (the shell writes a line at a time, and cat all at once)
+printf 'list\nsh' > front
 for number in 0 1 2; do
-    (printf 'list\nsh'; sleep 1; printf 'ow A\n') | FAIL=read AT=$number LD_PRELOAD=./calls.so "$PROGRAM"
+    (cat front; sleep 1; printf 'ow A\n') | FAIL=read AT=$number LD_PRELOAD=./calls.so "$PROGRAM"
     echo "$?"
 done
