@@ -1,7 +1,7 @@
 -- A screen as a drawing, in SVG: a cell is 9 units wide and 19 high, and x and y are those of its upper left corner.
 --
--- Each row is drawn from the left, stretch by stretch of cells in one pen: the paper where it isn't white, and on it
--- the text where there is one. A caret is a bar at the left of its cell.
+-- Each row is drawn from the left, stretch by stretch of cells in one pen: the background where it isn't white, and on
+-- it the text where there is one. A caret is a bar at the left of its cell.
 use Rattle.std.specs.Prelude.{ℕ, ◌+◌, ◌-◌, ◌*◌, Bool, true, false, ◌&&◌, ◌||◌, ◌==◌, not, if◌then◌else◌, List, [], ◌∷◌}
 use Rattle.std.specs.Prelude.{◌++◌, codes, take, drop, length}
 use Rattle.std.specs.Fmt.{decimal}

@@ -237,7 +237,7 @@ fn draw_stretch<W: Write>(
     draw_text(writer, place, faces, pen)
 }
 
-/// Draws the paper of cells, if it isn't white.
+/// Draws the background of cells, if it isn't white.
 fn draw_paper<W: Write>(
     writer: &mut W,
     place: (u8, u8),

@@ -45,7 +45,7 @@ pub(crate) fn rectangle<W: Write>(writer: &mut W, area: Area, colour: u8) -> Res
     )
 }
 
-/// Draws the paper of cells from a column on, in a row from the top.
+/// Draws the background of cells from a column on, in a row from the top.
 pub(crate) fn paper_cells<W: Write>(
     writer: &mut W,
     place: (u8, u8),
