@@ -1,4 +1,5 @@
 pub mod Adding
+pub mod Behind
 pub mod Blocks
 pub mod Dividing
 pub mod Joins

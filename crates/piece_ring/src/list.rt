@@ -2,7 +2,8 @@
 //! for each piece. This layer has no raw pointer: it names nodes by their spots and indexes, and
 //! goes through the calls of `Chain`.
 ghost use Rattle.std.specs.Prelude.{ℕ, ◌≡◌, ◌+◌, ◌-◌, ◌<◌, ◌≤◌, ◌∷◌, [], ◌++◌, ◌^◌, length, Some, slice_get, IfOk};
-ghost use Rattle.std.specs.Prelude.{OnErr};
+ghost use Rattle.std.specs.Prelude.{OnErr, take};
+ghost use Rattle.piece_ring.specs.BackCursor.{IsBackCursor, text_before};
 ghost use Rattle.piece_ring.specs.declared.place.Seam.{Seam as ASeam};
 ghost use Rattle.piece_ring.specs.Flat.{flat, relooked_piece, IsWhole};
 ghost use Rattle.piece_ring.specs.Kept.{IsKeptAt, IsSettledAt, kept_pieces};
@@ -13,7 +14,7 @@ ghost use Rattle.piece_ring.specs.PieceList.{IsPieceList, IsStretch};
 ghost use Rattle.piece_ring.specs.Text.{inserted, deleted, stretch, looks_changed};
 
 use crate::chain::{Chain, Spot};
-use crate::piece::{Look, Piece};
+use crate::piece::{EMPTY, Look, Piece};
 use crate::place::{Found, Place, Seam};
 use crate::spare::Spare;
 use crate::stretch::Stretch;
@@ -108,6 +109,19 @@ impl PieceList {
         }
     }
 
+    /// The seam before the piece that stands before `seam`, and that piece.
+    pub(crate) fn piece_before(&self, seam: Seam) -> (Seam, Piece)
+        requires seam { IsSeam self.now.chain.nodes seam }
+        requires more { 0 < seam.pos }
+        ensures cursor { IsBackCursor self.now.chain.nodes result.0 result.1 }
+        ensures some { 0 < result.1.len }
+        ensures text { text_before self.now.chain.nodes result.0 result.1
+            ≡ flat (take seam.index (pieces_of self.now.chain.nodes)) }
+    {
+        let piece = self.chain.piece(seam.at, seam.index);
+        (self.step_back(seam), piece)
+    }
+
     /// The piece that has the character at `pos`, which is after `from`, by a walk towards the end.
     fn find_ahead(&self, from: Seam, pos: u32) -> Found
         requires from { IsSeam self.now.chain.nodes from }
@@ -192,6 +206,25 @@ impl PieceList {
             return Place::Between(found.before);
         }
         Place::Inside(found)
+    }
+
+    /// The seam before the piece that has `pos` inside, and that piece without the characters from
+    /// `pos` on. Where a seam stands at `pos`, that seam and no character.
+    pub(crate) fn front(&self, pos: u32) -> (Seam, Piece)
+        requires { pos ≤ self.now.len }
+        ensures cursor { IsBackCursor self.now.chain.nodes result.0 result.1 }
+        ensures text { text_before self.now.chain.nodes result.0 result.1
+            ≡ take pos (text_of self.now.chain.nodes) }
+    {
+        match self.place(pos) {
+            Place::Between(seam) => (seam, EMPTY),
+            Place::Inside(found) => {
+                let Seam { at, index, pos: _ } = found.after;
+                let piece = self.chain.piece(at, index);
+                let len = pos - found.before.pos;
+                (found.before, Piece { len, ..piece })
+            }
+        }
     }
 
     /// The place of the piece that has the character at `pos`, or of the trailer at the end.

@@ -4,13 +4,15 @@
 //! character's offset and look alone. How a text is cut into pieces isn't promised, but for the cut
 //! that `split_at` makes, the pieces that `push` puts in, which `Cursor::next_piece` gives back, and
 //! how many `add` makes.
-ghost use Rattle.std.specs.Prelude.{◌≡◌, ◌+◌, ◌^◌, ◌<◌, ◌≤◌, ◌∷◌, ◌++◌, [], length, drop, IfOk, IfErr, OnOk, OnErr};
+ghost use Rattle.std.specs.Prelude.{◌≡◌, ◌+◌, ◌^◌, ◌<◌, ◌≤◌, ◌∷◌, ◌++◌, [], length, take, drop, IfOk, IfErr, OnOk};
+ghost use Rattle.std.specs.Prelude.{OnErr};
 ghost use Rattle.piece_ring.specs.Cut.{IsCutAt};
 ghost use Rattle.piece_ring.specs.Flat.{flat, characters_of, IsWhole};
 ghost use Rattle.piece_ring.specs.Kept.{IsKeptAt, IsSettledAt};
 ghost use Rattle.piece_ring.specs.Merging.{AddsAtMost, IsMergedAt};
 ghost use Rattle.piece_ring.specs.Text.{stretch, inserted, deleted, looks_changed};
 
+use crate::back_cursor::BackCursor;
 use crate::cursor::Cursor;
 use crate::list::PieceList;
 use crate::piece::{Look, Piece};
@@ -246,6 +248,20 @@ impl Ring {
             within: pos - found.before.pos,
             links: 0,
             walked: found.links as u32,
+        }
+    }
+
+    /// A cursor that goes backwards, after the first `pos` characters. It follows as many links as one
+    /// that `cursor` gives.
+    pub fn back_cursor(&self, pos: u32) -> BackCursor<'_>
+        requires { pos ≤ length (flat self.now.pieces) }
+        ensures { result ≡ take pos (flat self.now.pieces) }
+    {
+        let (before, front) = self.list.front(pos);
+        BackCursor {
+            list: &self.list,
+            before,
+            front,
         }
     }
 

@@ -1,5 +1,5 @@
 -- What a loop keeps that reads a text character after character.
-use Rattle.std.specs.Prelude.{◌≡◌, ℕ, ◌+◌, ◌<◌, List, length, Some, slice_get}
+use Rattle.std.specs.Prelude.{◌≡◌, ℕ, ◌+◌, ◌-◌, ◌<◌, List, length, Some, slice_get}
 use Rattle.std.proofs.Common.{refl, sym, ap, ◌∙◌, arith}
 use Rattle.std.specs.Option.{option_map}
 use Rattle.std.proofs.lemmas.Option.{slice_get-map}
@@ -47,6 +47,24 @@ module _ {S : Type 0} (characters : S → List ℕ) (failures : S → ℕ) (hone
         reads = read_on characters failures honest same_ground ground_through start now later is.reads reads;
         calm = calm ∙ is.calm;
       }
+
+      pub backward : (later : S) (next : Reading) → reader.position ≡ next.position + 1 → next.text ≡ reader.text
+          → OnlyReads characters failures honest same_ground now later → failures later ≡ failures now
+          → IsAt start later text next (at - 1)
+      backward later next p t reads calm = record {
+        place = omega (arith, p, is.place);
+        same = t ∙ is.same;
+        reads = read_on characters failures honest same_ground ground_through start now later is.reads reads;
+        calm = calm ∙ is.calm;
+      }
+
+      -- what was read before it
+      pub seen_before : (byte p : ℕ) → reader.position ≡ p + 1
+          → (honest now → slice_get (bytes (characters now) reader.text) p ≡ Some byte)
+          → honest start → slice_get (bytes (characters start) text) (at - 1) ≡ Some byte
+      seen_before byte p q there h =
+          let same : p ≡ at - 1 = omega (arith, q, is.place) in
+          sym (λ k. slice_get (bytes (is.reads.same h k) (is.same k)) (same k)) ∙ there (is.reads.still h)
 
       -- what was read there
       pub seen_character : (c : ℕ × Look)

@@ -5,3 +5,4 @@ pub mod Rows
 pub mod Printing
 pub mod Painting
 pub mod Strips
+pub mod Walking

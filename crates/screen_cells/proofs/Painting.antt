@@ -1,6 +1,7 @@
 -- What is painted: a row from the left, and the rows from the bottom.
 use Rattle.std.proofs.Common.{◌≡◌, ◌≢◌, ℕ, Bool, true, ◌+◌, ◌<◌, ◌≤◌, ◌-◌, false, Option, List, [], length, get_or, set}
-use Rattle.std.proofs.Common.{map, refl, ap, ◌∙◌, arith, below_more}
+use Rattle.std.proofs.Common.{map, refl, ap, sym, ◌∙◌, arith, below_more, inl, inr}
+use Rattle.std.proofs.lemmas.Bool.{cases_eq}
 use Rattle.std.specs.Prelude.{if◌then◌else◌, nat_lt, None}
 use Rattle.std.proofs.lemmas.List.{length-set, get_or-set_same, get_or-set_other}
 use Rattle.char_file.specs.Source.{OnlyReads}
@@ -71,7 +72,7 @@ strips_painted columns viewers marker y user system in_user in_system =
     by_track x true = in_user x ∙ ap (λ c. track_cell columns viewers User c y) (let e : x ≡ x - 0 = omega arith in e)
     by_track x false = in_system (x - SYSTEM_LEFT)
 
--- The rows below n are painted, from the state `start` of the source on, and nothing failed since.
+-- The rows from n on are painted, from the state `start` of the source on, and nothing failed since.
 module _ {S : Type 0} (characters : S → List ℕ) (failures : S → ℕ) (honest : S → Type 0)
     (same_ground : S → S → Type 0) (columns : Columns) (viewers : List Shown) (marker : Option (ℕ × ℕ)) where
   abbrev pub row_wanted : S → ℕ → List Cell
@@ -81,39 +82,43 @@ module _ {S : Type 0} (characters : S → List ℕ) (failures : S → ℕ) (hone
     pub long : length rows ≡ ROWS
     pub reads : OnlyReads characters failures honest same_ground start now
     pub calm : failures now ≡ failures start
-    pub done : honest start → (k : ℕ) → k < n → get_or rows k [] ≡ row_wanted start k
+    pub done : honest start → (k : ℕ) → n ≤ k → k < ROWS → get_or rows k [] ≡ row_wanted start k
 
   pub none_painted : ((s : S) → same_ground s s) → (start : S) (rows : List (List Cell)) → length rows ≡ ROWS
-      → ArePainted start start rows 0
+      → ArePainted start start rows ROWS
   none_painted ground_self start rows long = record {
     long = long;
     reads = no_read characters failures honest same_ground ground_self start;
     calm = refl;
-    done = λ h k below. absurd (omega (arith, below));
+    done = λ h k from below. absurd (omega (arith, from, below));
   }
 
   pub row_painted : ((a b c : S) → same_ground a b → same_ground b c → same_ground a c)
-      → (start mid now : S) (rows : List (List Cell)) (row : List Cell) (n : ℕ) → n < ROWS
+      → (start mid now : S) (rows : List (List Cell)) (row : List Cell) (n : ℕ) → 0 < n → n ≤ ROWS
       → ArePainted start mid rows n → OnlyReads characters failures honest same_ground mid now
-      → failures now ≡ failures mid → (honest mid → row ≡ row_wanted mid n)
-      → ArePainted start now (set rows n row) (n + 1)
-  row_painted ground_through start mid now rows row n inside so_far reads calm made = record {
-    long = length-set rows n row ∙ so_far.long;
+      → failures now ≡ failures mid → (honest mid → row ≡ row_wanted mid (n - 1))
+      → ArePainted start now (set rows (n - 1) row) (n - 1)
+  row_painted ground_through start mid now rows row n some inside so_far reads calm made = record {
+    long = length-set rows (n - 1) row ∙ so_far.long;
     reads = read_on characters failures honest same_ground ground_through start mid now so_far.reads reads;
     calm = calm ∙ so_far.calm;
-    done = λ h. below_more (λ k. get_or (set rows n row) k [] ≡ row_wanted start k) n
-        (λ k below. let other : k ≢ n = omega (arith, below) in
-        get_or-set_other rows n k row [] other ∙ so_far.done h k below)
-        (let long : n < length rows = omega (arith, inside, so_far.long) in
-        get_or-set_same rows n row [] long ∙ made (so_far.reads.still h)
-        ∙ (λ i. painted_row columns (map (as_read (so_far.reads.same h i)) viewers) marker n));
+    done = λ h k from below. elim (cases_eq k (n - 1)) [
+      | inl here ↦
+          let long : n - 1 < length rows = omega (arith, some, inside, so_far.long) in
+          ap (λ i. get_or (set rows (n - 1) row) i []) here
+          ∙ get_or-set_same rows (n - 1) row [] long ∙ made (so_far.reads.still h)
+          ∙ (λ i. painted_row columns (map (as_read (so_far.reads.same h i)) viewers) marker (n - 1))
+          ∙ ap (row_wanted start) (sym here)
+      | inr other ↦ get_or-set_other rows (n - 1) k row [] other
+          ∙ so_far.done h k (omega (arith, from, other)) below
+    ];
   }
 
-  pub all_painted : (start now : S) (rows : List (List Cell)) (n : ℕ) → ROWS ≤ n → ArePainted start now rows n
+  pub all_painted : (start now : S) (rows : List (List Cell)) (n : ℕ) → n ≤ 0 → ArePainted start now rows n
       → honest start → rows ≡ screen_of (picture columns (map (as_read (characters start)) viewers) marker)
   all_painted start now rows n all painted h =
       values_is ROWS (row_wanted start) rows [] painted.long
-      (λ k below. painted.done h k (omega (arith, all, below)))
+      (λ k below. painted.done h k (omega (arith, all)) below)
 
 -- no viewer is seen where there is none
 seen_nowhere : (b : Bool) (y : ℕ) → viewer_at (shown no_viewers (if b then User else System)) y ≡ None

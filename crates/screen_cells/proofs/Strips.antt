@@ -1,8 +1,8 @@
 -- What a track shows in a row is what its strip does.
 use Rattle.std.proofs.Common.{◌≡◌, ℕ, ◌+◌, ◌-◌, ◌<◌, ◌≤◌, Bool, true, false, ◌==◌, List, length, map, Option, Some}
-use Rattle.std.proofs.Common.{None, option_map, get_or, slice_get, ap, sym, ◌∙◌, arith}
+use Rattle.std.proofs.Common.{None, option_map, slice_get, ap, sym, ◌∙◌, arith}
 use Rattle.std.specs.Prelude.{if◌then◌else◌}
-use Rattle.std.proofs.lemmas.Option.{slice_get-map, slice_get-get_or, slice_get_past}
+use Rattle.std.proofs.lemmas.Option.{slice_get-map, slice_get_past}
 use Rattle.std.proofs.lemmas.List.Folds.{find_at}
 use Rattle.viewer_tracks.proofs.Positions.{position_or_len_map}
 use Rattle.std.specs.List.{find, position_or_len}
@@ -43,11 +43,10 @@ module _ {X Y : Type 0} (p : Y → Bool) (f : X → Y) (xs : List X) where
   found_there = find_at p (map f xs) ∙ ap (slice_get (map f xs)) (position_or_len_map f p xs)
       ∙ slice_get-map f xs (position_or_len (λ x. p (f x)) xs)
 
-  pub found_first : (i : ℕ) (x : X) → i ≡ position_or_len (λ x. p (f x)) xs → i < length xs → x ≡ get_or xs i x
+  pub found_first : (i : ℕ) (x : X) → i ≡ position_or_len (λ x. p (f x)) xs → slice_get xs i ≡ Some x
       → find p (map f xs) ≡ Some (f x)
-  found_first i x is within there =
-      found_there ∙ ap (λ k. option_map f (slice_get xs k)) (sym is)
-      ∙ ap (option_map f) (slice_get-get_or xs i x within ∙ ap Some (sym there))
+  found_first i x is there =
+      found_there ∙ ap (λ k. option_map f (slice_get xs k)) (sym is) ∙ ap (option_map f) there
 
   pub found_none : (i : ℕ) → i ≡ position_or_len (λ x. p (f x)) xs → length xs ≤ i → find p (map f xs) ≡ None
   found_none i is past =

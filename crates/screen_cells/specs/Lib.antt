@@ -1,3 +1,4 @@
 pub mod Shown
 pub mod Rows
 pub mod Sent
+pub mod Walks

@@ -12,6 +12,7 @@ mod screen;
 mod sending;
 mod shown;
 mod strip;
+mod walk;
 
 pub use laws::{all_filler_without_viewers, cells_of_a_screen};
 pub use screen::Screen;

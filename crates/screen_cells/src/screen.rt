@@ -6,9 +6,11 @@ ghost use Rattle.screen_pictures.specs.Picture.{filler, marked, picture};
 ghost use Rattle.screen_cells.specs.Shown.{IsShowable, as_read, strip_cell};
 ghost use Rattle.screen_pictures.specs.Screen.{screen_of, cell_at, column_at, values};
 ghost use Rattle.screen_cells.specs.Rows.{painted_row, strips_cell};
+ghost use Rattle.screen_cells.specs.Walks.{AreKept};
 
 use crate::shown::Shown;
 use crate::strip::{Strip, track_strip};
+use crate::walk::Walks;
 use screen_pictures::{Cell, Mark};
 use std::marker::Model;
 use text_frames::{CharSource, Fault};
@@ -82,13 +84,18 @@ impl Screen {
         ensures reads { OnlyReads S.characters S.failures S.honest S.same_ground source.old source.new }
         ensures cause { CountsFault result (S.failures source.old) (S.failures source.new) }
     {
-        for y in 0..ROWS {
+        let mut walks = Walks {
+            user: None,
+            system: None,
+        };
+        for y in (0..ROWS).rev() {
             paint_row(
                 &mut self.rows[usize::from(y)],
                 y,
                 tracks,
                 shown,
                 marker,
+                &mut walks,
                 source,
             )?;
         }
@@ -104,24 +111,28 @@ fn cell_of(row: &Row, x: u8) -> Cell
     row[usize::from(x)]
 }
 
-/// Paints a row of the display.
-fn paint_row<S: CharSource>(
+/// Paints a row of the display. `walks` tells what was read for the rows above it. `Fault`: the source failed in this
+/// call.
+fn paint_row<'a, S: CharSource>(
     row: &mut Row,
     y: u8,
     tracks: &Tracks,
-    shown: &[Shown<'_>],
+    shown: &[Shown<'a>],
     marker: Option<(u8, u8)>,
+    walks: &mut Walks<'a>,
     source: &mut S,
 ) -> Result<(), Fault>
     requires row { y < ROWS }
     requires showable { All (IsShowable (length (S.characters source.old))) shown.now }
+    requires kept { AreKept (S.honest source.old) (S.characters source.old) shown.now walks.old }
     ensures painted { OnOk result (S.honest source.old
         → row.new ≡ painted_row tracks.now (map (as_read (S.characters source.old)) shown.now) marker y) }
+    ensures kept { OnOk result (AreKept (S.honest source.new) (S.characters source.new) shown.now walks.new) }
     ensures reads { OnlyReads S.characters S.failures S.honest S.same_ground source.old source.new }
     ensures cause { CountsFault result (S.failures source.old) (S.failures source.new) }
 {
-    let user = track_strip(tracks, shown, Track::User, y, source)?;
-    let system = track_strip(tracks, shown, Track::System, y, source)?;
+    let user = track_strip(tracks, shown, Track::User, y, &mut walks.user, source)?;
+    let system = track_strip(tracks, shown, Track::System, y, &mut walks.system, source)?;
     put_strips(row, y, &user, &system, marker);
     Ok(())
 }

@@ -1,23 +1,24 @@
 //! What a track shows in a row.
-ghost use Rattle.std.specs.Prelude.{◌≡◌, ◌+◌, ◌<◌, ◌≤◌, ◌-◌, ◌==◌, ℕ, false, length, map, slice_get, All, IfOk, IfSome};
+ghost use Rattle.std.specs.Prelude.{◌≡◌, ◌+◌, ◌<◌, ◌≤◌, ◌-◌, ◌==◌, ℕ, false, length, map, slice_get, All};
+ghost use Rattle.std.specs.Prelude.{IfOk, OnOk, IfSome};
 ghost use Rattle.std.specs.List.{position_or_len};
-ghost use Rattle.readers_scanners.specs.Words.{CountsFault, OnlyReads, flat, AreWithin, bytes, contents};
-ghost use Rattle.text_frames.specs.Cells.{cell_of};
-ghost use Rattle.text_frames.specs.Row.{row_cells};
+ghost use Rattle.readers_scanners.specs.Words.{CountsFault, OnlyReads};
 ghost use Rattle.viewer_tracks.specs.Display.{left_of};
 ghost use Rattle.viewer_tracks.specs.Viewers.{viewer_at, number_of};
 ghost use Rattle.viewer_tracks.specs.Columns.{shown as shown_track, StandsAt};
 ghost use Rattle.screen_pictures.specs.Bytes.{shown_byte};
-ghost use Rattle.screen_pictures.specs.Picture.{cell_with, filler, is_at, is_selected, text_cell, caret_at};
+ghost use Rattle.screen_pictures.specs.Picture.{cell_with, filler, is_at, is_selected, text_cell};
 ghost use Rattle.screen_pictures.specs.Picture.{viewer_cell, width_of, track_cell};
 ghost use Rattle.screen_pictures.specs.Mark.{mark_of};
 ghost use Rattle.screen_cells.specs.Shown.{IsShowable, as_read, strip_cell};
+ghost use Rattle.screen_cells.specs.Walks.{IsWalk, IsKept};
 
 use crate::shown::Shown;
+use crate::walk::{Walk, walk_of};
 use arrayvec::ArrayVec;
 use piece_ring::{DEFAULT_LOOK, Look};
 use screen_pictures::{Cell, Mark};
-use text_frames::{CharSource, Fault, Frame, Selection, Text};
+use text_frames::{CharSource, Fault, Frame, Selection};
 use viewer_tracks::{COLUMNS, ROWS, SYSTEM_LEFT, Track, Tracks, ViewerId};
 
 /// What fills a cell of a line: a character's byte and look, and its position in the text.
@@ -179,31 +180,6 @@ fn index_of(shown: &[Shown<'_>], viewer: ViewerId) -> usize
         .unwrap_or(shown.len())
 }
 
-/// The cell of a frame of `w` columns and `h` rows at which the caret of a viewer stands, if it is shown.
-fn caret_at<S: CharSource>(
-    shown: &Shown<'_>,
-    w: u8,
-    h: u8,
-    source: &mut S,
-) -> Result<Option<(u8, u8)>, Fault>
-    requires columns { w ≤ 50 }
-    requires rows { h ≤ 31 }
-    requires showable { IsShowable (length (S.characters source.old)) shown.now }
-    ensures caret { IfOk result (λ caret. S.honest source.old
-        → let v = as_read (S.characters source.old) shown.now in
-        caret ≡ caret_at w h v.main v.frame.org v.frame.caret) }
-    ensures reads { OnlyReads S.characters S.failures S.honest S.same_ground source.old source.new }
-    ensures cause { CountsFault result (S.failures source.old) (S.failures source.new) }
-{
-    let Some(p) = shown.frame.caret else {
-        return Ok(None);
-    };
-    if p > shown.main.len() {
-        return Ok(None);
-    }
-    shown.frame.cell_of(shown.main, w, h, p, source)
-}
-
 /// The menu row `y` of a viewer of that width whose rows begin at `bottom`.
 fn menu_strip<S: CharSource>(
     shown: &Shown<'_>,
@@ -234,7 +210,7 @@ fn menu_strip<S: CharSource>(
 /// A row of a viewer of that width and these rows: of its menu, or of its main frame. `Fault`: the source failed in
 /// this call.
 fn viewer_strip<S: CharSource>(
-    shown: &Shown<'_>,
+    walk: &mut Walk<'_>,
     width: u8,
     bottom: u8,
     top: u8,
@@ -246,24 +222,33 @@ fn viewer_strip<S: CharSource>(
     requires display { top ≤ ROWS }
     requires from { bottom ≤ y }
     requires before { y < top }
-    requires showable { IsShowable (length (S.characters source.old)) shown.now }
+    requires rows { walk.old.h ≡ top - bottom - 1 }
+    requires walk { IsWalk (S.honest source.old) (S.characters source.old) (width - 1) walk.old }
     ensures strip { IfOk result (λ strip. S.honest source.old → (column : ℕ) → strip_cell strip column
-        ≡ viewer_cell (as_read (S.characters source.old) shown.now) width bottom top column y) }
+        ≡ viewer_cell (as_read (S.characters source.old) walk.old.shown) width bottom top column y) }
+    ensures walk { OnOk result (IsWalk (S.honest source.new) (S.characters source.new) (width - 1) walk.new) }
+    ensures viewer { walk.new.shown ≡ walk.old.shown }
+    ensures index { walk.new.index ≡ walk.old.index }
     ensures reads { OnlyReads S.characters S.failures S.honest S.same_ground source.old source.new }
     ensures cause { CountsFault result (S.failures source.old) (S.failures source.new) }
 {
     if y + 1 == top {
-        return menu_strip(shown, width, bottom, y, source);
+        return menu_strip(&walk.shown, width, bottom, y, source);
     }
-    let h = top - bottom - 1;
     let row = top - 2 - y;
-    let line = shown.frame.line(shown.main, width - 1, h, row, source)?;
-    let caret = caret_at(shown, width - 1, h, source)?;
-    let selection = shown.frame.selection;
+    let frame = walk.shown.frame;
+    let line = frame.read_line(
+        walk.shown.main,
+        width - 1,
+        walk.h,
+        row,
+        &mut walk.rows,
+        source,
+    )?;
     Ok(Strip::Frame(FrameRow {
         line,
-        caret,
-        selection,
+        caret: walk.caret,
+        selection: frame.selection,
         row,
     }))
 }
@@ -290,18 +275,24 @@ fn filler_strip<S: CharSource>(source: &mut S) -> Result<Strip, Fault>
     Ok(Strip::Filler)
 }
 
-/// What a track shows in a row. `Fault`: the source failed in this call.
-pub(crate) fn track_strip<S: CharSource>(
+/// What a track shows in a row, where `kept` is the walk of the viewer that was painted last there. `Fault`: the source
+/// failed in this call.
+pub(crate) fn track_strip<'a, S: CharSource>(
     tracks: &Tracks,
-    shown: &[Shown<'_>],
+    shown: &[Shown<'a>],
     track: Track,
     y: u8,
+    kept: &mut Option<Walk<'a>>,
     source: &mut S,
 ) -> Result<Strip, Fault>
     requires row { y < ROWS }
     requires showable { All (IsShowable (length (S.characters source.old))) shown.now }
+    requires kept { IfSome kept.old (IsKept (S.honest source.old) (S.characters source.old) shown.now
+        (width_of track - 1)) }
     ensures strip { IfOk result (λ strip. S.honest source.old → (column : ℕ) → strip_cell strip column
         ≡ track_cell tracks.now (map (as_read (S.characters source.old)) shown.now) track column y) }
+    ensures kept { OnOk result (IfSome kept.new (IsKept (S.honest source.new) (S.characters source.new) shown.now
+        (width_of track - 1))) }
     ensures reads { OnlyReads S.characters S.failures S.honest S.same_ground source.old source.new }
     ensures cause { CountsFault result (S.failures source.old) (S.failures source.new) }
 {
@@ -314,5 +305,9 @@ pub(crate) fn track_strip<S: CharSource>(
     }
     let place = tracks.place_of(viewer);
     let width = width(track);
-    viewer_strip(&shown[index], width, place.bottom, place.top, y, source)
+    let h = place.top - place.bottom - 1;
+    let mut walk = walk_of(kept.take(), shown, index, width - 1, h, source)?;
+    let strip = viewer_strip(&mut walk, width, place.bottom, place.top, y, source)?;
+    *kept = Some(walk);
+    Ok(strip)
 }

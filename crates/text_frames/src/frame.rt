@@ -6,7 +6,7 @@ ghost use Rattle.text_frames.specs.Cells.{IsPositionAt, IsCellOf};
 ghost use Rattle.text_frames.specs.Row.{IsRow};
 ghost use Rattle.text_frames.specs.Rules.{moved, changed_org, is_shown, IsFollowed, IsBrought};
 
-use crate::lines::{line_start, lines_above, start_above, walk_start};
+use crate::lines::{line_above, line_start};
 use crate::place::{self, place_of};
 use crate::row::{RowCells, cells_of_row};
 use crate::{CharSource, Fault, Text};
@@ -92,7 +92,7 @@ impl Frame {
 
     /// Brings the position `p` into the `h` rows shown: where it is above `org`, or its line isn't in one of these
     /// rows, `org` becomes the start of the line that stands `h / 2` lines above that of `p`, 0 where there are fewer.
-    /// The text is read from `org` to `p`, or from its beginning where `p` is above `org` or there is no row. `Fault`:
+    /// The text is read from `org` to `p`, or to the end of these rows, and then from `p` back to that start. `Fault`:
     /// the source failed in this call; the frame is as it was.
     pub fn show<S: CharSource>(
         &mut self,
@@ -115,9 +115,7 @@ impl Frame {
         if seen {
             return Ok(());
         }
-        let from = walk_start(self.org, h, p);
-        let starts = lines_above(text, from, p, source)?;
-        let org = start_above(&starts, h);
+        let org = line_above(text, h / 2, p, source)?;
         self.org = org;
         Ok(())
     }
@@ -177,7 +175,8 @@ impl Frame {
     }
 
     /// The column and the row in which the character at `p` begins, or would begin that is put in there; None where it
-    /// isn't shown in `h` rows of `w` columns. `Fault`: the source failed in this call.
+    /// isn't shown in `h` rows of `w` columns. The text is read from `org` to `p`, or to the end of these rows.
+    /// `Fault`: the source failed in this call.
     pub fn cell_of<S: CharSource>(
         &self,
         text: &Text,
@@ -198,7 +197,7 @@ impl Frame {
         if p < self.org {
             return Ok(None);
         }
-        let place = place_of(text, self.org, p, source)?;
+        let place = place_of(text, self.org, h, p, source)?;
         Ok(place.shown(w, h))
     }
 }
@@ -268,6 +267,6 @@ fn is_shown<S: CharSource>(
     if p < org {
         return Ok(false);
     }
-    let place = place_of(text, org, p, source)?;
+    let place = place_of(text, org, h, p, source)?;
     Ok(place.row < h as u32)
 }

@@ -1,9 +1,24 @@
-use Rattle.std.proofs.Common.{ap, sym, ◌∙◌, ◌==◌, map}
+use Rattle.std.proofs.Common.{ap, sym, ◌∙◌, ◌==◌, map, rules}
 use Rattle.std.proofs.lemmas.Result.{IfOk-weaker}
 use Rattle.screen_pictures.specs.Picture.{Viewer, seen_cell, shown_cell, viewer_cell}
 use Rattle.screen_cells.specs.Shown.{as_read}
 use Rattle.screen_cells.proofs.Strips.{found_first, found_none}
+use Rattle.screen_cells.proofs.Walking.{kept_still}
 use Rattle.screen_cells.proofs.strip.track_strip.Goals as goal
+
+pub returns-in_default-clause-kept : goal.returns-in_default-clause-kept
+returns-in_default-clause-kept g c =
+    let reads = c.filler_strip.ensures.reads in
+    let still = kept_still _ _ _ _ reads.already reads.same reads.as_long _ c.args.shown.now c.args.kept.now
+    c.requires.kept in
+    search rules
+
+pub returns-then-index-shown-clause-kept : goal.returns-then-index-shown-clause-kept
+returns-then-index-shown-clause-kept g c =
+    let reads = c.filler_strip-then-index-shown.ensures.reads in
+    let still = kept_still _ _ _ _ reads.already reads.same reads.as_long _ c.args.shown.now c.args.kept.now
+    c.requires.kept in
+    search rules
 
 pub returns-then-index-shown-clause-strip : goal.returns-then-index-shown-clause-strip
 returns-then-index-shown-clause-strip g c =
@@ -18,18 +33,16 @@ returns-then-index-shown-clause-strip g c =
     c.filler_strip-then-index-shown.ensures.strip
 
 pub returns-clause-strip : goal.returns-clause-strip
-returns-clause-strip g c =
+returns-clause-strip g c = λ h column.
     let columns = c.args.tracks.now in
-    let viewers = map (as_read (g.S.CharSource.characters c.args.source.now)) c.args.shown.now in
-    let id = c.in-Some.viewer.0 in
-    let there = as_read (g.S.CharSource.characters c.args.source.now) c.index-shown-index.result in
-    IfOk-weaker c.viewer_strip.result _ _ (λ strip fact h column. fact h column
-    ∙ (λ i. viewer_cell there (c.width-width.ensures.value i) (c.place_of-place.ensures.bottom i)
-    (c.place_of-place.ensures.top i) column c.args.y)
+    let characters = g.S.CharSource.characters c.args.source.now in
+    let viewers = map (as_read characters) c.args.shown.now in
+    let id = c.in-Some.viewer.0 in let walk = c.in_ok-walk.walk in let reads = c.in_ok-walk.ensures.reads in
+    c.in_ok-strip.ensures.strip (reads.still h) column
+    ∙ (λ i. viewer_cell (as_read (reads.same h i) walk.shown) (c.width-width.ensures.value i)
+    (c.place_of-place.ensures.bottom i) (c.place_of-place.ensures.top i) column c.args.y)
     ∙ sym (
     ap (seen_cell columns viewers c.args.track column c.args.y) (sym c.in-Some.ensures.seen)
     ∙ ap (shown_cell columns c.args.track id column c.args.y)
-    (found_first (λ (v : Viewer). v.id == id) (as_read (g.S.CharSource.characters c.args.source.now))
-    c.args.shown.now c.index_of-index.result c.index-shown-index.result c.index_of-index.ensures
-    c.if-index-shown.false c.index-shown-index.is)))
-    c.viewer_strip.ensures.strip
+    (found_first (λ (v : Viewer). v.id == id) (as_read characters) c.args.shown.now walk.index walk.shown
+    (c.in_ok-walk.ensures.index ∙ c.index_of-index.ensures) c.in_ok-walk.ensures.walk.there))

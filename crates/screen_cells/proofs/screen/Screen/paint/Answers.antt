@@ -4,4 +4,5 @@ use Rattle.screen_cells.proofs.screen.Screen.paint.Goals as goal
 pub returns-clause-painted : goal.returns-clause-painted
 returns-clause-painted g c = λ h.
     let s = g.S.CharSource in
-    all_painted s.characters s.failures s.honest s.same_ground _ _ _ _ _ _ _ c.loop-y-test.false c.loop-y.invariant h
+    all_painted s.characters s.failures s.honest s.same_ground _ _ _ _ _ _ _ c.loop-y-test.false
+    c.loop-y.invariant.painted h

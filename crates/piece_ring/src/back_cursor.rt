@@ -1,0 +1,69 @@
+//! A walk backwards along the characters of a ring.
+//!
+//! A clause sees such a cursor as the characters that stand before it.
+ghost use Rattle.std.specs.Prelude.{◌≡◌, ◌<◌, ◌∷◌, [], ◌++◌, MatchOption, IfSome};
+ghost use Rattle.piece_ring.specs.BackCursor.{IsBackCursor, text_before};
+
+use crate::list::PieceList;
+use crate::piece::{Look, Piece};
+use crate::place::Seam;
+use std::marker::Model;
+
+/// Stands after a character of a ring, or at its beginning. It borrows the ring.
+#[derive(Drop)]
+pub struct BackCursor<'a> {
+    pub(crate) list: &'a PieceList,
+    /// Before the piece that the cursor stands in or after.
+    pub(crate) before: Seam,
+    /// The characters of that piece that stand before the cursor. None where it stands at the seam.
+    pub(crate) front: Piece,
+}
+
+impl<'a> Model for BackCursor<'a> {
+    ghost use Rattle.std.specs.Prelude.{ℕ};
+    ghost use Rattle.piece_ring.specs.BackCursor.{IsBackCursor, text_before};
+    ghost use Rattle.piece_ring.specs.Text.{Text};
+
+    ghost Value = { Text ℕ };
+
+    ghost view = { λ c. text_before c.list.now.chain.nodes c.before c.front };
+
+    ghost invariant = { λ c. IsBackCursor c.list.now.chain.nodes c.before c.front };
+}
+
+impl<'a> BackCursor<'a> {
+    /// The offset and the look of the character that the cursor stands after, before which it then
+    /// stands. None at the beginning of the ring, where it stays. It follows a link between pieces
+    /// only where it stands before the first character of one.
+    pub fn previous(&mut self) -> Option<(u32, Look)>
+        ensures { MatchOption result ((self.old ≡ []) × (self.new ≡ []))
+            (λ c. self.old ≡ self.new ++ c ∷ []) }
+    {
+        let Some((before, front)) = entered(self.list, self.before, self.front) else {
+            return None;
+        };
+        let Piece { off, len, look } = front;
+        let len = len - 1;
+        self.before = before;
+        self.front = Piece { off, len, look };
+        Some((off + len, look))
+    }
+}
+
+/// Where a cursor stands that has a character of its front before it: at a seam it goes to the end of the piece before.
+/// None at the beginning of the ring.
+fn entered(list: &PieceList, before: Seam, front: Piece) -> Option<(Seam, Piece)>
+    requires { IsBackCursor list.now.chain.nodes before front }
+    ensures cursor { IfSome result (λ c. IsBackCursor list.now.chain.nodes c.0 c.1) }
+    ensures some { IfSome result (λ c. 0 < c.1.len) }
+    ensures text { MatchOption result (text_before list.now.chain.nodes before front ≡ [])
+        (λ c. text_before list.now.chain.nodes c.0 c.1 ≡ text_before list.now.chain.nodes before front) }
+{
+    if front.len > 0 {
+        Some((before, front))
+    } else if before.pos > 0 {
+        Some(list.piece_before(before))
+    } else {
+        None
+    }
+}

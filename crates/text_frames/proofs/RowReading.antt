@@ -1,0 +1,190 @@
+-- A row of a frame that is read on from a place at which none of its characters is passed.
+use Rattle.std.specs.Prelude.{◌≡◌, ℕ, suc, ◌+◌, ◌-◌, ◌<◌, ◌≤◌, Bool, true, false, cond, ◌||◌, ◌==◌, nat_lt, List, []}
+use Rattle.std.specs.Prelude.{◌++◌, length, take, replicate, Some, slice_get}
+use Rattle.std.specs.List.{All, flat_map, range_with_len}
+use Rattle.std.proofs.Common.{sym, ap, ◌∙◌, inl, inr, arith}
+use Rattle.std.proofs.lemmas.Bool.{cases_eq}
+use Rattle.std.proofs.lemmas.Bool.Decides.{leb_tells}
+use Rattle.std.proofs.lemmas.List.Elements.{All-same, All-nil}
+use Rattle.char_file.specs.Source.{OnlyReads}
+use Rattle.piece_ring.specs.declared.piece.Look.{Look}
+use Rattle.piece_ring.specs.Text.{Text}
+use Rattle.readers_scanners.specs.Reading.{contents, bytes, Reading}
+use Rattle.readers_scanners.specs.Walking.{at_first, seen_character, byte_there}
+use Rattle.text_frames.specs.Lines.{is_return}
+use Rattle.text_frames.specs.Cells.{column_after, row_of, column_of}
+use Rattle.text_frames.specs.Row.{ShownCell, cells_taken, cells_at, IsOfText, IsRow}
+use Rattle.text_frames.specs.Reading.{IsReadTo}
+use Rattle.text_frames.proofs.Filling.{all_filled}
+use Rattle.text_frames.proofs.Placing.{IsPlaced, placed_on, row_first, column_first}
+use Rattle.text_frames.proofs.RowCells.{cells_none, cells_on, cells_done, cells_last, most_filled, length-read}
+
+-- before the first row
+pub read_none : (honest : Type 0) (characters : List ℕ) (text : Text ℕ) (org : ℕ) (reader : Reading)
+    → org ≤ length text → reader.position ≡ org → reader.text ≡ text
+    → IsReadTo honest characters text org 0 reader 0 0
+read_none honest characters text org reader inside place same = record {
+  same = same;
+  from = omega (arith, place);
+  within = omega (arith, place, inside);
+  few = omega arith;
+  short = omega arith;
+  high = omega arith;
+  in_row = λ h. sym (row_first (bytes characters text) org) ∙ ap (row_of (bytes characters text) org) (sym place);
+  in_column = λ h. sym (column_first (bytes characters text) org)
+      ∙ ap (column_of (bytes characters text) org) (sym place);
+  passed = λ h p low high. absurd (let bad : ⊥ = omega (arith, low, high, place) in bad);
+}
+
+-- what isn't passed from one row on isn't from a later one on
+pub read_below : (honest : Type 0) (characters : List ℕ) (text : Text ℕ) (org next row : ℕ) (reader : Reading)
+    (r column : ℕ) → next ≤ row → IsReadTo honest characters text org next reader r column
+    → IsReadTo honest characters text org row reader r column
+read_below honest characters text org next row reader r column later is = record {
+  same = is.same;
+  from = is.from;
+  within = is.within;
+  few = is.few;
+  short = is.short;
+  high = (let above = is.high in let le : r ≤ row = omega (arith, above, later) in le);
+  in_row = is.in_row;
+  in_column = is.in_column;
+  passed = λ h p low high. let lt = is.passed h p low high in omega (arith, lt, later);
+}
+
+-- what a place passes of rows
+pub done_high : (r r' row byte : ℕ) → r' ≡ cond (is_return byte) (r + 1) r → r ≤ row → r' ≤ row + 1
+done_high r r' row byte is high = rw is (by (is_return byte))
+  where
+    by : (b : Bool) → cond b (r + 1) r ≤ row + 1
+    by true = (let le : r + 1 ≤ row + 1 = omega (arith, high) in le)
+    by false = (let le : r ≤ row + 1 = omega (arith, high) in le)
+
+pub more_high : (r row : ℕ) (full : Bool) → (nat_lt row r || full) ≡ false → r ≤ row
+more_high r row full more = elim (leb_tells (suc row) r) [
+  | inl past ↦ let bad : true ≡ false = sym (ap (λ b. b || full) past.0) ∙ more in absurd (let wrong : ⊥ = cc in wrong)
+  | inr before ↦ let le = before.1 in omega (arith, le)
+]
+
+module _ {S : Type 0} (characters : S → List ℕ) (failures : S → ℕ) (honest : S → Type 0) (same_ground : S → S
+    → Type 0) where
+  -- The reader stands before the character `at`, and the line has the cells of those before it, as far as there are w.
+  pub record IsRowSoFar (start now : S) (text : Text ℕ) (reader : Reading) (org w row at r column : ℕ)
+      (line : List ShownCell) : Type 0 where
+    pub placed : IsPlaced characters failures honest same_ground start now text reader org at r column
+    pub from : org ≤ at
+    pub within : at ≤ length text
+    pub passed : honest start → (p : ℕ) → org ≤ p → p < at → row_of (bytes (characters start) text) org p < row + 1
+    pub most : length line ≤ w
+    pub range : All (IsOfText text org) line
+    pub cells : honest start
+        → line ≡ take w (flat_map (cells_at (contents (characters start) text) org row) (range_with_len org (at - org)))
+
+  -- where the row is done, and where the text ends
+  pub row_done : (start now : S) (text : Text ℕ) (reader : Reading) (org w row at r column : ℕ) (line : List ShownCell)
+      → IsRowSoFar start now text reader org w row at r column line → (nat_lt row r || (length line == w)) ≡ true
+      → IsRow (honest start) (characters start) text w org row line
+  row_done start now text reader org w row at r column line is done = record {
+    exact = λ h. cells_done (contents (characters start) text) org row w at r line is.from
+        (let inside = is.within in let long = length-read (characters start) text in omega (arith, inside, long))
+        (is.cells h) (is.placed.in_row h) done;
+    most = is.most;
+    range = is.range;
+  }
+
+  pub row_last : (start now : S) (text : Text ℕ) (reader : Reading) (org w row at r column : ℕ) (line : List ShownCell)
+      → IsRowSoFar start now text reader org w row at r column line → length text ≤ at
+      → IsRow (honest start) (characters start) text w org row line
+  row_last start now text reader org w row at r column line is end = record {
+    exact = λ h. cells_last (contents (characters start) text) org row w at (length text) line
+        (let inside = is.within in omega (arith, inside, end)) (sym (length-read (characters start) text)) (is.cells h);
+    most = is.most;
+    range = is.range;
+  }
+
+  -- what is known for the row below
+  pub read_on : (start now : S) (text : Text ℕ) (reader : Reading) (org w row at r column : ℕ) (line : List ShownCell)
+      → IsRowSoFar start now text reader org w row at r column line → r ≤ row + 1
+      → IsReadTo (honest start) (characters start) text org (row + 1) reader r column
+  read_on start now text reader org w row at r column line is high =
+      let place = is.placed.way.place in let from = is.from in let within = is.within in let few = is.placed.few in
+      record {
+        same = is.placed.way.same;
+        from = omega (arith, place, from);
+        within = omega (arith, place, within);
+        few = omega (arith, place, few);
+        short = rw place is.placed.short;
+        high = high;
+        in_row = λ h. rw place (is.placed.in_row h);
+        in_column = λ h. rw place (is.placed.in_column h);
+        passed = λ h p low under. is.passed h p low (omega (arith, under, place));
+      }
+
+  module _ (ground_self : (s : S) → same_ground s s) (ground_through : (a b c : S) → same_ground a b → same_ground b c
+      → same_ground a c) where
+    pub row_begun : (start : S) (text : Text ℕ) (reader : Reading) (org w row at r column : ℕ) (line : List ShownCell)
+        → IsReadTo (honest start) (characters start) text org row reader r column → at ≡ reader.position → line ≡ []
+        → IsRowSoFar start start text reader org w row at r column line
+    row_begun start text reader org w row at r column line is here none =
+        let from = is.from in let within = is.within in let few = is.few in
+        record {
+          placed = record {
+            way = at_first characters failures honest same_ground ground_self ground_through start text reader at
+                (sym here) is.same;
+            few = omega (arith, few, here);
+            short = rw here is.short;
+            in_row = λ h. rw here (is.in_row h);
+            in_column = λ h. rw here (is.in_column h);
+          };
+          from = omega (arith, from, here);
+          within = omega (arith, within, here);
+          passed = λ h p low high. let lt = is.passed h p low (omega (arith, high, here)) in
+              let more : row_of (bytes (characters start) text) org p < row + 1 = omega (arith, lt) in more;
+          most = omega (arith, ap length none);
+          range = All-same (IsOfText text org) _ _ none (All-nil (IsOfText text org));
+          cells = λ h. none ∙ cells_none (contents (characters start) text) org row w at
+              (λ p low high. is.passed h p low (omega (arith, high, here)));
+        }
+
+    -- a character more of this row or one above it
+    pub row_on : (start now later : S) (text : Text ℕ) (reader next : Reading) (org w row at r column : ℕ)
+        (line more : List ShownCell) (c : ℕ × Look) (count r' column' : ℕ)
+        → IsRowSoFar start now text reader org w row at r column line → r ≤ row → at < length text
+        → (honest now → slice_get (contents (characters now) reader.text) reader.position ≡ Some c)
+        → next.position ≡ reader.position + 1 → next.text ≡ reader.text
+        → OnlyReads characters failures honest same_ground now later → failures later ≡ failures now
+        → count ≡ cond (r == row) (cells_taken column c.0) 0
+        → more ≡ take w (line ++ replicate count (c.0, c.1, at))
+        → r' ≡ cond (is_return c.0) (r + 1) r → column' ≡ cond (is_return c.0) 0 (column_after column c.0)
+        → IsRowSoFar start later text next org w row (at + 1) r' column' more
+    row_on start now later text reader next org w row at r column line more c count r' column' is high low there p t
+        reads calm many filled to_row to_column =
+        let from = is.from in
+        let here : IsOfText text org (c.0, c.1, at) = record { from = from; within = low } in
+        record {
+          placed = placed_on characters failures honest same_ground ground_self ground_through start now later text
+              reader next org at r column c.0 is.placed from
+              (λ h. byte_there (characters now) reader.text reader.position c (there h))
+              p t reads calm r' column' to_row to_column;
+          from = (let le : org ≤ at + 1 = omega (arith, from) in le);
+          within = (let le : at + 1 ≤ length text = omega (arith, low) in le);
+          passed = λ h. below_from h (is.passed h);
+          most = most_filled w _ _ filled;
+          range = all_filled (IsOfText text org) w count line more (c.0, c.1, at) is.range here filled;
+          cells = λ h. cells_on (contents (characters start) text) org row w at line more c count r column from
+              (seen_character characters failures honest same_ground ground_self ground_through start now text reader
+              at is.placed.way c there h)
+              (is.placed.in_row h) (is.placed.in_column h) many (is.cells h) filled;
+        }
+      where
+        below_from : honest start
+            → ((p : ℕ) → org ≤ p → p < at → row_of (bytes (characters start) text) org p < row + 1)
+            → (p : ℕ) → org ≤ p → p < at + 1 → row_of (bytes (characters start) text) org p < row + 1
+        below_from h before p under over = elim (cases_eq p at) [
+          | inl same ↦
+              let in_row = is.placed.in_row h in
+              let at_row : row_of (bytes (characters start) text) org p ≡ r =
+              ap (row_of (bytes (characters start) text) org) same ∙ sym in_row in
+              omega (arith, at_row, high)
+          | inr other ↦ before p under (omega (arith, over, other))
+        ]
