@@ -1,4 +1,4 @@
-# tools/install puts the program and its man page into a folder, and takes them away again, and nothing else.
+# tools/install puts the programs and their man pages into a folder, and takes them away again, and nothing else.
 tools=$TESTS/../tools
 export LC_ALL=C
 
@@ -6,9 +6,13 @@ export LC_ALL=C
 "$tools/install" new
 find new -printf '%M %P\n' | sort -k 2
 cmp new/bin/oberon "$PROGRAM"
-cmp new/share/man/man1/oberon.1 "$TESTS/../docs/oberon.1"
+cmp new/bin/desk "$TESTS/../desk"
+cmp new/libexec/nealtsjom/desk "$TESTS/../crates/desk/out/desk"
+for page in oberon desk; do cmp new/share/man/man1/$page.1 "$TESTS/../docs/$page.1"; done
 PATH=$PWD/new/bin:$PATH
 oberon < "$TESTS/scripts/hello.in"
+oberon format my.disk
+desk import my.disk A.Text "$TESTS/scripts/hello.in" && desk export my.disk A.Text | head -n 1
 "$tools/install" new/
 "$tools/install" --remove new
 echo "$?"
@@ -23,7 +27,7 @@ echo older > old/bin/oberon
 echo older > old/share/man/man1/older.1
 list=old/share/nealtsjom/installed
 {
-    grep -v '^file bin/' "$list"
+    grep -v '^file bin/oberon ' "$list"
     for path in bin/oberon share/man/man1/older.1; do echo "file $path $(sha256sum < old/$path | cut -d ' ' -f 1)"; done
 } > list
 cp list "$list"

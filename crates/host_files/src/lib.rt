@@ -1,31 +1,38 @@
-//! What a program asks of the host for a file that it keeps, beside reads and writes: the lock on the file, and that
-//! the folder of a new file is durable.
+//! What a program asks of the host for a file that it keeps, beside reads and writes: the lock on the file, its name,
+//! and that the folder of a new file is durable; and for a file of the person's that it reads.
 #![tactic(auto)]
 
-use std::fs::{File, OpenOptions, TryLockError};
-use std::io::ErrorKind;
+ghost use Rattle.std.specs.Prelude.{◌≡◌, ◌≤◌, Ok, IfOk, length};
+
+use std::fs::{File, Metadata, OpenOptions, TryLockError};
+use std::io::{ErrorKind, Read};
 use std::{fs, io};
 
 /// Why the host did not do what it was asked.
 #[derive(Clone, Copy, Debug, PartialEq, Eq)]
 pub enum HostFault {
-    /// It refused, or another program holds a lock on the file.
-    Fault,
+    /// There is no such file, or no folder where it could be.
+    Missing,
+    /// Another program holds a lock on the file.
+    InUse,
+    /// It refused for another reason.
+    Refused,
     /// An allocation found no memory.
     NoMemory,
 }
 
-/// Opens the file and takes its lock for this program alone. `Fault` where the file can't be read and written, or
-/// another program holds a lock on it. The lock lasts as long as the file that is returned.
+/// Opens the file and takes its lock for this program alone. The lock lasts as long as the file that is returned.
+///
+/// Errors: `Missing`; `InUse`; `Refused` where the file can't be read and written, or has no locks.
 pub fn lock_alone(rt: &HostRuntime, path: &str) -> Result<File, HostFault> {
-    let file = opened(OpenOptions::new().read(true).write(true).open(rt, path))?;
+    let file = asked(OpenOptions::new().read(true).write(true).open(rt, path))?;
     locked(file.try_lock())?;
     Ok(file)
 }
 
 /// As `lock_alone`, but makes the file where there is none, empty. A file that is there isn't changed.
 pub fn lock_or_make(rt: &HostRuntime, path: &str) -> Result<File, HostFault> {
-    let file = opened(
+    let file = asked(
         OpenOptions::new()
             .read(true)
             .write(true)
@@ -38,18 +45,69 @@ pub fn lock_or_make(rt: &HostRuntime, path: &str) -> Result<File, HostFault> {
 
 /// As `lock_alone`, but for a program that only reads: several such programs may hold the lock together.
 pub fn lock_shared(rt: &HostRuntime, path: &str) -> Result<File, HostFault> {
-    let file = opened(OpenOptions::new().read(true).write(true).open(rt, path))?;
+    let file = asked(OpenOptions::new().read(true).write(true).open(rt, path))?;
     locked(file.try_lock_shared())?;
     Ok(file)
 }
 
-/// Waits until the medium knows the file by its name, which is so when the folder that has it is synced. `Fault`
-/// where the host refuses that.
+/// Waits until the medium knows the file by its name, which is so when the folder that has it is synced. It fails where
+/// the host refuses that.
 pub fn sync_folder(rt: &HostRuntime, path: &str) -> Result<(), HostFault> {
-    match synced_folder(rt, path) {
-        Ok(()) => Ok(()),
-        Err(error) if error.kind() == ErrorKind::OutOfMemory => Err(HostFault::NoMemory),
-        Err(_) => Err(HostFault::Fault),
+    asked(synced_folder(rt, path))
+}
+
+/// Whether there is a file, or something else, at this path.
+pub fn is_there(rt: &HostRuntime, path: &str) -> Result<bool, HostFault> {
+    asked(fs::exists(rt, path))
+}
+
+/// Gives the file another name, in place of any other file that has it. A lock on the file stays.
+pub fn rename(rt: &HostRuntime, from: &str, to: &str) -> Result<(), HostFault> {
+    asked(fs::rename(rt, from, to))
+}
+
+/// Takes a file away.
+pub fn remove(rt: &HostRuntime, path: &str) -> Result<(), HostFault> {
+    asked(fs::remove_file(rt, path))
+}
+
+/// Reads a file from its beginning, as far as the buffer has room, and returns how many bytes there were.
+pub fn read_front(rt: &HostRuntime, path: &str, buffer: &mut [u8]) -> Result<usize, HostFault>
+    ensures { IfOk result (λ count. count ≤ length buffer.new) }
+{
+    let mut file = asked(File::open(rt, path))?;
+    let mut count = 0;
+    for _ in 0..u64::MAX {
+        if count >= buffer.len() {
+            return Ok(buffer.len());
+        }
+        match asked(file.read(&mut buffer[count..]))? {
+            0 => return Ok(count),
+            more => count += more,
+        }
+    }
+    Err(HostFault::Refused)
+}
+
+/// Opens a regular file that has so many bytes at most, to be read. Nothing else is opened: a pipe would wait for its
+/// other end, and a device may have no end. (It may wait where another program puts a pipe in the file's place between
+/// the look at it and its opening.)
+///
+/// Errors: `Missing`; `Refused` where the file can't be read, isn't regular, or has more bytes; `NoMemory`.
+pub fn open_regular(rt: &HostRuntime, path: &str, most: u64) -> Result<File, HostFault> {
+    is_regular(&asked(fs::metadata(rt, path))?, most)?;
+    let file = asked(File::open(rt, path))?;
+    // Another file may have got the name since.
+    is_regular(&asked(file.metadata())?, most)?;
+    Ok(file)
+}
+
+/// Refuses what is no regular file, or has more bytes.
+fn is_regular(file: &Metadata, most: u64) -> Result<(), HostFault> {
+    if file.is_file() && file.len() <= most {
+        Ok(())
+    } else {
+        Err(HostFault::Refused)
     }
 }
 
@@ -62,11 +120,22 @@ fn synced_folder(rt: &HostRuntime, path: &str) -> io::Result<()> {
     }
 }
 
-/// An error of the host is a fault.
-fn opened(file: io::Result<File>) -> Result<File, HostFault> {
-    match file {
-        Ok(file) => Ok(file),
-        Err(_) => Err(HostFault::Fault),
+/// What the host was asked for, or why it refused.
+fn asked<T: Drop>(answer: io::Result<T>) -> Result<T, HostFault>
+    ensures { IfOk result (λ value. answer ≡ Ok value) }
+{
+    match answer {
+        Ok(value) => Ok(value),
+        Err(error) => Err(fault_of(error.kind())),
+    }
+}
+
+/// The fault that an error of this kind is.
+fn fault_of(kind: ErrorKind) -> HostFault {
+    match kind {
+        ErrorKind::NotFound => HostFault::Missing,
+        ErrorKind::OutOfMemory => HostFault::NoMemory,
+        _ => HostFault::Refused,
     }
 }
 
@@ -74,6 +143,7 @@ fn opened(file: io::Result<File>) -> Result<File, HostFault> {
 fn locked(lock: Result<(), TryLockError>) -> Result<(), HostFault> {
     match lock {
         Ok(()) => Ok(()),
-        Err(_) => Err(HostFault::Fault),
+        Err(TryLockError::WouldBlock) => Err(HostFault::InUse),
+        Err(TryLockError::Error(_)) => Err(HostFault::Refused),
     }
 }

@@ -18,8 +18,9 @@ use Rattle.script_lines.specs.Script.{BeginsWith, IsLine, lines_at_end}
 use Rattle.script_lines.specs.Request.{request_of}
 use Rattle.script_lines.specs.Reading.{Holds, Unplayed, TakesLine, TakesRest}
 use Rattle.oberon_main.specs.Worked.{IsWorkEnd}
-use Rattle.oberon_main.specs.Session.{Session, answer, after, out, after_all}
-use Rattle.oberon_main.specs.Opened.{session_of}
+use Rattle.desk_journal.specs.Session.{Session}
+use Rattle.oberon_main.specs.Answers.{answer, after, out, after_all}
+use Rattle.desk_journal.specs.Session.{session_of}
 use Rattle.oberon_main.specs.Play.{LineEndsAs, RestEndsAs, CountsEnd, last_word}
 use Rattle.oberon_main.specs.Surviving.{KeepsAnswered, Withstands, LeavesFirst, Spares, TakesAll, Survives}
 use Rattle.oberon_main.specs.ByLines.{AreLines, CameWhole, IsNextLine, Lasts, LeavesLine, Serves, LeavesAt, IsRun}

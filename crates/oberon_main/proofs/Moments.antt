@@ -13,8 +13,9 @@ use Rattle.script_lines.specs.Script.{IsLine, BeginsWith}
 use Rattle.script_lines.specs.Request.{request_of}
 use Rattle.oberon_main.specs.declared.playing.PlayEnd.{PlayEnd}
 use Rattle.oberon_main.specs.declared.playing.PlayEnd.TheVariants.{Done, Fault, Memory, Input, Output}
-use Rattle.oberon_main.specs.Session.{Session, after, after_all}
-use Rattle.oberon_main.specs.Opened.{session_of}
+use Rattle.desk_journal.specs.Session.{Session}
+use Rattle.oberon_main.specs.Answers.{after, after_all}
+use Rattle.desk_journal.specs.Session.{session_of}
 use Rattle.oberon_main.specs.Surviving.{led_to}
 use Rattle.oberon_main.specs.ByLines.{IsNextLine, Lasts, LeavesLine, Serves, IsRun, Stops, EndsSaid, PlaysByLines}
 use Rattle.oberon_main.specs.Moments.{AreAnswered, LeavesLines}

@@ -15,7 +15,8 @@ use Rattle.script_lines.specs.Script.{ended, IsLine, IsSplit, lines_at_end, Begi
 use Rattle.script_lines.specs.Reading.{Holds, Unplayed, TakesLine, TakesRest, ComesInPieces, most_bytes}
 use Rattle.script_lines.specs.Request.{request_of}
 use Rattle.screen_cells.specs.Sent.{AppendsFront}
-use Rattle.oberon_main.specs.Session.{Session, answer, after, out, after_all}
+use Rattle.desk_journal.specs.Session.{Session}
+use Rattle.oberon_main.specs.Answers.{answer, after, out, after_all}
 use Rattle.oberon_main.specs.Play.{IsPlayed, IsStopped, IsCutOff, TextOf, IsTold, IsHalted, EndsAs, CountsEnd}
 use Rattle.oberon_main.specs.Play.{CountsPlay, last_word, IsAnswered, LineEndsAs}
 use Rattle.oberon_main.specs.Play.{RestEndsAs}

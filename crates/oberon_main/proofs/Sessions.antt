@@ -11,7 +11,8 @@ use Rattle.store_layout.specs.declared.layout.TheConstants.{JOURNAL_EVENTS, LAST
 use Rattle.script_lines.specs.declared.request.Request.TheVariants.{Post, Checkpoint}
 use Rattle.script_lines.specs.Script.{ended}
 use Rattle.script_answers.specs.Answer.{reply_line}
-use Rattle.oberon_main.specs.Session.{Session, is_full, is_last, is_worn, renewed, stepped, worn_line, answer, after}
+use Rattle.desk_journal.specs.Session.{Session, is_full, is_last, is_worn, renewed, stepped}
+use Rattle.oberon_main.specs.Answers.{worn_line, answer, after}
 
 -- a session by its three parts
 session_parts : (s t : Session) → s.desktop ≡ t.desktop → s.epoch ≡ t.epoch → s.events ≡ t.events → s ≡ t

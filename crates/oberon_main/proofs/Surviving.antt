@@ -22,8 +22,9 @@ use Rattle.desk_journal.proofs.Passing.{at_start, shows_means}
 use Rattle.script_lines.specs.declared.request.Request.{Request}
 use Rattle.script_lines.specs.declared.request.Request.TheVariants.{Post, Checkpoint, Show, Listing, Display, Malformed}
 use Rattle.script_lines.specs.Request.{request_of}
-use Rattle.oberon_main.specs.Session.{Session, is_full, is_last, is_worn, renewed, stepped, after, after_all}
-use Rattle.oberon_main.specs.Opened.{session_of}
+use Rattle.desk_journal.specs.Session.{Session, is_full, is_last, is_worn, renewed, stepped}
+use Rattle.oberon_main.specs.Answers.{after, after_all}
+use Rattle.desk_journal.specs.Session.{session_of}
 use Rattle.oberon_main.specs.Surviving.{posted, accepted, LinesAreSteps, MeansPrefix, KeepsAnswered, Withstands, Spares}
 use Rattle.oberon_main.specs.ByLines.{Lasts, LeavesLine, Serves}
 use Rattle.oberon_main.proofs.Sessions.{worn_parts}

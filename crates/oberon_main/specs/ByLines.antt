@@ -14,8 +14,8 @@ use Rattle.script_lines.specs.Request.{request_of}
 use Rattle.script_lines.specs.Reading.{Holds}
 use Rattle.oberon_main.specs.declared.playing.PlayEnd.{PlayEnd}
 use Rattle.oberon_main.specs.declared.playing.PlayEnd.TheVariants.{Done, Fault, Memory, Input, Output}
-use Rattle.oberon_main.specs.Session.{answer, after, out}
-use Rattle.oberon_main.specs.Opened.{session_of}
+use Rattle.oberon_main.specs.Answers.{answer, after, out}
+use Rattle.desk_journal.specs.Session.{session_of}
 use Rattle.oberon_main.specs.Play.{CountsEnd, last_word}
 use Rattle.oberon_main.specs.Surviving.{LeavesFirst}
 

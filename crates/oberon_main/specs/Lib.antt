@@ -1,5 +1,4 @@
-pub mod Session
-pub mod Opened
+pub mod Answers
 pub mod Play
 pub mod Worked
 pub mod Surviving

@@ -7,8 +7,8 @@ use Rattle.sector_disk.specs.Trail.{Trail, Leaves}
 use Rattle.store_layout.specs.Meaning.{Means, MeansEither}
 use Rattle.desk_journal.specs.View.{StoreView}
 use Rattle.script_lines.specs.Script.{IsLine, BeginsWith}
-use Rattle.oberon_main.specs.Session.{Session}
-use Rattle.oberon_main.specs.Opened.{session_of}
+use Rattle.desk_journal.specs.Session.{Session}
+use Rattle.desk_journal.specs.Session.{session_of}
 use Rattle.oberon_main.specs.Surviving.{led_to}
 
 -- These lines were answered one after another between two moments. At each moment of a line a crash leaves the desktop

@@ -9,10 +9,11 @@ use Rattle.script_lines.specs.Script.{ended, IsSplit, lines_at_end, BeginsWith}
 use Rattle.script_lines.specs.declared.request.Request.{Request}
 use Rattle.script_lines.specs.declared.request.Request.TheVariants.{Malformed}
 use Rattle.script_lines.specs.Request.{request_of}
-use Rattle.oberon_main.specs.Session.{Session, answer, after, out, after_all}
+use Rattle.desk_journal.specs.Session.{Session}
+use Rattle.oberon_main.specs.Answers.{answer, after, out, after_all}
 use Rattle.script_lines.specs.declared.line.Line.{Line}
 use Rattle.script_lines.specs.Reading.{Holds}
-use Rattle.oberon_main.specs.Opened.{session_of}
+use Rattle.desk_journal.specs.Session.{session_of}
 use Rattle.sector_disk.specs.declared.disk.Disk.{Ghosts}
 use Rattle.desk_journal.specs.View.{StoreView}
 use Rattle.screen_cells.specs.Sent.{AppendsFront}

@@ -13,8 +13,9 @@ use Rattle.script_lines.specs.declared.request.Request.{Request}
 use Rattle.script_lines.specs.declared.request.Request.TheVariants.{Post, Checkpoint, Show, Listing, Display, Malformed}
 use Rattle.script_lines.specs.Script.{BeginsWith, lines_at_end}
 use Rattle.script_lines.specs.Request.{request_of}
-use Rattle.oberon_main.specs.Session.{Session, is_worn, after, out, after_all}
-use Rattle.oberon_main.specs.Opened.{session_of}
+use Rattle.desk_journal.specs.Session.{Session, is_worn}
+use Rattle.oberon_main.specs.Answers.{after, out, after_all}
+use Rattle.desk_journal.specs.Session.{session_of}
 use Rattle.oberon_main.specs.Play.{last_word}
 
 -- ---- the events of lines

@@ -10,8 +10,8 @@ use Rattle.oberon_main.specs.declared.answering.Answer.TheVariants.{Short, Long}
 use Rattle.oberon_main.specs.declared.playing.PlayEnd.{PlayEnd}
 use Rattle.oberon_main.specs.declared.playing.PlayEnd.TheVariants.{Fault, Memory}
 use Rattle.script_lines.specs.declared.request.Request.{Request}
-use Rattle.oberon_main.specs.Opened.{session_of}
-use Rattle.oberon_main.specs.Session.{answer, after}
+use Rattle.desk_journal.specs.Session.{session_of}
+use Rattle.oberon_main.specs.Answers.{answer, after}
 
 -- its bytes
 abbrev pub bytes_of : Answer → List ℕ

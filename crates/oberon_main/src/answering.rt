@@ -5,7 +5,7 @@ ghost use Rattle.desk_journal.specs.Device.{IsOnlyRead};
 ghost use Rattle.script_lines.specs.declared.request.Request.TheVariants.{Post, Checkpoint, Show};
 ghost use Rattle.script_lines.specs.declared.request.Request.TheVariants.{Listing, Display, Malformed};
 ghost use Rattle.oberon_main.specs.declared.playing.PlayEnd.TheVariants as ends;
-ghost use Rattle.oberon_main.specs.Session.{worn_line};
+ghost use Rattle.oberon_main.specs.Answers.{worn_line};
 ghost use Rattle.oberon_main.specs.Worked.{bytes_of, end_of, IsWorkEnd, IsWorkedOut};
 ghost use Rattle.oberon_main.specs.Surviving.{Withstands, Spares};
 
@@ -40,7 +40,7 @@ impl Answer {
 }
 
 /// Works out the answer to a request as a whole. Events and checkpoints change the store, nothing else does.
-#[tactic(auto, unfolding(crate::specs::Session::answer, crate::specs::Session::after))]
+#[tactic(auto, unfolding(crate::specs::Answers::answer, crate::specs::Answers::after))]
 pub fn work_out<D: Disk>(
     alloc: Global,
     request: &Request,
@@ -103,7 +103,7 @@ fn refused(error: Error) -> Result<Answer, PlayEnd>
 }
 
 /// Works out the lines of a file's text, or that there is no such file.
-#[tactic(auto, unfolding(crate::specs::Session::answer, crate::specs::Session::after))]
+#[tactic(auto, unfolding(crate::specs::Answers::answer, crate::specs::Answers::after))]
 fn show<D: Disk>(alloc: Global, name: &Name, store: &mut Store<D>) -> Result<Answer, PlayEnd>
     requires { store.old.must_reopen ≡ false }
     ensures worked_out { IsWorkedOut D.Disk (Show name.now) result store.old store.new }
@@ -117,7 +117,7 @@ fn show<D: Disk>(alloc: Global, name: &Name, store: &mut Store<D>) -> Result<Ans
 }
 
 /// Works out the lines of what the desktop has.
-#[tactic(auto, unfolding(crate::specs::Session::answer, crate::specs::Session::after))]
+#[tactic(auto, unfolding(crate::specs::Answers::answer, crate::specs::Answers::after))]
 fn list<D: Disk>(alloc: Global, store: &mut Store<D>) -> Result<Answer, PlayEnd>
     requires { store.old.must_reopen ≡ false }
     ensures worked_out { IsWorkedOut D.Disk Listing result store.old store.new }
@@ -129,7 +129,7 @@ fn list<D: Disk>(alloc: Global, store: &mut Store<D>) -> Result<Answer, PlayEnd>
 }
 
 /// Works out the printed screen.
-#[tactic(auto, unfolding(crate::specs::Session::answer, crate::specs::Session::after))]
+#[tactic(auto, unfolding(crate::specs::Answers::answer, crate::specs::Answers::after))]
 fn screen<D: Disk>(alloc: Global, store: &mut Store<D>) -> Result<Answer, PlayEnd>
     requires { store.old.must_reopen ≡ false }
     ensures worked_out { IsWorkedOut D.Disk Display result store.old store.new }

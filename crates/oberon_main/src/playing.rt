@@ -6,7 +6,7 @@ ghost use Rattle.screen_cells.specs.Sent.{AppendsFront};
 ghost use Rattle.oberon_main.specs.declared.playing.PlayEnd.TheVariants as ends;
 ghost use Rattle.script_lines.specs.Request.{request_of};
 ghost use Rattle.script_lines.specs.Reading.{Holds, ComesInPieces};
-ghost use Rattle.oberon_main.specs.Opened.{session_of};
+ghost use Rattle.desk_journal.specs.Session.{session_of};
 ghost use Rattle.oberon_main.specs.Play.{Plays, CountsPlay, CountsEnd, CountsInput, CountsOutput, PlaysLine};
 ghost use Rattle.oberon_main.specs.Play.{RestEndsAs, last_word, no_word};
 ghost use Rattle.script_streams.specs.Counting.{CountsFault};

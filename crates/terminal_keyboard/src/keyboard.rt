@@ -23,4 +23,9 @@ pub trait Keyboard {
     fn hear(&mut self) -> Result<Hearing, KeyboardEnd>
         ensures told { IfOk result (λ told. heard self.new ≡ heard self.old ++ told) }
         ensures ended { OnErr result (heard self.new ≡ heard self.old) };
+
+    /// Has the text of a host file be heard next, as a paste, and says whether it will be. It won't where there is no
+    /// such file, or it can't be read. Nothing is heard in this call.
+    fn bring(&mut self, name: &[u8]) -> bool
+        ensures silent { heard self.new ≡ heard self.old };
 }

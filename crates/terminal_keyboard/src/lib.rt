@@ -13,5 +13,6 @@ mod terminal;
 
 pub use hearing::{Hearing, MOST_HEARD};
 pub use keyboard::{Keyboard, KeyboardEnd};
+pub use log::Log;
 pub use script::ScriptedKeyboard;
 pub use terminal::{StandardInput, TerminalInput};

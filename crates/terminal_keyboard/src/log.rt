@@ -6,9 +6,9 @@ ghost use Rattle.terminal_presses.specs.declared.press.Heard.{Heard};
 use crate::hearing::Hearing;
 use std::marker::Model;
 
-/// All that was heard so far, in order.
+/// All that was heard of a keyboard so far, in order, as contracts name it. It has no bytes.
 #[derive(Drop)]
-pub(crate) struct Log {
+pub struct Log {
     pub ghost heard: { List Heard },
 }
 
@@ -18,14 +18,14 @@ impl Model for Log {
 
 impl Log {
     /// Nothing was heard yet.
-    pub(crate) fn new() -> Log
+    pub fn new() -> Log
         ensures { result.heard ≡ [] }
     {
         Log {}
     }
 
     /// This was heard too.
-    pub(crate) fn then(&self, _hearing: &Hearing) -> Log
+    pub fn then(&self, _hearing: &Hearing) -> Log
         ensures { result.heard ≡ self.now.heard ++ _hearing.now }
     {
         Log {}

@@ -47,4 +47,9 @@ impl Keyboard for ScriptedKeyboard<'_> {
         self.told = end;
         Ok(hearing)
     }
+
+    /// A script has no host files.
+    fn bring(&mut self, _name: &[u8]) -> bool {
+        false
+    }
 }

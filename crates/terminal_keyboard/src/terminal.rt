@@ -45,6 +45,11 @@ impl<R: Read + IsTerminal> Keyboard for TerminalInput<R> {
         self.log = self.log.then(&hearing);
         Ok(hearing)
     }
+
+    /// A terminal alone has no host files.
+    fn bring(&mut self, _name: &[u8]) -> bool {
+        false
+    }
 }
 
 /// Reads until there is something to tell. An interrupted read is tried again.

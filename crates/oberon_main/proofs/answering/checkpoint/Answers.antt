@@ -2,7 +2,7 @@ use Rattle.std.proofs.Common.{◌∙◌, ap, sym, Err}
 use Rattle.std.proofs.lemmas.Bool.{false≢true}
 use Rattle.std.proofs.lemmas.Result.{IfOk-weaker}
 use Rattle.desk_journal.specs.View.{StoreView}
-use Rattle.oberon_main.specs.Opened.{session_of}
+use Rattle.desk_journal.specs.Session.{session_of}
 use Rattle.oberon_main.proofs.Sessions.{last_answer, last_after, renewed_answer, renewed_after}
 use Rattle.oberon_main.proofs.Surviving.{checkpoint_withstands}
 use Rattle.oberon_main.proofs.Ends.{counts_checkpoint}

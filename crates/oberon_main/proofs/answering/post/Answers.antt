@@ -2,7 +2,7 @@ use Rattle.std.proofs.Common.{◌∙◌, ap, sym, Err}
 use Rattle.std.proofs.lemmas.Bool.{false≢true}
 use Rattle.std.proofs.lemmas.Result.{IfOk-weaker}
 use Rattle.desk_journal.specs.View.{StoreView}
-use Rattle.oberon_main.specs.Opened.{session_of}
+use Rattle.desk_journal.specs.Session.{session_of}
 use Rattle.oberon_main.proofs.Sessions.{worn_answer, worn_after, reply_answer, reply_after}
 use Rattle.oberon_main.proofs.Surviving.{post_withstands}
 use Rattle.oberon_main.proofs.Ends.{counts_post, only_memory}

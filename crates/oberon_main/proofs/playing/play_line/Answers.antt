@@ -1,7 +1,7 @@
 use Rattle.std.proofs.Common.{ap, ◌∙◌, subst, Err}
 use Rattle.std.proofs.lemmas.Result.{err_from_is_err_and}
-use Rattle.oberon_main.specs.Opened.{session_of}
-use Rattle.oberon_main.specs.Session.{answer}
+use Rattle.desk_journal.specs.Session.{session_of}
+use Rattle.oberon_main.specs.Answers.{answer}
 use Rattle.screen_cells.specs.Sent.{AppendsFront}
 use Rattle.oberon_main.proofs.ByLines.{line_stopped, line_served}
 use Rattle.oberon_main.proofs.playing.play_line.Goals as goal

@@ -1,7 +1,7 @@
 use Rattle.std.proofs.Common.{◌≡◌, ◌+◌, false}
 use Rattle.desk_journal.specs.View.{IsDurable}
 use Rattle.script_lines.specs.Reading.{most_lines}
-use Rattle.oberon_main.specs.Opened.{session_of}
+use Rattle.desk_journal.specs.Session.{session_of}
 use Rattle.oberon_main.proofs.Played.{HasPlayed}
 use Rattle.oberon_main.proofs.ByLines.{Ran}
 use Rattle.oberon_main.proofs.playing.play_lines.Given as goal

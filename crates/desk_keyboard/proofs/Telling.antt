@@ -1,0 +1,55 @@
+-- Each thing that is told of a text.
+use Rattle.std.proofs.Common.{◌≡◌, ◌≤◌, ℕ, ◌+◌, ◌-◌, List, [], length, take, map, Option, sym, subst, arith}
+use Rattle.std.specs.Io.KnownBytes.{Consumes}
+use Rattle.std.proofs.KnownBytes.{Consumes-nil}
+use Rattle.std.proofs.lemmas.List.{length-take-le}
+use Rattle.terminal_presses.specs.declared.press.Heard.{Heard}
+use Rattle.terminal_presses.specs.Spelling.{bytes}
+use Rattle.desk_keyboard.specs.declared.paste.Stage.{Stage}
+use Rattle.desk_keyboard.specs.declared.paste.Stage.TheVariants.{Begins, GoesOn, Ended}
+use Rattle.desk_keyboard.specs.HostPastes.{Tells, begins, goes_on, ends, TakesText, harmless, paste_begins, paste_ends}
+
+pub tells_beginning : (stage : Stage) (left : ℕ) (known : Option (List ℕ)) (told : List Heard)
+    → stage ≡ Begins → told ≡ bytes paste_begins → TakesText stage GoesOn left left known known told
+tells_beginning stage left known told at_first is =
+    let first : Tells Begins left GoesOn left [] told =
+    subst (λ t. Tells Begins left GoesOn left [] t) (sym is) begins in
+    record {
+      text = [];
+      read = Consumes-nil known;
+      tells = subst (λ s. Tells s left GoesOn left [] told) (sym at_first) first;
+    }
+
+pub tells_end : (stage : Stage) (left count : ℕ) (known known' : Option (List ℕ)) (buffer : List ℕ) (told : List Heard)
+    → stage ≡ GoesOn → count ≡ 0 → Consumes known known' (take count buffer) → told ≡ bytes paste_ends
+    → TakesText stage Ended left left known known' told
+tells_end stage left count known known' buffer told amid none read is =
+    let last : Tells GoesOn left Ended left [] told = subst (λ t. Tells GoesOn left Ended left [] t) (sym is) ends in
+    record {
+      text = [];
+      read = subst (λ n. Consumes known known' (take n buffer)) none read;
+      tells = subst (λ s. Tells s left Ended left [] told) (sym amid) last;
+    }
+
+more_told : (left : ℕ) (text : List ℕ) → length text ≤ left
+    → Tells GoesOn left GoesOn (left - length text) text (bytes (map harmless text))
+more_told left text most =
+    let sum : left - length text + length text ≡ left = omega arith in
+    subst (λ n. Tells GoesOn n GoesOn (left - length text) text (bytes (map harmless text))) sum goes_on
+
+pub tells_text : (stage : Stage) (left count : ℕ) (known known' : Option (List ℕ)) (buffer : List ℕ)
+    (told : List Heard) → stage ≡ GoesOn → count ≤ length buffer → count ≤ left
+    → Consumes known known' (take count buffer) → told ≡ bytes (map harmless (take count buffer))
+    → TakesText stage stage left (left - count) known known' told
+tells_text stage left count known known' buffer told amid within most read is =
+    let text = take count buffer in
+    let long : length text ≡ count = length-take-le count buffer within in
+    let more : Tells GoesOn left GoesOn (left - length text) text (bytes (map harmless text)) =
+    more_told left text (subst (λ n. n ≤ left) (sym long) most) in
+    let counted = subst (λ n. Tells GoesOn left GoesOn (left - n) text (bytes (map harmless text))) long more in
+    let said = subst (λ t. Tells GoesOn left GoesOn (left - count) text t) (sym is) counted in
+    record {
+      text = text;
+      read = read;
+      tells = subst (λ s. Tells s left s (left - count) text told) (sym amid) said;
+    }

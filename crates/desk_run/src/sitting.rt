@@ -1,0 +1,76 @@
+//! A person at a terminal, over a store in a file or in memory.
+ghost use Rattle.std.specs.Prelude.{◌≡◌, false};
+
+use crate::endings::{kept, lost};
+use desk_journal::Store;
+use desk_keyboard::{DeskKeyboard, StandardInput};
+use desk_session::{Ending, Saying, serve};
+use desk_stores::{Trouble, in_memory, make, opened};
+use host_files::{HostFault, lock_alone, lock_or_make};
+use sector_disk::Disk;
+
+/// Serves a person at the desktop of a new store in memory, and returns the status.
+pub(crate) fn sit_in_memory(rt: &HostRuntime, rows: u16) -> u8 {
+    match in_memory(rt) {
+        Ok(store) => lost(rt, sit(rt, rows, store, Saying::InMemory)),
+        Err(trouble) => trouble.say(rt, ""),
+    }
+}
+
+/// Serves a person at the desktop of the store in a file, which is made where there is none, and returns the status.
+pub(crate) fn sit_at(rt: &HostRuntime, rows: u16, path: &str) -> u8 {
+    match lock_alone(rt, path) {
+        Ok(_lock) => sit_at_locked(rt, rows, path),
+        Err(HostFault::Missing) => sit_at_new(rt, rows, path),
+        Err(fault) => Trouble::Host(fault).say(rt, path),
+    }
+}
+
+/// The same, while the file is locked.
+fn sit_at_locked(rt: &HostRuntime, rows: u16, path: &str) -> u8 {
+    match opened(rt, path) {
+        Ok(store) => kept(rt, path, sit(rt, rows, store, Saying::Greeting)),
+        Err(trouble) => trouble.say(rt, path),
+    }
+}
+
+/// The same, where there is no file yet. The store is made under another name, and gets its own when it is whole: so
+/// there is a whole store or none, whenever the making is stopped.
+fn sit_at_new(rt: &HostRuntime, rows: u16, path: &str) -> u8 {
+    match format!(in rt.alloc(); "{path}.new") {
+        Ok(made) => sit_at_named(rt, rows, made.as_str(), path),
+        Err(_) => Trouble::Memory.say(rt, path),
+    }
+}
+
+/// The same, where this is the other name.
+fn sit_at_named(rt: &HostRuntime, rows: u16, made: &str, path: &str) -> u8 {
+    match lock_or_make(rt, made) {
+        Ok(_lock) => sit_at_made(rt, rows, made, path),
+        Err(fault) => Trouble::Making(fault).say(rt, path),
+    }
+}
+
+/// The same, while the file under the other name is locked.
+fn sit_at_made(rt: &HostRuntime, rows: u16, made: &str, path: &str) -> u8 {
+    match make(rt, made, path) {
+        Ok(store) => kept(rt, path, sit(rt, rows, store, Saying::Greeting)),
+        Err(trouble) => trouble.say(rt, path),
+    }
+}
+
+/// Serves a person at the desktop of a store, in a terminal of so many rows.
+fn sit<D: Disk + Drop>(rt: &HostRuntime, rows: u16, store: Store<D>, greeting: Saying) -> Ending
+    requires { store.must_reopen ≡ false }
+{
+    let mut store = store;
+    let mut keyboard = DeskKeyboard::new(rt, StandardInput::new(rt.stdin()));
+    serve(
+        rt.alloc(),
+        &mut keyboard,
+        &mut rt.stdout(),
+        &mut store,
+        rows,
+        greeting,
+    )
+}

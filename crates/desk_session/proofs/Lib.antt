@@ -1,0 +1,4 @@
+pub mod Sending
+pub mod Surviving
+pub mod Turning
+pub mod Whole

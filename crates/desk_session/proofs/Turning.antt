@@ -1,0 +1,233 @@
+-- What a turn comes to, outcome by outcome.
+use Rattle.std.proofs.Common.{◌≡◌, ◌∙◌, ℕ, ◌<◌, List, [], ◌++◌, Option, Ok, Err, ap, sym, subst, inl, inr}
+use Rattle.std.proofs.Common.{append-nil, refl, true, false}
+use Rattle.std.specs.Prelude.{Result, OnErr, IfErr}
+use Rattle.output_bytes.specs.Sent.{AppendsFront}
+use Rattle.sector_disk.specs.declared.disk.Disk.{Ghosts}
+use Rattle.sector_disk.proofs.Touching.{at_last}
+use Rattle.event_bytes.specs.declared.event.Event.{Event}
+use Rattle.screen_pictures.specs.declared.cell.Cell.{Cell}
+use Rattle.store_layout.specs.Meaning.{Shows}
+use Rattle.terminal_painting.specs.declared.face.Face.{Face}
+use Rattle.sector_disk.specs.Faults.{FailsAs}
+use Rattle.terminal_keyboard.specs.declared.keyboard.KeyboardEnd.{KeyboardEnd}
+use Rattle.terminal_keyboard.specs.declared.keyboard.KeyboardEnd.TheVariants as keyboard
+use Rattle.terminal_presses.specs.declared.press.Heard.{Heard}
+use Rattle.terminal_presses.specs.Presses.{parser_after, pressed}
+use Rattle.desk_journal.specs.Device.{IsOnlyRead, IsSameDevice}
+use Rattle.desk_journal.specs.Errors.{Error, Fault as DiskFault}
+use Rattle.desk_journal.specs.Looking.{OnlyLooks}
+use Rattle.desk_journal.specs.Session.{Session, session_of}
+use Rattle.desk_journal.specs.View.{StoreView, IsDurable}
+use Rattle.desk_sitting.specs.declared.sitting.Sitting.{Sitting}
+use Rattle.desk_sitting.specs.Doing.{Breaks, Does, OfPresses, desk_of}
+use Rattle.desk_sitting.specs.Sittings.{accepted, accepted_of, looked}
+use Rattle.desk_session.specs.declared.ending.Ending.{Ending}
+use Rattle.desk_session.specs.declared.ending.Ending.TheVariants.{Left, Closed, Input, Output, Fault, Memory}
+use Rattle.desk_session.specs.Endings.{end_of, end_of_keyboard}
+use Rattle.desk_session.specs.Frames.{IsPainted, IsShown, IsUnshown, after_frame, behind_it, known_by}
+use Rattle.desk_session.specs.Serving.{Place, IsBrought, IsLookedAt, IsHeard, IsDeaf, Broke}
+use Rattle.desk_session.specs.Serving.{HasTurned, HasStopped, TakesTurn, CountsEnding, IsUsableAt, screen_of, seen}
+use Rattle.desk_session.specs.Serving.{left, closed}
+use Rattle.desk_session.specs.Serving.{unheard, unseen, faulty, starved, faulty_press, starved_press}
+
+-- ---- a frame
+
+module _ {D : Type 0} (d : Ghosts D) where
+  -- what was only read leaves what it left
+  pub still_durable : (old new : StoreView D) → IsOnlyRead d old.disk new.disk → session_of new ≡ session_of old
+      → IsDurable d old → IsDurable d new
+  still_durable old new read same durable honest c image =
+      let before = read.device.already honest in
+      let was = durable before c (at_last (read.unwritten before) c image) in
+      let all : (n : ℕ) (s : Session) → d.size old.disk ≡ n → session_of old ≡ s → Shows n s.epoch s.events s.desktop c
+      = λ n s large is. subst (λ (k : ℕ). Shows k s.epoch s.events s.desktop c) large
+      (subst (λ (t : Session). Shows (d.size old.disk) t.epoch t.events t.desktop c) is was) in
+      all (d.size new.disk) (session_of new) (sym read.device.as_large) (sym same)
+
+  -- a look
+  pub looked_at : {T : Type 0} (result : Result T Error) (old new : StoreView D) → OnlyLooks d result old new
+      → d.honest old.disk → IsDurable d old → IsLookedAt d old new
+  looked_at result old new looks honest durable =
+      let same : session_of new ≡ session_of old = cc (looks.desktop honest) in
+      record {
+        session = same;
+        disk = looks.disk;
+        durable = still_durable old new looks.disk same durable;
+      }
+
+-- the output fails behind the frame
+module _ (s s' : Sitting) (screen screen' : List (List Cell)) (known known' : List (List Face))
+    (held between held' : Option (List ℕ)) {H : Type 0} where
+  pub cut_behind : {T : Type 0} (result : Result T Ending) → s' ≡ looked screen' s → (H → screen' ≡ screen)
+      → IsPainted s' screen' (known_by s.forgets known) known' held between
+      → OnErr result (AppendsFront between held' (after_frame s.rings s.asks))
+      → IfErr result (λ end. end ≡ Output) → IfErr result (λ end. H → IsUnshown end s screen known held held')
+  cut_behind (Ok value) looks shows painted front is = tt
+  cut_behind (Err end) looks shows painted front is = λ h.
+      subst (λ e. IsUnshown e s screen known held held') (sym is) (behind_it
+      (subst (λ x. IsPainted (looked x s) x (known_by s.forgets known) known' held between) (shows h)
+      (subst (λ t. IsPainted t screen' (known_by s.forgets known) known' held between) looks painted)) front)
+
+-- ---- failures
+
+pub calm_keyboard : (why : KeyboardEnd) (failed failed' : ℕ) → failed' ≡ failed
+    → CountsEnding (end_of_keyboard why) failed failed'
+calm_keyboard keyboard.Closed failed failed' same = same
+calm_keyboard keyboard.Fault failed failed' same = same
+
+pub counts_presses : {T : Type 0} (error : Error) (first failed failed' : ℕ) → failed ≡ first
+    → FailsAs {T = T} DiskFault OfPresses (Err error) failed failed' → CountsEnding (end_of error) first failed'
+counts_presses error first failed failed' same fails = elim fails.errors [
+  | inl is ↦ subst (λ e. CountsEnding (end_of e) first failed') (sym is) (fails.calm (λ wrong. cc) ∙ same)
+  | inr is ↦ subst (λ e. CountsEnding (end_of e) first failed') (sym is)
+      (subst (λ n. n < failed') same (fails.rose (ap (λ e. Err e) is)))
+]
+
+pub calm_presses : {T : Type 0} (value : T) (first failed failed' : ℕ) → failed ≡ first
+    → FailsAs DiskFault OfPresses (Ok value) failed failed' → failed' ≡ first
+calm_presses value first failed failed' same fails = fails.calm (λ wrong. cc) ∙ same
+
+-- after a press that fails nothing is promised of the store
+unusable : {D : Type 0} (error : Error) (store : StoreView D) → OfPresses error → IsUsableAt (end_of error) store
+unusable error store why = elim why [
+  | inl is ↦ subst (λ e. IsUsableAt (end_of e) store) (sym is) (λ _ wrong. absurd (wrong refl))
+  | inr is ↦ subst (λ e. IsUsableAt (end_of e) store) (sym is) (λ wrong _. absurd (wrong refl))
+]
+
+-- ---- a turn
+
+module _ {D : Type 0} (d : Ghosts D) where
+  pub same_device : (old mid new : D) → IsSameDevice d old mid → IsSameDevice d mid new → IsSameDevice d old new
+  same_device old mid new first second = record {
+    as_large = second.as_large ∙ first.as_large;
+    still = λ honest. second.still (first.still honest);
+    already = λ honest. first.already (second.already honest);
+  }
+
+  -- a turn in which the sitting ends
+  ended : {T : Type 0} (result : Result T Ending) (end : Ending) (old new : Place D) → result ≡ Err end
+      → (d.honest old.store.disk → IsDurable d old.store → HasStopped d end old new) → IsUsableAt end new.store
+      → CountsEnding end (d.failures old.store.disk) (d.failures new.store.disk)
+      → IsSameDevice d old.store.disk new.store.disk → TakesTurn d result old new
+  ended result end old new is stops usable counts device = subst (λ r. TakesTurn d r old new) (sym is) (record {
+    goes_on = tt;
+    stays = tt;
+    stops = stops;
+    usable = tt;
+    still_usable = usable;
+    counts = counts;
+    device = device;
+  })
+
+  -- the frame isn't shown
+  unshown_stops : (end : Ending) (old new : Place D) → IsLookedAt d old.store new.store → new.heard ≡ old.heard
+      → IsUnshown end old.sitting (screen_of old.store) old.known old.held new.held → HasStopped d end old new
+  unshown_stops Left old new looks heard why = absurd why
+  unshown_stops Closed old new looks heard why = absurd why
+  unshown_stops Input old new looks heard why = absurd why
+  unshown_stops Output old new looks heard why = ([], [], unseen (record { looked = looks; cut = why; heard = heard }))
+  unshown_stops Fault old new looks heard why = ([], [], faulty (record { looked = looks; held = why; heard = heard }))
+  unshown_stops Memory old new looks heard why =
+      ([], [], starved (record { looked = looks; held = why; heard = heard }))
+
+  pub unshown_ends : {T : Type 0} {old new : Place D} (result : Result T Ending) (end : Ending) → result ≡ Err end
+      → (d.honest old.store.disk → IsDurable d old.store → IsLookedAt d old.store new.store)
+      → (d.honest old.store.disk → IsUnshown end old.sitting (screen_of old.store) old.known old.held new.held)
+      → new.heard ≡ old.heard → new.store.must_reopen ≡ false
+      → CountsEnding end (d.failures old.store.disk) (d.failures new.store.disk)
+      → IsSameDevice d old.store.disk new.store.disk → TakesTurn d result old new
+  unshown_ends {old = old} {new = new} result end is looks why heard usable = ended result end old new is
+      (λ honest durable. unshown_stops end old new (looks honest durable) heard (why honest)) (λ _ _. usable)
+
+  -- nothing is heard
+  deaf_stops : (why : KeyboardEnd) (old new : Place D) → IsDeaf d old new → HasStopped d (end_of_keyboard why) old new
+  deaf_stops keyboard.Closed old new deaf = ([], [], closed deaf)
+  deaf_stops keyboard.Fault old new deaf = ([], [], unheard deaf)
+
+  pub deaf_ends : {T : Type 0} {old new : Place D} (result : Result T Ending) (why : KeyboardEnd)
+      → result ≡ Err (end_of_keyboard why)
+      → (d.honest old.store.disk → IsDurable d old.store → IsLookedAt d old.store new.store)
+      → (d.honest old.store.disk
+      → IsShown old.sitting (screen_of old.store) old.known new.known old.held new.held)
+      → new.heard ≡ old.heard → new.store.must_reopen ≡ false
+      → d.failures new.store.disk ≡ d.failures old.store.disk
+      → IsSameDevice d old.store.disk new.store.disk → TakesTurn d result old new
+  deaf_ends {old = old} {new = new} result why is looks shown heard usable calm =
+      ended result (end_of_keyboard why) old new is
+      (λ honest durable. deaf_stops why old new (record {
+        looked = looks honest durable;
+        shown = shown honest;
+        heard = heard ∙ sym (append-nil old.heard);
+      })) (λ _ _. usable) (calm_keyboard why (d.failures old.store.disk) (d.failures new.store.disk) calm)
+
+  -- a frame is shown, after which the store and the sitting are these, and this is heard
+  module _ {old new : Place D} (mid : StoreView D) (s : Sitting) (hearing : List Heard)
+      (looks : d.honest old.store.disk → IsDurable d old.store → IsLookedAt d old.store mid)
+      (sees : d.honest old.store.disk → s ≡ seen old)
+      (shown : d.honest old.store.disk
+      → IsShown old.sitting (screen_of old.store) old.known new.known old.held new.held)
+      (heard : new.heard ≡ old.heard ++ hearing) where
+    frame : d.honest old.store.disk → IsDurable d old.store → IsHeard d hearing old mid new
+    frame honest durable = record { looked = looks honest durable; shown = shown honest; heard = heard }
+
+    pub turned : (s' : Sitting) → new.parser ≡ parser_after old.parser hearing
+        → (d.honest mid.disk → IsDurable d mid → Does d (pressed old.parser hearing) s s' mid new.store)
+        → IsBrought s' new.sitting → d.honest old.store.disk → IsDurable d old.store → HasTurned d old new
+    turned s' parser does brings honest durable = (
+      accepted (pressed old.parser hearing) (desk_of (seen old) mid),
+      record {
+        hearing = hearing;
+        mid = mid;
+        frame = frame honest durable;
+        parser = parser;
+        sitting = s';
+        does = subst (λ t. Does d (pressed old.parser hearing) t s' mid new.store) (sees honest)
+            (does ((looks honest durable).disk.device.still honest) (looks honest durable).durable);
+        are = refl;
+        brings = brings;
+      },
+    )
+
+    -- a press fails
+    broken : (error : Error) → OfPresses error
+        → (d.honest mid.disk → IsDurable d mid → Breaks d error (pressed old.parser hearing) s mid new.store)
+        → d.honest old.store.disk → IsDurable d old.store → HasStopped d (end_of error) old new
+    broken error why fails honest durable =
+        let breaks : Breaks d error (pressed old.parser hearing) (seen old) mid new.store =
+        subst (λ t. Breaks d error (pressed old.parser hearing) t mid new.store) (sees honest)
+        (fails ((looks honest durable).disk.device.still honest) (looks honest durable).durable) in
+        let events : List Event = accepted breaks.done (desk_of (seen old) mid) in
+        let begun : List Event = accepted_of breaks.press (desk_of breaks.sitting breaks.mid) in
+        let broke : Broke d error events begun old new = record {
+          hearing = hearing;
+          mid = mid;
+          frame = frame honest durable;
+          breaks = breaks;
+          are = refl;
+          fails = refl;
+        } in
+        elim why [
+          | inl is ↦ subst (λ e. HasStopped d (end_of e) old new) (sym is)
+              (events, [], starved_press (subst (λ e. Broke d e events begun old new) is broke))
+          | inr is ↦ subst (λ e. HasStopped d (end_of e) old new) (sym is)
+              (events, begun, faulty_press (subst (λ e. Broke d e events begun old new) is broke))
+        ]
+
+    pub broken_ends : {T : Type 0} (result : Result T Ending) (error : Error) → result ≡ Err (end_of error)
+        → (d.honest mid.disk → IsDurable d mid → Breaks d error (pressed old.parser hearing) s mid new.store)
+        → d.failures mid.disk ≡ d.failures old.store.disk
+        → FailsAs {T = T} DiskFault OfPresses (Err error) (d.failures mid.disk) (d.failures new.store.disk)
+        → IsSameDevice d old.store.disk new.store.disk → TakesTurn d result old new
+    broken_ends result error is fails calm faults = ended result (end_of error) old new is
+        (broken error faults.errors fails) (unusable error new.store faults.errors)
+        (counts_presses error (d.failures old.store.disk) (d.failures mid.disk) (d.failures new.store.disk) calm faults)
+
+  -- the person leaves
+  pub left_stops : {old new : Place D} → HasTurned d old new → new.sitting.leaves ≡ true → HasStopped d Left old new
+  left_stops turn leaves = (turn.0, [], left turn.1 leaves)
+
+-- what is heard is what the keyboard told
+pub heard_so : {after told slice : List Heard} (heard : List Heard) → after ≡ heard ++ told → slice ≡ told
+    → after ≡ heard ++ slice
+heard_so heard grown same = grown ∙ ap (λ l. heard ++ l) (sym same)

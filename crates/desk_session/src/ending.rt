@@ -1,0 +1,59 @@
+//! How a sitting ends.
+
+ghost use Rattle.std.specs.Prelude.{◌≡◌};
+ghost use Rattle.desk_session.specs.declared.ending.Ending.TheVariants.{Output as TakesNoMore};
+ghost use Rattle.desk_session.specs.Endings.{end_of, end_of_keyboard};
+
+use desk_journal::Error;
+use terminal_keyboard::KeyboardEnd;
+use terminal_painting::OutputFault;
+
+/// How a sitting came to its end.
+#[derive(Clone, Copy, Debug, PartialEq, Eq)]
+pub enum Ending {
+    /// The person left.
+    Left,
+    /// The keyboard told that nothing more comes.
+    Closed,
+    /// A read of the keyboard failed, or there were `MOST_TURNS` turns.
+    Input,
+    /// A write or a flush of the output failed, or a write took no byte.
+    Output,
+    /// The disk failed.
+    Fault,
+    /// An allocation was refused.
+    Memory,
+}
+
+impl From<OutputFault> for Ending {
+    ghost from_gives = { λ _ end. end ≡ TakesNoMore };
+
+    /// A sitting ends by `Output` where the output takes no more.
+    fn from(_fault: OutputFault) -> Ending {
+        Ending::Output
+    }
+}
+
+impl From<KeyboardEnd> for Ending {
+    ghost from_gives = { λ why end. end ≡ end_of_keyboard why };
+
+    /// A sitting ends by `Closed` or by `Input` where the keyboard does.
+    fn from(why: KeyboardEnd) -> Ending {
+        match why {
+            KeyboardEnd::Closed => Ending::Closed,
+            KeyboardEnd::Fault => Ending::Input,
+        }
+    }
+}
+
+impl From<Error> for Ending {
+    ghost from_gives = { λ error end. end ≡ end_of error };
+
+    /// A sitting ends by `Memory` where the store is out of memory, and by `Fault` where it refuses otherwise.
+    fn from(error: Error) -> Ending {
+        match error {
+            Error::NoMemory => Ending::Memory,
+            _ => Ending::Fault,
+        }
+    }
+}

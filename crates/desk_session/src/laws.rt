@@ -1,0 +1,15 @@
+//! What holds of all sittings.
+ghost use Rattle.desk_session.specs.Surviving.{EndsSurvive, FramesSurvive, TurnsSurvive};
+
+use desk_sitting::presses_are_steps;
+use sector_disk::Disk;
+
+/// Whatever the end of a sitting, from any of its places on a crash leaves the desktop that is shown there, after the
+/// first of the events accepted since then: what was shown is never lost.
+pub fn sittings_survive<D: Disk>()
+    ensures turns { TurnsSurvive D.Disk }
+    ensures frames { FramesSurvive D.Disk }
+    ensures ends { EndsSurvive D.Disk }
+{
+    presses_are_steps();
+}

@@ -1,0 +1,226 @@
+//! A sitting over a store, turn by turn.
+ghost use Rattle.std.specs.Prelude.{◌≡◌, false, OnOk, OnErr, IfErr};
+ghost use Rattle.std.specs.Io.KnownBytes.{Appends};
+ghost use Rattle.output_bytes.specs.Sent.{AppendsFront};
+ghost use Rattle.desk_journal.specs.Device.{IsSameDevice};
+ghost use Rattle.desk_journal.specs.View.{IsDurable};
+ghost use Rattle.desk_sitting.specs.Sayings.{line_of};
+ghost use Rattle.desk_sitting.specs.Sittings.{looked};
+ghost use Rattle.desk_session.specs.declared.ending.Ending.TheVariants.{Output as TakesNoMore};
+ghost use Rattle.terminal_painting.specs.Frame.{IsInSight};
+ghost use Rattle.desk_session.specs.Frames.{IsFrameOf, IsHalfPainted, IsPainted, IsShown, IsUnshown};
+ghost use Rattle.desk_session.specs.Frames.{after_frame, bell, known_by, request, size_request};
+ghost use Rattle.desk_session.specs.Serving.{CountsEnding, CountsTurn, IsBrought, IsLookedAt, IsUsableAt};
+ghost use Rattle.desk_session.specs.Serving.{TakesTurn, first_place, place_of, screen_of};
+ghost use Rattle.desk_session.specs.Sitting.{IsSat};
+
+use crate::ending::Ending;
+use crate::laws::sittings_survive;
+use desk_journal::Store;
+use desk_sitting::{Saying, Sitting, do_presses};
+use output_bytes::{OutputFault, flush, send};
+use screen_cells::Screen;
+use sector_disk::Disk;
+use std::alloc::Global;
+use std::io::Write;
+use terminal_keyboard::Keyboard;
+use terminal_painting::{Frame, Painter, ring};
+use terminal_presses::Parser;
+use viewer_tracks::ROWS;
+
+/// How many turns a sitting has at most; after them it ends by `Input`.
+pub const MOST_TURNS: u64 = 18_446_744_073_709_551_615;
+
+/// An escape byte and `[18t`, to which a terminal tells its size.
+const SIZE_REQUEST: [u8; 5] = [27, 91, 49, 56, 116];
+
+/// Serves the person at the keyboard: shows the screen in a terminal of `height` rows, and does what is pressed, until
+/// they leave or something fails. The line below begins with the greeting.
+///
+/// Each event is acknowledged before the next frame is sent, so that no crash takes away what was shown. The store must
+/// be one that needn't be opened again. After `Left`, `Closed`, `Input` and `Output` it can be used on; after `Fault`
+/// and `Memory` it must be opened again where an event was posted.
+pub fn serve<K: Keyboard, W: Write, D: Disk>(
+    alloc: Global,
+    keyboard: &mut K,
+    writer: &mut W,
+    store: &mut Store<D>,
+    height: u16,
+    greeting: Saying,
+) -> Ending
+    requires { store.old.must_reopen ≡ false }
+    ensures sat { D.honest store.old.disk → IsSat D.Disk result
+        (first_place height greeting store.old (K.heard keyboard.old) (W.contents writer.old))
+        store.new (K.heard keyboard.new) (W.contents writer.new) }
+    ensures device { IsSameDevice D.Disk store.old.disk store.new.disk }
+    ensures usable { IsUsableAt result store.new }
+    ensures faults { CountsEnding result (D.failures store.old.disk) (D.failures store.new.disk) }
+{
+    // What a crash leaves of it.
+    sittings_survive::<D>();
+    // What the store shows is what a crash would leave now.
+    let _ = store.info();
+    let mut sitting = Sitting::new(height, greeting);
+    let mut parser = Parser::new();
+    let mut painter = Painter::new();
+    for _count in 0..MOST_TURNS {
+        if let Err(end) = turn(
+            alloc,
+            &mut sitting,
+            &mut parser,
+            &mut painter,
+            keyboard,
+            writer,
+            store,
+        ) {
+            return end;
+        }
+    }
+    Ending::Input
+}
+
+/// One turn: the desktop is shown, something is heard, and what is pressed by it is done.
+///
+/// Errors: `Output`, and `Fault` and `Memory` where the screen can't be worked out, before anything is heard; `Closed`
+/// and `Input` where nothing is heard; `Fault` and `Memory` where a press fails; `Left` where the person leaves.
+fn turn<K: Keyboard, W: Write, D: Disk>(
+    alloc: Global,
+    sitting: &mut Sitting,
+    parser: &mut Parser,
+    painter: &mut Painter,
+    keyboard: &mut K,
+    writer: &mut W,
+    store: &mut Store<D>,
+) -> Result<(), Ending>
+    requires { store.old.must_reopen ≡ false }
+    ensures { TakesTurn D.Disk result
+        (place_of parser.old sitting.old store.old (K.heard keyboard.old) painter.old (W.contents writer.old))
+        (place_of parser.new sitting.new store.new (K.heard keyboard.new) painter.new (W.contents writer.new)) }
+{
+    show(alloc, sitting, painter, writer, store)?;
+    let hearing = keyboard.hear()?;
+    do_presses(alloc, sitting, parser, hearing.as_slice(), store)?;
+    bring(sitting, keyboard);
+    if sitting.leaves {
+        Err(Ending::Left)
+    } else {
+        Ok(())
+    }
+}
+
+/// Asks the keyboard for the text of a host file where one is wanted.
+fn bring<K: Keyboard>(sitting: &mut Sitting, keyboard: &mut K)
+    ensures brought { IsBrought sitting.old sitting.new }
+    ensures silent { K.heard keyboard.new ≡ K.heard keyboard.old }
+{
+    let will_be_heard = match &sitting.wanted {
+        Some(name) => keyboard.bring(name.as_bytes()),
+        None => false,
+    };
+    sitting.bring(will_be_heard);
+}
+
+/// Shows the desktop, all events of which are acknowledged.
+///
+/// Errors: `Fault` and `Memory`, and nothing was sent; `Output`, and a front may have been sent.
+fn show<W: Write, D: Disk>(
+    alloc: Global,
+    sitting: &mut Sitting,
+    painter: &mut Painter,
+    writer: &mut W,
+    store: &mut Store<D>,
+) -> Result<(), Ending>
+    requires { store.old.must_reopen ≡ false }
+    ensures looks { D.honest store.old.disk → IsDurable D.Disk store.old → IsLookedAt D.Disk store.old store.new }
+    ensures sitting { OnOk result (D.honest store.old.disk → sitting.new ≡ looked (screen_of store.old) sitting.old) }
+    ensures shown { OnOk result (D.honest store.old.disk → IsShown sitting.old (screen_of store.old)
+        painter.old painter.new (W.contents writer.old) (W.contents writer.new)) }
+    ensures unshown { IfErr result (λ end. D.honest store.old.disk → IsUnshown end sitting.old (screen_of store.old)
+        painter.old (W.contents writer.old) (W.contents writer.new)) }
+    ensures usable { store.new.must_reopen ≡ false }
+    ensures counts { CountsTurn result (D.failures store.old.disk) (D.failures store.new.disk) }
+    ensures device { IsSameDevice D.Disk store.old.disk store.new.disk }
+{
+    let mut screen = Screen::new();
+    store.screen(alloc, &mut screen)?;
+    let (rings, asks, forgets) = (sitting.rings, sitting.asks, sitting.forgets);
+    sitting.look(&screen);
+    paint(sitting, forgets, painter, writer, &screen)?;
+    follow(writer, rings, asks)
+}
+
+/// Paints the frame. Where it forgets, nothing is known of the terminal.
+///
+/// Error: `Output`, and a front may have been sent.
+fn paint<W: Write>(
+    sitting: &Sitting,
+    forgets: bool,
+    painter: &mut Painter,
+    writer: &mut W,
+    screen: &Screen,
+) -> Result<(), Ending>
+    ensures painted { OnOk result (IsPainted sitting.now screen.now (known_by forgets painter.old) painter.new
+        (W.contents writer.old) (W.contents writer.new)) }
+    ensures front { OnErr result (IsHalfPainted sitting.now screen.now (known_by forgets painter.old)
+        (W.contents writer.old) (W.contents writer.new)) }
+    ensures end { IfErr result (λ end. end ≡ TakesNoMore) }
+{
+    if forgets {
+        painter.forget();
+    }
+    let line = sitting.line();
+    let frame = frame_of(sitting, screen, line.as_slice());
+    Ok(painter.paint(writer, &frame)?)
+}
+
+/// The rows of the screen that are in sight, and the sitting's line below them.
+fn frame_of<'a>(sitting: &Sitting, screen: &'a Screen, line: &'a [u8]) -> Frame<'a>
+    requires { line.now ≡ line_of sitting.now.hand.asked sitting.now.hand.armed sitting.now.saying }
+    ensures frame { IsFrameOf sitting.now screen.now result }
+    ensures in_sight { IsInSight result }
+{
+    Frame {
+        screen: screen.rows(),
+        first: ROWS - 1 - sitting.sight.top(),
+        rows: sitting.sight.rows(),
+        below: Some(line),
+    }
+}
+
+/// Sends what comes after the frame.
+///
+/// Error: `Output`, and a front may have been sent.
+fn follow<W: Write>(writer: &mut W, rings: bool, asks: bool) -> Result<(), Ending>
+    ensures sent { OnOk result (Appends (W.contents writer.old) (W.contents writer.new) (after_frame rings asks)) }
+    ensures front { OnErr result
+        (AppendsFront (W.contents writer.old) (W.contents writer.new) (after_frame rings asks)) }
+    ensures end { IfErr result (λ end. end ≡ TakesNoMore) }
+{
+    ring_if(writer, rings)?;
+    Ok(ask_if(writer, asks)?)
+}
+
+/// Rings the bell where that is to be.
+fn ring_if<W: Write>(writer: &mut W, rings: bool) -> Result<(), OutputFault>
+    ensures sent { OnOk result (Appends (W.contents writer.old) (W.contents writer.new) (bell rings)) }
+    ensures front { OnErr result (AppendsFront (W.contents writer.old) (W.contents writer.new) (bell rings)) }
+{
+    if rings { ring(writer) } else { Ok(()) }
+}
+
+/// Asks the terminal for its size where that is to be.
+fn ask_if<W: Write>(writer: &mut W, asks: bool) -> Result<(), OutputFault>
+    ensures sent { OnOk result (Appends (W.contents writer.old) (W.contents writer.new) (request asks)) }
+    ensures front { OnErr result (AppendsFront (W.contents writer.old) (W.contents writer.new) (request asks)) }
+{
+    if asks { ask(writer) } else { Ok(()) }
+}
+
+/// Asks the terminal for its size.
+fn ask<W: Write>(writer: &mut W) -> Result<(), OutputFault>
+    ensures sent { OnOk result (Appends (W.contents writer.old) (W.contents writer.new) size_request) }
+    ensures front { OnErr result (AppendsFront (W.contents writer.old) (W.contents writer.new) size_request) }
+{
+    send(writer, &SIZE_REQUEST)?;
+    flush(writer)
+}

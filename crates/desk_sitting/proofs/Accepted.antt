@@ -1,0 +1,97 @@
+-- The events of presses that are accepted lead to the desktop after them.
+use Rattle.std.proofs.Common.{◌≡◌, inl, inr, ℕ, Bool, true, false, List, [], ◌∷◌, ◌++◌, Option, Some, None, refl, sym}
+use Rattle.std.proofs.Common.{◌∙◌, ap}
+use Rattle.std.specs.Prelude.{if◌then◌else◌}
+use Rattle.std.proofs.lemmas.Bool.{cond-true, cond-false}
+use Rattle.event_bytes.specs.declared.event.Event.{Event}
+use Rattle.event_bytes.specs.declared.event.Event.TheVariants.{Point}
+use Rattle.event_bytes.specs.declared.keys.Keys.TheVariants.{Left}
+use Rattle.desktop_definitions.specs.Desktop.{Desktop}
+use Rattle.desktop_definitions.specs.Shown.{shown_screen}
+use Rattle.desktop_definitions.specs.Step.{step, steps}
+use Rattle.store_layout.specs.Bits.{true_or_false}
+use Rattle.desk_journal.specs.Session.{Session, is_full, is_worn, renewed, stepped, taken}
+use Rattle.terminal_presses.specs.declared.press.Press.{Press}
+use Rattle.terminal_presses.specs.declared.action.Action.{Action}
+use Rattle.terminal_presses.specs.declared.action.Action.TheVariants as action
+use Rattle.terminal_presses.specs.Hands.{handled}
+use Rattle.desk_sitting.specs.declared.sitting.Sitting.{Sitting}
+use Rattle.desk_sitting.specs.Aims.{aimed}
+use Rattle.desk_sitting.specs.Sittings.{Desk, acted, clicked, posted, after_press, click_at, posts}
+use Rattle.desk_sitting.specs.Sittings.{accepted, accepted_of, PressesAreSteps}
+
+steps_both : (d : Desktop) (some more : List Event) → steps d (some ++ more) ≡ steps (steps d some) more
+steps_both d [] more = refl
+steps_both d (event ∷ some) more = steps_both (step d event).0 some more
+
+-- ---- one event
+
+either_way : (s : Session) (b : Bool) → (if b then renewed s else s).desktop ≡ s.desktop
+either_way s true = refl
+either_way s false = refl
+
+-- whether or not the journal is renewed first, an event that is accepted is one step
+taken_steps : (s : Session) (event : Event)
+    → (taken s event).desktop ≡ steps s.desktop (if is_worn s then [] else event ∷ [])
+taken_steps s event =
+    let next = stepped (if is_full s then renewed s else s) event in
+    elim (true_or_false (is_worn s)) [
+      | inl worn ↦ ap (λ (t : Session). t.desktop) (cond-true (is_worn s) s next worn)
+          ∙ sym (ap (steps s.desktop) (cond-true (is_worn s) [] (event ∷ []) worn))
+      | inr room ↦ ap (λ (t : Session). t.desktop) (cond-false (is_worn s) s next room)
+          ∙ ap (λ d. (step d event).0) (either_way s (is_full s))
+          ∙ sym (ap (steps s.desktop) (cond-false (is_worn s) [] (event ∷ []) room))
+    ]
+
+-- where there is no event it is one whether the store takes any
+no_steps : (worn : Bool) (d : Desktop) → d ≡ steps d (if worn then [] else [])
+no_steps true d = refl
+no_steps false d = refl
+
+-- ---- one press
+
+click_steps : (place : Option (ℕ × ℕ)) (d : Desk)
+    → (clicked place d).session.desktop ≡ steps d.session.desktop (if is_worn d.session then [] else click_at place)
+unfolding clicked posted
+click_steps None d = no_steps (is_worn d.session) d.session.desktop
+click_steps (Some place) d = taken_steps d.session (Point Left place.0 place.1 place.0 place.1)
+
+action_steps : (a : Action) (s : Sitting) (d : Desk) → (acted a (record d { sitting = s })).session.desktop
+    ≡ steps d.session.desktop (if is_worn d.session then [] else posts a d)
+unfolding acted posted
+action_steps action.Nothing s d = no_steps (is_worn d.session) d.session.desktop
+action_steps (action.Post event) s d = taken_steps d.session event
+action_steps action.Ring s d = no_steps (is_worn d.session) d.session.desktop
+action_steps action.LookAnew s d = no_steps (is_worn d.session) d.session.desktop
+action_steps action.Leave s d = no_steps (is_worn d.session) d.session.desktop
+action_steps (action.TypeFile name) s d = no_steps (is_worn d.session) d.session.desktop
+action_steps (action.Move page) s d = no_steps (is_worn d.session) d.session.desktop
+action_steps (action.Step arrow) s d =
+    click_steps (aimed arrow (shown_screen d.session.desktop)) (record d { sitting = s })
+action_steps (action.Fit rows columns) s d = no_steps (is_worn d.session) d.session.desktop
+
+press_steps : (press : Press) (d : Desk)
+    → (after_press press d).session.desktop ≡ steps d.session.desktop (accepted_of press d)
+unfolding after_press
+press_steps press d =
+    let made = handled d.sitting.sight press d.sitting.hand in
+    let with_hand = record d { sitting = record d.sitting { hand = made.0 } } in
+    let events = if is_worn d.session then [] else posts made.1 d in
+    elim (true_or_false d.sitting.leaves) [
+      | inl left ↦ ap (λ (t : Desk). t.session.desktop) (cond-true d.sitting.leaves d (acted made.1 with_hand) left)
+          ∙ sym (ap (steps d.session.desktop) (cond-true d.sitting.leaves [] events left))
+      | inr here ↦ ap (λ (t : Desk). t.session.desktop) (cond-false d.sitting.leaves d (acted made.1 with_hand) here)
+          ∙ action_steps made.1 with_hand.sitting d
+          ∙ sym (ap (steps d.session.desktop) (cond-false d.sitting.leaves [] events here))
+    ]
+
+-- ---- presses
+
+pub presses_steps : PressesAreSteps
+presses_steps [] d = refl
+presses_steps (press ∷ presses) d =
+    let first = accepted_of press d in
+    let later = accepted presses (after_press press d) in
+    presses_steps presses (after_press press d)
+    ∙ ap (λ desktop. steps desktop later) (press_steps press d)
+    ∙ sym (steps_both d.session.desktop first later)

@@ -1,0 +1,4 @@
+pub mod Sessions
+pub mod Taking
+pub mod Accepted
+pub mod Done

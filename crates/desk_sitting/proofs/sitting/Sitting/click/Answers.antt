@@ -1,0 +1,12 @@
+use Rattle.std.proofs.Common.{refl}
+use Rattle.desk_sitting.specs.Sittings.{clicked}
+use Rattle.desk_sitting.proofs.Taking.{takes_alone}
+use Rattle.desk_sitting.proofs.sitting.Sitting.click.Goals as goal
+
+pub returns-in-None : goal.returns-in-None
+unfolding clicked
+returns-in-None g c = rw c.in-None.is (takes_alone g.D.Disk tt _ _ c.args.store.now c.requires refl)
+
+pub returns-in-Some : goal.returns-in-Some
+unfolding clicked
+returns-in-Some g c = rw c.in-Some.is c.post.ensures

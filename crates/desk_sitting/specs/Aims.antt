@@ -1,0 +1,58 @@
+-- The cell of the caret, and the one beside it.
+use Rattle.std.specs.Prelude.{ℕ, ◌+◌, ◌-◌, Bool, true, false, ◌==◌, nat_lt, if◌then◌else◌, List}
+use Rattle.std.specs.Prelude.{Option, Some, None, position}
+use Rattle.std.specs.List.{list_any}
+use Rattle.viewer_tracks.specs.declared.display.TheConstants.{COLUMNS, ROWS}
+use Rattle.screen_pictures.specs.declared.cell.Cell.{Cell}
+use Rattle.screen_pictures.specs.declared.cell.Mark.{Mark}
+use Rattle.screen_pictures.specs.declared.cell.Mark.TheVariants.{Marker, Caret, Selected, Menu, Bar, Text, Filler}
+use Rattle.screen_pictures.specs.Screen.{cell_at, row_at}
+use Rattle.terminal_presses.specs.declared.press.Arrow.{Arrow as ArrowKey}
+use Rattle.terminal_presses.specs.declared.press.Arrow.TheVariants.{Up, Down, Right, Left}
+
+abbrev pub is_caret : Mark → Bool
+is_caret Caret = true
+is_caret _ = false
+
+-- where a text is shown that has no caret there
+abbrev pub is_text : Mark → Bool
+is_text Marker = true
+is_text Caret = false
+is_text Selected = true
+is_text Menu = false
+is_text Bar = false
+is_text Text = true
+is_text Filler = false
+
+abbrev pub has_caret : List Cell → Bool
+has_caret row = list_any (λ cell. is_caret cell.mark) row
+
+infixl 10 ◌>>=◌
+abbrev pub ◌>>=◌ : {A B : Type 0} → Option A → (A → Option B) → Option B
+None >>= f = None
+(Some x) >>= f = f x
+
+-- the lowest row that has a caret, and its first column there
+unfoldable pub caret_of : List (List Cell) → Option (ℕ × ℕ)
+caret_of screen = do
+  y ← position has_caret screen
+  x ← position (λ cell. is_caret cell.mark) (row_at screen y)
+  Some (x, y)
+
+-- the place beside one, within the display
+unfoldable pub beside : ArrowKey → ℕ × ℕ → Option (ℕ × ℕ)
+beside Up place = if nat_lt (place.1 + 1) ROWS then Some (place.0, place.1 + 1) else None
+beside Down place = if place.1 == 0 then None else Some (place.0, place.1 - 1)
+beside Right place = if nat_lt (place.0 + 1) COLUMNS then Some (place.0 + 1, place.1) else None
+beside Left place = if place.0 == 0 then None else Some (place.0 - 1, place.1)
+
+-- a place where a text is shown
+unfoldable pub where_text : List (List Cell) → ℕ × ℕ → Option (ℕ × ℕ)
+where_text screen place = if is_text (cell_at screen place.0 place.1).mark then Some place else None
+
+-- the place beside the caret, where a text is shown there
+unfoldable pub aimed : ArrowKey → List (List Cell) → Option (ℕ × ℕ)
+aimed arrow screen = do
+  caret ← caret_of screen
+  place ← beside arrow caret
+  where_text screen place

@@ -1,0 +1,66 @@
+-- What the line below the screen says.
+use Rattle.std.specs.Prelude.{ℕ, ◌-◌, List, [], ◌∷◌, ◌++◌, Option, Some, None, codes, drop, length, slice_get}
+use Rattle.std.specs.Prelude.{unwrap_or}
+use Rattle.event_bytes.specs.declared.keys.Keys.{Keys as MouseKeys}
+use Rattle.event_bytes.specs.declared.keys.Keys.TheVariants.{Left, LeftMiddle, LeftRight, Middle, MiddleLeft}
+use Rattle.event_bytes.specs.declared.keys.Keys.TheVariants.{MiddleRight, Right, RightLeft, RightMiddle}
+use Rattle.terminal_presses.specs.declared.action.Click.{Click}
+use Rattle.terminal_presses.specs.declared.action.Click.TheVariants.{Mark, Keys}
+use Rattle.desk_sitting.specs.declared.saying.Saying.{Saying}
+use Rattle.desk_sitting.specs.declared.saying.Saying.TheVariants.{Nothing, Greeting, InMemory, Refused, Worn, Unread}
+
+-- why an event is refused, by the code of the refusal from 0 on
+abbrev pub reasons : List (List ℕ)
+reasons =
+    codes "refused" ∷
+    codes "refused (1): no viewer has the caret" ∷
+    codes "refused (2): nothing is selected" ∷
+    codes "refused (3): a parameter is missing or of another kind" ∷
+    codes "refused (4): the word is no command's" ∷
+    codes "refused (5): there is no such file, or it is named twice" ∷
+    codes "refused (6): no room for more characters" ∷
+    codes "refused (7): no viewer is at the marker, or none is kept" ∷
+    codes "refused (8): there are 256 files" ∷
+    codes "refused (9): the cell lies outside the display" ∷
+    codes "refused (10): it isn't there from the caret on" ∷
+    codes "refused (11): there is no such font, colour or offset" ∷
+    codes "refused" ∷
+    codes "refused (13): a viewer of one row can't be parted" ∷ []
+
+abbrev pub reason : ℕ → List ℕ
+reason code = unwrap_or (slice_get reasons code) (codes "refused")
+
+-- with which keys the next click is
+abbrev pub keys_words : MouseKeys → List ℕ
+keys_words Left = codes "the next click: left"
+keys_words LeftMiddle = codes "the next click: left and middle"
+keys_words LeftRight = codes "the next click: left and right"
+keys_words Middle = codes "the next click: middle"
+keys_words MiddleLeft = codes "the next click: middle and left"
+keys_words MiddleRight = codes "the next click: middle and right"
+keys_words Right = codes "the next click: right"
+keys_words RightLeft = codes "the next click: right and left"
+keys_words RightMiddle = codes "the next click: right and middle"
+
+-- what the next click is, where a function key has said so
+abbrev pub click_words : Click → List ℕ
+click_words Mark = codes "the next click sets the marker"
+click_words (Keys keys) = keys_words keys
+
+unfoldable pub words : Saying → List ℕ
+words Nothing = []
+words Greeting = codes "Middle button, or F2 and then a click, calls the word there; Ctrl-Q leaves"
+words InMemory = codes "This desktop is in memory: when you leave (Ctrl-Q) it is gone."
+words (Refused code) = reason code
+words Worn = codes "This store takes no more events: its epochs are used up."
+words Unread = codes "The host's file can't be read, and nothing was typed."
+
+-- a name of a host file as far as it is typed, of which the end is seen
+abbrev pub question : List ℕ → List ℕ
+question name = codes "Type which file? " ++ drop (length name - 63) name
+
+-- the line below: a name that is asked for goes before all else, then the next click
+unfoldable pub line_of : Option (List ℕ) → Option Click → Saying → List ℕ
+line_of (Some name) armed saying = question name
+line_of None (Some click) saying = click_words click
+line_of None None saying = words saying

@@ -1,0 +1,133 @@
+-- What presses come to, one after another: a sitting, and the session of the store before which it is.
+use Rattle.std.specs.Prelude.{◌≡◌, ℕ, ◌-◌, Bool, true, false, if◌then◌else◌, List, [], ◌∷◌, ◌++◌}
+use Rattle.std.specs.Prelude.{Option, Some, None, is_some}
+use Rattle.event_bytes.specs.declared.event.Event.{Event}
+use Rattle.event_bytes.specs.declared.event.Event.TheVariants.{Point}
+use Rattle.event_bytes.specs.declared.keys.Keys.TheVariants.{Left}
+use Rattle.screen_pictures.specs.declared.cell.Cell.{Cell}
+use Rattle.desktop_definitions.specs.declared.reply.Reply.{Reply}
+use Rattle.desktop_definitions.specs.declared.reply.Reply.TheVariants.{Done, No}
+use Rattle.desktop_definitions.specs.Shown.{shown_screen}
+use Rattle.desktop_definitions.specs.Step.{step, steps}
+use Rattle.terminal_presses.specs.declared.press.Press.{Press}
+use Rattle.terminal_presses.specs.declared.action.Action.{Action}
+use Rattle.terminal_presses.specs.declared.action.Action.TheVariants as action
+use Rattle.terminal_presses.specs.Hands.{handled, new_hand}
+use Rattle.viewer_tracks.specs.declared.display.TheConstants.{ROWS}
+use Rattle.desk_sitting.specs.declared.saying.Saying.{Saying}
+use Rattle.desk_sitting.specs.declared.saying.Saying.TheVariants.{Nothing, Refused, Worn, Unread}
+use Rattle.desk_sitting.specs.declared.sitting.Sitting.{Sitting}
+use Rattle.desk_sitting.specs.Aims.{aimed, caret_of}
+use Rattle.desk_journal.specs.Session.{Session, is_worn, taken}
+use Rattle.desk_sitting.specs.Windows.{fitted, followed, height_told, moved}
+
+pub record Desk : Type 0 where
+  pub sitting : Sitting
+  pub session : Session
+
+-- ---- a sitting alone
+
+-- in which nothing was pressed, at a terminal of so many rows
+abbrev pub new_sitting : ℕ → Saying → Sitting
+new_sitting height greeting = record {
+  hand = new_hand;
+  sight = fitted height (record { top = ROWS - 1; rows = ROWS });
+  saying = greeting;
+  rings = false;
+  follows = true;
+  forgets = false;
+  leaves = false;
+  wanted = None;
+  asks = false;
+}
+
+-- the terminal rings, and the line below says why
+abbrev pub refused : Saying → Sitting → Sitting
+refused saying s = record s { saying = saying; rings = true }
+
+-- after a reply: what was done is followed by the rows in sight
+unfoldable pub replied : Reply → Sitting → Sitting
+replied Done s = record s { saying = Nothing; follows = true }
+replied (No code) s = refused (Refused code) s
+
+-- after the screen was shown: the rows in sight have followed the caret, and what was to be done at once is done
+unfoldable pub looked : List (List Cell) → Sitting → Sitting
+looked screen s = record s {
+  sight = if s.follows then followed (caret_of screen) s.sight else s.sight;
+  follows = false;
+  rings = false;
+  forgets = false;
+  asks = false;
+}
+
+-- after the keyboard was asked for the text of a host file, where one is wanted: it will be heard, or it can't be read
+abbrev pub fetched : Bool → Sitting → Sitting
+fetched true s = record s { wanted = None; saying = Nothing }
+fetched false s = refused Unread (record s { wanted = None })
+
+unfoldable pub brought : Bool → Sitting → Sitting
+brought will_be_heard s = if is_some s.wanted then fetched will_be_heard s else s
+
+-- ---- a press
+
+unfoldable pub posted : Event → Desk → Desk
+posted event d = record {
+  sitting = if is_worn d.session then refused Worn d.sitting
+      else replied (step d.session.desktop event).1 d.sitting;
+  session = taken d.session event;
+}
+
+-- a left click at a place, or a ring where there is none
+unfoldable pub clicked : Option (ℕ × ℕ) → Desk → Desk
+clicked None d = record d { sitting = record d.sitting { rings = true } }
+clicked (Some place) d = posted (Point Left place.0 place.1 place.0 place.1) d
+
+unfoldable pub acted : Action → Desk → Desk
+acted action.Nothing d = d
+acted (action.Post event) d = posted event d
+acted action.Ring d = record d { sitting = record d.sitting { rings = true } }
+acted action.LookAnew d = record d { sitting = record d.sitting { forgets = true; asks = true } }
+acted action.Leave d = record d { sitting = record d.sitting { leaves = true } }
+acted (action.TypeFile name) d = record d { sitting = record d.sitting { wanted = Some name } }
+acted (action.Move page) d = record d {
+  sitting = record d.sitting { sight = moved page d.sitting.sight; follows = false };
+}
+acted (action.Step arrow) d = clicked (aimed arrow (shown_screen d.session.desktop)) d
+acted (action.Fit rows columns) d = record d {
+  sitting = record d.sitting { sight = fitted (height_told rows columns) d.sitting.sight; forgets = true };
+}
+
+-- nothing is done after the person has left
+unfoldable pub after_press : Press → Desk → Desk
+after_press press d = if d.sitting.leaves then d else
+    (let next = handled d.sitting.sight press d.sitting.hand in
+    acted next.1 (record d { sitting = record d.sitting { hand = next.0 } }))
+
+abbrev pub after_presses : List Press → Desk → Desk
+after_presses [] d = d
+after_presses (press ∷ presses) d = after_presses presses (after_press press d)
+
+-- ---- its events
+
+abbrev pub click_at : Option (ℕ × ℕ) → List Event
+click_at None = []
+click_at (Some place) = Point Left place.0 place.1 place.0 place.1 ∷ []
+
+abbrev pub posts : Action → Desk → List Event
+posts (action.Post event) d = event ∷ []
+posts (action.Step arrow) d = click_at (aimed arrow (shown_screen d.session.desktop))
+posts _ d = []
+
+-- the events of a press that are accepted
+abbrev pub accepted_of : Press → Desk → List Event
+accepted_of press d = if d.sitting.leaves then [] else (if is_worn d.session then [] else
+    posts (handled d.sitting.sight press d.sitting.hand).1 d)
+
+abbrev pub accepted : List Press → Desk → List Event
+accepted [] d = []
+accepted (press ∷ presses) d = accepted_of press d ++ accepted presses (after_press press d)
+
+-- presses lead to the desktop to which the events lead that are accepted of them
+abbrev pub PressesAreSteps : Type 0
+PressesAreSteps = (presses : List Press) (d : Desk)
+    → (after_presses presses d).session.desktop ≡ steps d.session.desktop (accepted presses d)

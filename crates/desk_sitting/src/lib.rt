@@ -1,0 +1,19 @@
+//! A person before a store: what each press comes to, and doing it.
+//!
+//! What is heard becomes presses (the crate `terminal_presses`), and each press an event that is posted, or something
+//! that the sitting does alone (`specs/Sittings.antt`). `do_presses` does presses one after another over a store
+//! (`specs/Doing.antt`). The rows in sight follow the caret (`window`), an arrow is a click beside it (`aim`), and the
+//! line below says what was refused (`saying`).
+#![tactic(auto)]
+
+mod aim;
+mod doing;
+mod laws;
+mod saying;
+mod sitting;
+mod window;
+
+pub use doing::do_presses;
+pub use laws::presses_are_steps;
+pub use saying::{Line, Saying};
+pub use sitting::Sitting;

@@ -1,0 +1,139 @@
+//! What the line below the screen says.
+ghost use Rattle.std.specs.Prelude.{◌≡◌, ◌≤◌, length, option_map};
+ghost use Rattle.desk_sitting.specs.Sayings.{click_words, keys_words, line_of, question, reason, words};
+
+use arrayvec::ArrayVec;
+use event_bytes::Keys;
+use terminal_presses::Click;
+
+/// What the line below the screen says, where it neither asks for a name nor says what the next click is.
+#[derive(Clone, Copy, Debug, PartialEq, Eq)]
+pub enum Saying {
+    /// Nothing.
+    Nothing,
+    /// How to go on.
+    Greeting,
+    /// The desktop is gone when the person leaves.
+    InMemory,
+    /// An event was refused, with this code.
+    Refused(u8),
+    /// The store takes no more events.
+    Worn,
+    /// A host file can't be read.
+    Unread,
+}
+
+/// Why an event was refused, by the code of the refusal.
+const REASONS: [&[u8]; 14] = [
+    b"refused",
+    b"refused (1): no viewer has the caret",
+    b"refused (2): nothing is selected",
+    b"refused (3): a parameter is missing or of another kind",
+    b"refused (4): the word is no command's",
+    b"refused (5): there is no such file, or it is named twice",
+    b"refused (6): no room for more characters",
+    b"refused (7): no viewer is at the marker, or none is kept",
+    b"refused (8): there are 256 files",
+    b"refused (9): the cell lies outside the display",
+    b"refused (10): it isn't there from the caret on",
+    b"refused (11): there is no such font, colour or offset",
+    b"refused",
+    b"refused (13): a viewer of one row can't be parted",
+];
+
+/// Why an event was refused, with the code.
+fn reason(code: u8) -> &'static [u8]
+    ensures value { result.now ≡ reason code }
+    ensures short { length result.now ≤ 80 }
+{
+    REASONS
+        .get(usize::from(code))
+        .copied()
+        .unwrap_or(b"refused")
+}
+
+/// What the next click is.
+fn click_words(click: Click) -> &'static [u8]
+    ensures value { result.now ≡ click_words click }
+    ensures short { length result.now ≤ 80 }
+{
+    match click {
+        Click::Mark => b"the next click sets the marker",
+        Click::Keys(keys) => keys_words(keys),
+    }
+}
+
+/// With which keys the next click is.
+fn keys_words(keys: Keys) -> &'static [u8]
+    ensures value { result.now ≡ keys_words keys }
+    ensures short { length result.now ≤ 80 }
+{
+    match keys {
+        Keys::Left => b"the next click: left",
+        Keys::LeftMiddle => b"the next click: left and middle",
+        Keys::LeftRight => b"the next click: left and right",
+        Keys::Middle => b"the next click: middle",
+        Keys::MiddleLeft => b"the next click: middle and left",
+        Keys::MiddleRight => b"the next click: middle and right",
+        Keys::Right => b"the next click: right",
+        Keys::RightLeft => b"the next click: right and left",
+        Keys::RightMiddle => b"the next click: right and middle",
+    }
+}
+
+impl Saying {
+    /// Its text.
+    #[tactic(auto, unfolding(crate::specs::Sayings::words))]
+    fn words(self) -> &'static [u8]
+        ensures value { result.now ≡ words self }
+        ensures short { length result.now ≤ 80 }
+    {
+        match self {
+            Saying::Nothing => b"",
+            Saying::Greeting => {
+                b"Middle button, or F2 and then a click, calls the word there; Ctrl-Q leaves"
+            }
+            Saying::InMemory => b"This desktop is in memory: when you leave (Ctrl-Q) it is gone.",
+            Saying::Refused(code) => reason(code),
+            Saying::Worn => b"This store takes no more events: its epochs are used up.",
+            Saying::Unread => b"The host's file can't be read, and nothing was typed.",
+        }
+    }
+}
+
+/// The line below a screen, of 80 characters at most.
+pub type Line = ArrayVec<u8, 80>;
+
+/// The text of the line below: a name that is asked for goes before all else, then the next click.
+#[tactic(auto, unfolding(crate::specs::Sayings::line_of))]
+pub(crate) fn line_of(asked: Option<&[u8]>, armed: Option<Click>, saying: Saying) -> Line
+    ensures { result.items ≡ line_of (option_map (λ name. name.now) asked.entry) armed saying }
+{
+    if let Some(name) = asked {
+        return question(name);
+    }
+    match armed {
+        Some(click) => line(click_words(click)),
+        None => line(saying.words()),
+    }
+}
+
+/// A name of a host file as far as it is typed, of which the end is seen.
+fn question(name: &[u8]) -> Line
+    ensures { result.items ≡ question name.now }
+{
+    let mut text = line(b"Type which file? ");
+    let start = name.len().saturating_sub(63);
+    text.try_extend_from_slice(&name[start..]).unwrap();
+    text
+}
+
+/// Words of 80 characters at most.
+fn line(words: &[u8]) -> Line
+    requires { length words.now ≤ 80 }
+    ensures { result.items ≡ words.now }
+{
+    let mut text = Line::new();
+    text.try_extend_from_slice(words).unwrap();
+    text
+}

@@ -1,0 +1,248 @@
+//! A person at a terminal, before a store.
+ghost use Rattle.std.specs.Prelude.{◌≡◌, ◌≢◌, false, OnOk, IfErr};
+ghost use Rattle.desk_sitting.specs.Doing.{Takes, desk_of};
+ghost use Rattle.desk_sitting.specs.Sayings.{line_of};
+ghost use Rattle.desk_sitting.specs.Sittings.{acted, after_press, brought, clicked, looked, new_sitting, posted};
+ghost use Rattle.desk_sitting.specs.Sittings.{refused, replied};
+
+use crate::aim::{aimed, caret_of};
+use crate::saying::{Line, Saying, line_of};
+use crate::window::{fitted, followed, height_told, moved};
+use desk_journal::{Error, Store};
+use desktop_definitions::Reply;
+use event_bytes::{Event, Keys};
+use screen_cells::Screen;
+use sector_disk::Disk;
+use std::alloc::Global;
+use terminal_presses::{Action, Arrow, Hand, HostName, Press, Sight};
+
+/// What a sitting knows beside the store: the hand, the rows in sight, the line below, and what is to be done when the
+/// screen is shown next.
+#[derive(Drop)]
+pub struct Sitting {
+    /// What was pressed so far, as far as later events depend on it.
+    pub hand: Hand,
+    /// The rows in sight.
+    pub sight: Sight,
+    /// What the line below says, where no name is asked for and no function key has said what the next click is.
+    pub saying: Saying,
+    /// The terminal rings.
+    pub rings: bool,
+    /// The rows in sight follow the caret.
+    pub follows: bool,
+    /// Nothing is known of the terminal.
+    pub forgets: bool,
+    /// The person has left.
+    pub leaves: bool,
+    /// The text of the host file of this name is to be heard.
+    pub wanted: Option<HostName>,
+    /// The terminal is asked for its size.
+    pub asks: bool,
+}
+
+impl Sitting {
+    /// A sitting at a terminal of so many rows, in which nothing was pressed. The line below says the greeting.
+    pub fn new(height: u16, greeting: Saying) -> Sitting
+        ensures { result ≡ new_sitting height greeting }
+    {
+        Sitting {
+            hand: Hand::new(),
+            sight: fitted(height, Sight::whole()),
+            saying: greeting,
+            rings: false,
+            follows: true,
+            forgets: false,
+            leaves: false,
+            wanted: None,
+            asks: false,
+        }
+    }
+
+    /// The line below the screen, of 80 characters at most.
+    pub fn line(&self) -> Line
+        ensures { result.items ≡ line_of self.now.hand.asked self.now.hand.armed self.now.saying }
+    {
+        line_of(self.hand.asked(), self.hand.armed(), self.saying)
+    }
+
+    /// An event is refused, or can't be made: the terminal rings, and the line below says why.
+    fn refuse(&mut self, saying: Saying)
+        ensures { self.new ≡ refused saying self.old }
+    {
+        self.saying = saying;
+        self.rings = true;
+    }
+
+    /// The screen is shown: the rows in sight follow the caret where an event was done.
+    #[tactic(auto, unfolding(crate::specs::Sittings::looked))]
+    pub fn look(&mut self, screen: &Screen)
+        ensures { self.new ≡ looked screen.now self.old }
+    {
+        if self.follows {
+            self.sight = followed(caret_of(screen), self.sight);
+        }
+        self.follows = false;
+        self.rings = false;
+        self.forgets = false;
+        self.asks = false;
+    }
+
+    /// The keyboard was asked for the text of the host file that is wanted, and says whether it will be heard.
+    #[tactic(auto, unfolding(crate::specs::Sittings::brought))]
+    pub fn bring(&mut self, will_be_heard: bool)
+        ensures { self.new ≡ brought will_be_heard self.old }
+    {
+        if self.wanted.is_some() {
+            self.wanted = None;
+            if will_be_heard {
+                self.saying = Saying::Nothing;
+            } else {
+                self.refuse(Saying::Unread);
+            }
+        }
+    }
+
+    /// What a reply says of the event.
+    #[tactic(auto, unfolding(crate::specs::Sittings::replied))]
+    fn reply(&mut self, reply: Reply)
+        ensures { self.new ≡ replied reply self.old }
+    {
+        match reply {
+            Reply::Done => {
+                self.saying = Saying::Nothing;
+                self.follows = true;
+            }
+            Reply::No(code) => self.refuse(Saying::Refused(code)),
+        }
+    }
+
+    /// Does what is pressed. After the person has left nothing is done.
+    ///
+    /// Errors: `NoMemory`, where memory runs out, and an event of the press is on the disk in no image; `Fault`, where
+    /// the disk fails, and it may be there or not.
+    pub(crate) fn press<D: Disk>(
+        &mut self,
+        alloc: Global,
+        press: Press,
+        store: &mut Store<D>,
+    ) -> Result<(), Error>
+        requires { store.old.must_reopen ≡ false }
+        ensures { Takes D.Disk (after_press press (desk_of self.old store.old)) result self.new store.old store.new }
+    {
+        if self.leaves {
+            return Ok(());
+        }
+        let action = self.hand.take(self.sight, press);
+        self.act(alloc, action, store)
+    }
+
+    /// Does what a press comes to.
+    fn act<D: Disk>(
+        &mut self,
+        alloc: Global,
+        action: Action,
+        store: &mut Store<D>,
+    ) -> Result<(), Error>
+        requires { store.old.must_reopen ≡ false }
+        ensures { Takes D.Disk (acted action (desk_of self.old store.old)) result self.new store.old store.new }
+    {
+        match action {
+            Action::Nothing => {}
+            Action::Post(event) => return self.post(alloc, &event, store),
+            Action::Ring => self.rings = true,
+            Action::TypeFile(name) => self.wanted = Some(name),
+            Action::LookAnew => {
+                self.forgets = true;
+                self.asks = true;
+            }
+            Action::Leave => self.leaves = true,
+            Action::Move(page) => {
+                self.sight = moved(page, self.sight);
+                self.follows = false;
+            }
+            Action::Step(arrow) => return self.step(alloc, arrow, store),
+            Action::Fit(rows, columns) => {
+                self.sight = fitted(height_told(rows, columns), self.sight);
+                self.forgets = true;
+            }
+        }
+        Ok(())
+    }
+
+    /// A left click beside the caret, as the screen has it, or a ring where no text is shown there.
+    fn step<D: Disk>(
+        &mut self,
+        alloc: Global,
+        arrow: Arrow,
+        store: &mut Store<D>,
+    ) -> Result<(), Error>
+        requires { store.old.must_reopen ≡ false }
+        ensures { Takes D.Disk (acted (Action.Step arrow) (desk_of self.old store.old)) result self.new store.old
+            store.new }
+    {
+        let mut screen = Screen::new();
+        store.screen(alloc, &mut screen)?;
+        self.click(alloc, aimed(arrow, &screen), store)
+    }
+
+    /// A left click at a place, or a ring where there is none.
+    fn click<D: Disk>(
+        &mut self,
+        alloc: Global,
+        place: Option<(u8, u8)>,
+        store: &mut Store<D>,
+    ) -> Result<(), Error>
+        requires { store.old.must_reopen ≡ false }
+        ensures { Takes D.Disk (clicked place (desk_of self.old store.old)) result self.new store.old store.new }
+    {
+        match place {
+            None => {
+                self.rings = true;
+                Ok(())
+            }
+            Some((x, y)) => {
+                let click = Event::Point {
+                    keys: Keys::Left,
+                    x0: x,
+                    y0: y,
+                    x1: x,
+                    y1: y,
+                };
+                self.post(alloc, &click, store)
+            }
+        }
+    }
+
+    /// Posts an event.
+    fn post<D: Disk>(
+        &mut self,
+        alloc: Global,
+        event: &Event,
+        store: &mut Store<D>,
+    ) -> Result<(), Error>
+        requires { store.old.must_reopen ≡ false }
+        ensures { Takes D.Disk (posted event.now (desk_of self.old store.old)) result self.new store.old store.new }
+    {
+        match store.post(alloc, event) {
+            Ok(reply) => {
+                self.reply(reply);
+                Ok(())
+            }
+            Err(error) => self.turned_away(error),
+        }
+    }
+
+    /// What an error of a post comes to: a worn store rings, and any other error is passed on.
+    fn turned_away(&mut self, error: Error) -> Result<(), Error>
+        ensures worn { OnOk result ((error ≡ Error.Worn) × (self.new ≡ refused Saying.Worn self.old)) }
+        ensures other { IfErr result (λ passed. (error ≢ Error.Worn) × (passed ≡ error)) }
+    {
+        match error {
+            Error::Worn => {
+                self.refuse(Saying::Worn);
+                Ok(())
+            }
+            other => Err(other),
+        }
+    }
+}

@@ -1,0 +1,48 @@
+//! Stores in files and in memory.
+ghost use Rattle.std.specs.Prelude.{◌≡◌, false, IfOk};
+
+use crate::trouble::Trouble;
+use desk_journal::{Error, Store};
+use first_desk::furnish;
+use host_files::{HostFault, lock_shared};
+use host_stores::{formatted, opened as opened_on};
+use sector_disk::{Disk, FILE_SECTORS, FileDisk, MemoryDisk};
+use std::fs::File;
+
+/// Takes the lock of a store's file for a look, beside other programs that look.
+pub(crate) fn looked_at(rt: &HostRuntime, path: &str) -> Result<File, Trouble> {
+    match lock_shared(rt, path) {
+        Ok(lock) => Ok(lock),
+        Err(fault) => Err(Trouble::Host(fault)),
+    }
+}
+
+/// The store in a file that is locked.
+pub fn opened(rt: &HostRuntime, path: &str) -> Result<Store<FileDisk>, Trouble>
+    ensures { IfOk result (λ store. store.must_reopen ≡ false) }
+{
+    match FileDisk::open(rt, path) {
+        Ok(disk) => Ok(opened_on(rt, disk)?),
+        Err(_) => Err(Trouble::Host(HostFault::Refused)),
+    }
+}
+
+/// A new store on a disk, whose desktop has a text with all commands.
+pub(crate) fn new_store<D: Disk + Drop>(rt: &HostRuntime, disk: D) -> Result<Store<D>, Error>
+    ensures { IfOk result (λ store. store.must_reopen ≡ false) }
+{
+    let mut store = opened_on(rt, formatted(disk)?)?;
+    furnish(rt.alloc(), &mut store)?;
+    Ok(store)
+}
+
+/// A new store in memory. For want of memory alone it can't be had.
+pub fn in_memory(rt: &HostRuntime) -> Result<Store<MemoryDisk>, Trouble>
+    ensures { IfOk result (λ store. store.must_reopen ≡ false) }
+{
+    let disk = MemoryDisk::new(rt.alloc(), FILE_SECTORS)?;
+    match new_store(rt, disk) {
+        Ok(store) => Ok(store),
+        Err(_) => Err(Trouble::Memory),
+    }
+}

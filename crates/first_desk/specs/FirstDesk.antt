@@ -1,0 +1,17 @@
+-- What makes the desktop of a new store of the empty one.
+use Rattle.std.specs.Prelude.{List, [], ◌∷◌}
+use Rattle.event_bytes.specs.declared.event.Event.{Event}
+use Rattle.event_bytes.specs.declared.event.Event.TheVariants.{File, Point}
+use Rattle.event_bytes.specs.declared.keys.Keys.TheVariants.{Middle}
+use Rattle.first_desk.specs.declared.TheConstants.{TOOL_NAME, TOOL_TEXT}
+
+-- the document of all commands is made
+abbrev pub tool_event : Event
+tool_event = File TOOL_NAME.now TOOL_TEXT.now
+
+-- a click of the middle key on the empty display opens it
+abbrev pub opening : Event
+opening = Point Middle 60 31 60 31
+
+abbrev pub furnishing : List Event
+furnishing = tool_event ∷ opening ∷ []

@@ -1,0 +1,9 @@
+use Rattle.std.proofs.Common.{refl}
+use Rattle.host_documents.proofs.Texts.{exported_back, imported_back}
+use Rattle.host_documents.proofs.laws.texts_come_back.Goals as goal
+
+pub returns-clause-document : goal.returns-clause-document
+returns-clause-document c text are = exported_back 0 text refl are
+
+pub returns-clause-file : goal.returns-clause-file
+returns-clause-file c file are = imported_back 0 file refl are

@@ -1,0 +1,33 @@
+//! The way out.
+ghost use Rattle.std.specs.Prelude.{◌≡◌, IfOk, map};
+ghost use Rattle.host_documents.specs.HostText.{exported, fed as fed_byte};
+
+use event_bytes::CARRIAGE_RETURN;
+use piece_ring::Look;
+use std::alloc::{AllocError, Global};
+
+/// The byte of a line feed.
+pub(crate) const LINE_FEED: u8 = 10;
+
+/// The text of a document, without its looks, as a file of the host's: each CR is LF. It fails for want of memory
+/// alone.
+#[tactic(auto, using(crate::proofs::Texts::map_twice))]
+pub fn host_text(alloc: Global, characters: &[(u8, Look)]) -> Result<Vec<u8>, AllocError>
+    ensures { IfOk result (λ text. text.items ≡ exported (map (λ character. character.0) characters.now)) }
+{
+    characters
+        .iter()
+        .map(|character| fed(character.0))
+        .collect(alloc)
+}
+
+/// What a document's byte is to the host.
+fn fed(byte: u8) -> u8
+    ensures { result ≡ fed_byte byte }
+{
+    if byte == CARRIAGE_RETURN {
+        LINE_FEED
+    } else {
+        byte
+    }
+}

@@ -1,0 +1,391 @@
+"""How sittings begin and end: the terminal is as it was before, what was seen is in the store, and where something is
+wrong one sentence says why."""
+import filecmp
+import os
+import random
+import shutil
+import signal
+import subprocess
+import tempfile
+import time
+
+from model import GREETING, ROWS, UNREAD, Screen
+from sitting import Ended, Sitting
+
+LETTERS = 'abcdefghijklmnopqrstuvwxyz'
+STORE = b'\x1b[<1;48;1M\x1b[<1;48;1m'  # a middle click on Edit.Store in the menu of A.Text
+BEGIN = ['file System.Tool Edit.Open A.Text%0d', 'point m 60 31 60 31', 'point m 52 30 52 30', 'point l 1 30 1 30']
+
+
+def text_of(rows):
+    """The characters of the document in the user track, without the ends of its lines."""
+    return ''.join(row[1:50].rstrip() for row in rows[1:ROWS])
+
+
+def shown(cells):
+    return [''.join(character for character, _ in row) for row in cells]
+
+
+def is_there(process):
+    """Whether the process runs; one that has ended may wait for somebody to ask how."""
+    try:
+        with open(f'/proc/{process}/stat', encoding='ascii') as stat:
+            return stat.read().rsplit(')', 1)[1].split()[0] not in 'ZX'
+    except OSError:
+        return False
+
+
+class Trial:
+    """What one trial works with: a folder of its own, and what was wrong."""
+
+    def __init__(self, desk, oberon, chance):
+        self.desk, self.oberon, self.chance = desk, oberon, chance
+        self.folder = tempfile.mkdtemp()
+        self.path = f'{self.folder}/my.disk'
+        self.sittings = []
+        self.wrong = []
+
+    def stop(self):
+        """Nothing is left of it."""
+        for sitting in self.sittings:
+            sitting.stop()
+        shutil.rmtree(self.folder)
+
+    def check(self, is_so, text):
+        if not is_so:
+            self.wrong.append(text)
+
+    def oberon_says(self, *words, lines=()):
+        script = ''.join(line + '\n' for line in lines).encode()
+        return subprocess.run([self.oberon, *words], input=script, stdout=subprocess.PIPE, check=True).stdout.decode()
+
+    def store(self):
+        """A store with an empty document in a viewer, which has the caret."""
+        self.oberon_says('format', self.path)
+        self.oberon_says('play', self.path, lines=BEGIN)
+
+    def begin(self, *words, rows, columns):
+        self.sittings.append(Sitting(words, rows, columns, self.folder, {'TMPDIR': self.folder}))
+        return self.sittings[-1]
+
+    def sit(self, *words, rows=33, columns=80, before=()):
+        sitting = self.begin(*before, self.desk, *words, rows=rows, columns=columns)
+        sitting.wait(lambda: sitting.terminal.frames > 0)
+        return sitting
+
+    def typing(self, sitting):
+        """Types as fast as it is taken, for a random time, and returns what was to be typed."""
+        text = ''.join(self.chance.choice(LETTERS) for _ in range(800))
+        data = '\r'.join(text[at:at + 40] for at in range(0, len(text), 40)).encode()
+        stop = time.monotonic() + self.chance.random() * 0.3
+        while data and time.monotonic() < stop:
+            sitting.press(data[:7])
+            data = data[7:]
+            sitting.read(0.001)
+        return text
+
+    def kept(self, text, seen):
+        """What was typed is kept as far as it was seen, and nothing else is."""
+        lines = self.oberon_says('screen', self.path).splitlines()
+        kept = text_of(Screen(lines[:-1]).rows)
+        self.check(kept.startswith(seen), f'{seen!r} was seen and {kept!r} is kept')
+        self.check(text.startswith(kept), f'{kept!r} is kept of {text!r}')
+
+    def refused(self, status, *words, rows=33, columns=80, says=()):
+        """The desk doesn't begin, says why in one line, and leaves the terminal as it was."""
+        sitting = self.begin(self.desk, *words, rows=rows, columns=columns)
+        self.check(sitting.end() == status, f'status {sitting.status}')
+        self.check(sitting.is_put_back, 'the terminal was not put back')
+        said = [line for line in sitting.terminal.lines() if line]
+        self.check(len(said) in (1, 2) and said[0].startswith('desk: '), f'it says {said}')
+        self.check(all(word in ''.join(said) for word in says), f'it says {said}')
+
+
+    def stored(self, sitting):
+        """Has the document in the user track stored, leaves, and returns the document's text."""
+        sitting.press(STORE)
+        self.check(sitting.look_anew(), 'no frame')
+        sitting.press(b'\x11')
+        self.check(sitting.end() == 0, f'status {sitting.status}')
+        words = [self.desk, 'export', self.path, 'A.Text']
+        return subprocess.run(words, stdout=subprocess.PIPE, check=True).stdout
+
+
+# ---- ends
+
+
+def killed(number, at_program, status):
+    """A signal amid typing."""
+    def run(trial):
+        trial.store()
+        sitting = trial.sit(trial.path)
+        text = trial.typing(sitting)
+        program = sitting.program()
+        os.kill(program if at_program else sitting.process, number)
+        trial.check(sitting.end() == status, f'status {sitting.status} and not {status}')
+        trial.check(sitting.is_put_back, 'the terminal was not put back')
+        trial.check(not sitting.terminal.mistakes, f'unknown to the terminal: {sitting.terminal.mistakes[:3]}')
+        trial.check(not is_there(program), 'the program is still there')
+        trial.kept(text, text_of(shown(sitting.terminal.left)))
+    return run
+
+
+def script_killed(trial):
+    """Where the script is ended by signal 9 the program goes too, and the terminal is as it is."""
+    trial.store()
+    sitting = trial.sit(trial.path)
+    text = trial.typing(sitting)
+    program = sitting.program()
+    os.kill(sitting.process, signal.SIGKILL)
+    sitting.end()
+    end = time.monotonic() + 5
+    while is_there(program) and time.monotonic() < end:
+        time.sleep(0.01)
+    trial.check(not is_there(program), 'the program is still there')
+    trial.kept(text, text_of(shown(sitting.terminal.cells)))
+
+
+def hung_up(before):
+    """The terminal goes away, and the script hears of it or not."""
+    def run(trial):
+        trial.store()
+        sitting = trial.sit(trial.path, before=before)
+        text = trial.typing(sitting)
+        program = sitting.program()
+        trial.check(sitting.hang_up() is not None, 'the script does not end')
+        trial.check(not is_there(program), 'the program is still there')
+        trial.kept(text, text_of(shown(sitting.terminal.cells)))
+    return run
+
+
+def control_c(trial):
+    """What is a signal elsewhere is a key."""
+    trial.store()
+    sitting = trial.sit(trial.path)
+    for key in (b'\x03', b'\x1a', b'\x1c', b'\x04', b'\x13'):
+        sitting.press(key)
+    sitting.press(b'stillhere')
+    trial.check(sitting.look_anew(), 'no frame')
+    sitting.press(b'\x11')
+    trial.check(sitting.end() == 0 and sitting.is_put_back, f'status {sitting.status}')
+    trial.kept('stillhere', 'stillhere')
+
+
+def left_amid(trial):
+    """What is typed before the key that leaves is kept, and what comes after it isn't."""
+    trial.store()
+    sitting = trial.sit(trial.path)
+    sitting.press(b'before\x11after')
+    trial.check(sitting.end() == 0 and sitting.is_put_back, f'status {sitting.status}')
+    trial.kept('before', 'before')
+
+
+def escape(trial):
+    """The key Escape alone is heard after a while: the caret goes."""
+    trial.store()
+    sitting = trial.sit(trial.path)
+    trial.check(25 in sitting.terminal.modes, 'there is no caret')
+    sitting.press(b'\x1b')
+    trial.check(sitting.wait(lambda: 25 not in sitting.terminal.modes, 5), 'the caret stays')
+    sitting.press(b'\x11')
+    trial.check(sitting.end() == 0, f'status {sitting.status}')
+
+
+# ---- texts
+
+
+def lines_of(count):
+    """A text of so many characters in lines."""
+    return ('a line of some words\n' * (count // 21 + 1))[:count].encode()
+
+
+def pasted(trial):
+    """Pastes of as many bytes as an event has, one more, and a lot more."""
+    for count in (900, 901, 5000):
+        trial.store()
+        sitting = trial.sit(trial.path)
+        text = lines_of(count)
+        sitting.press(b'\x1b[200~' + text + b'\x1b[201~')
+        kept = trial.stored(sitting)
+        trial.check(kept == text, f'{len(kept)} of {count} bytes are kept of a paste')
+
+
+def killed_amid_paste(trial):
+    """Signal 9 amid a paste."""
+    trial.store()
+    sitting = trial.sit(trial.path)
+    text = ''.join(trial.chance.choice(LETTERS) for _ in range(2400))
+    data = '\r'.join(text[at:at + 40] for at in range(0, len(text), 40)).encode()
+    sitting.press(b'\x1b[200~' + data[:trial.chance.randrange(len(data))])
+    sitting.rest(0.02)
+    os.kill(sitting.program(), signal.SIGKILL)
+    trial.check(sitting.end() == 137 and sitting.is_put_back, f'status {sitting.status}')
+    seen = text_of(shown(sitting.terminal.left))
+    lines = trial.oberon_says('screen', trial.path).splitlines()
+    kept = text_of(Screen(lines[:-1]).rows)
+    trial.check(kept in text, f'{kept!r} is kept')
+    trial.check(text.find(seen) + len(seen) <= text.find(kept) + len(kept), f'{seen!r} was seen and {kept!r} is kept')
+
+
+def host_file(trial):
+    """Files of the host are typed at the caret."""
+    for count in (0, 1, 900, 901, 20_000):
+        trial.store()
+        text = lines_of(count)
+        with open(f'{trial.folder}/a text', 'wb') as file:
+            file.write(text)
+        sitting = trial.sit(trial.path)
+        sitting.press(b'\x0fa text\r')
+        trial.check(sitting.look_anew(), 'no frame')
+        kept = trial.stored(sitting)
+        trial.check(kept == text, f'{len(kept)} of {count} bytes are kept of a file')
+
+
+def no_host_file(trial):
+    """A name of no file, of a folder, of a pipe, of one that is too long: one sentence says so, and all goes on."""
+    trial.store()
+    os.mkfifo(f'{trial.folder}/pipe')
+    with open(f'{trial.folder}/long', 'wb') as file:
+        file.write(bytes(262_145))
+    sitting = trial.sit(trial.path)
+    for name in ('none', '.', 'pipe', '/dev/zero', 'long', 'x' * 255):
+        bells = sitting.terminal.bells
+        sitting.press(b'\x0f' + name.encode() + b'\r')
+        trial.check(sitting.wait(lambda: sitting.terminal.bells > bells, 5), f'{name[:9]}: no bell')
+        trial.check(UNREAD in sitting.terminal.line(ROWS), f'{name[:9]}: {sitting.terminal.line(ROWS)!r}')
+        sitting.press(b'a')
+        trial.check(sitting.look_anew(), 'no frame')
+    sitting.press(b'\x11')
+    trial.check(sitting.end() == 0, f'status {sitting.status}')
+    trial.kept('aaaaaa', 'aaaaaa')
+
+
+# ---- windows
+
+
+def resized(trial):
+    """The window gets another size, and what fits is shown, with the line below."""
+    trial.store()
+    wanted = Screen(trial.oberon_says('screen', trial.path).splitlines()[:-1]).rows
+    sitting = trial.sit(trial.path)
+    for rows, columns in ((24, 80), (12, 90), (50, 132), (33, 80)):
+        sitting.resize(rows, columns)
+        count = min(rows - 1, ROWS)
+        frame = [*wanted[:count], GREETING] + [''] * (rows - count - 1)
+        trial.check(sitting.wait(lambda: sitting.terminal.lines() == frame, 5), f'another screen in {rows} rows')
+        trial.check(sitting.look_anew() and sitting.wait(lambda: sitting.terminal.lines() == frame, 5),
+                    f'another one in {rows} rows when it is painted anew')
+    sitting.press(b'\x11')
+    trial.check(sitting.end() == 0, f'status {sitting.status}')
+
+
+def too_small(trial):
+    for rows, columns in ((11, 80), (33, 79), (0, 0)):
+        trial.refused(2, trial.path, rows=rows, columns=columns, says=[f' {columns} and {rows}'] if rows else ())
+    trial.check(not os.path.exists(trial.path), 'a store was made')
+
+
+def no_terminal(trial):
+    ran = subprocess.run([trial.desk, trial.path], stdin=subprocess.DEVNULL, capture_output=True, check=False)
+    trial.check(ran.returncode == 2 and not ran.stdout, f'status {ran.returncode}')
+    trial.check(ran.stderr.startswith(b'desk: ') and ran.stderr.count(b'\n') == 1, f'it says {ran.stderr}')
+    trial.check(not os.path.exists(trial.path), 'a store was made')
+
+
+# ---- stores
+
+
+def new_store(trial):
+    """Where there is no file a store is made, whose first screen has words to click."""
+    sitting = trial.sit(trial.path)
+    trial.check('System.Tool' in sitting.terminal.line(0), 'no tool text is shown')
+    sitting.press(b'\x11')
+    trial.check(sitting.end() == 0 and sitting.is_put_back, f'status {sitting.status}')
+    trial.check(os.listdir(trial.folder) == ['my.disk'], f'there are {os.listdir(trial.folder)}')
+    again = trial.sit(trial.path)
+    first = [''.join(c for c, _ in row) for row in sitting.terminal.left[:ROWS]]
+    trial.check([''.join(c for c, _ in row) for row in again.terminal.cells[:ROWS]] == first, 'another screen')
+    again.press(b'\x1b[21~')
+    trial.check(again.end() == 0, f'status {again.status}')
+
+
+def in_memory(trial):
+    """Without a path the desktop stands in memory, and the line below says so."""
+    sitting = trial.sit()
+    trial.check('System.Tool' in sitting.terminal.line(0), 'no tool text is shown')
+    trial.check('memory' in sitting.terminal.line(ROWS), f'the line below is {sitting.terminal.line(ROWS)!r}')
+    sitting.press(b'\x11')
+    trial.check(sitting.end() == 0 and not os.listdir(trial.folder), f'status {sitting.status}')
+
+
+def no_store(trial):
+    """A file that is no store stays as it is."""
+    for text in (b'', b'a text\n', bytes(16_000_000)):
+        with open(trial.path, 'wb') as file:
+            file.write(text)
+        trial.refused(3, trial.path, says=['my.disk', 'no store'])
+        with open(trial.path, 'rb') as file:
+            trial.check(file.read() == text, 'the file was changed')
+
+
+def in_use(trial):
+    """A store that another program has open is left alone."""
+    trial.store()
+    sitting = trial.sit(trial.path)
+    shutil.copy(trial.path, trial.path + '.before')
+    trial.refused(4, trial.path, says=['my.disk', 'another program'])
+    trial.check(filecmp.cmp(trial.path, trial.path + '.before', shallow=False), 'the store was changed')
+    sitting.press(b'\x11')
+    trial.check(sitting.end() == 0, f'status {sitting.status}')
+
+
+def no_file(trial):
+    """Where no store can be made the reason is said."""
+    trial.refused(4, trial.folder, says=[trial.folder])
+    trial.refused(4, f'{trial.folder}/none/my.disk', says=['none'])
+    trial.check(not os.listdir(trial.folder), 'something was made')
+
+
+TRIALS = {
+    'signal 9 at the program': killed(signal.SIGKILL, True, 137),
+    'TERM at the program': killed(signal.SIGTERM, True, 143),
+    'TERM at the script': killed(signal.SIGTERM, False, 143),
+    'HUP at the script': killed(signal.SIGHUP, False, 129),
+    'INT at the script': killed(signal.SIGINT, False, 130),
+    'signal 9 at the script': script_killed,
+    'a hang-up': hung_up([]),
+    'a hang-up that nobody is told of': hung_up(['sh', '-c', 'trap "" HUP; "$@"', 'sh']),
+    'Ctrl-C': control_c,
+    'keys after the one that leaves': left_amid,
+    'Escape': escape,
+    'pastes': pasted,
+    'signal 9 amid a paste': killed_amid_paste,
+    'files of the host': host_file,
+    'no files of the host': no_host_file,
+    'another size of the window': resized,
+    'a small window': too_small,
+    'no terminal': no_terminal,
+    'no file': new_store,
+    'no path': in_memory,
+    'no store': no_store,
+    'a store in use': in_use,
+    'a path where no file can be': no_file,
+}
+
+
+def run_all(desk, oberon, kills):
+    """Each trial once, and that with signal 9 so many times. Returns how many failed."""
+    failed = 0
+    turns = ['signal 9 at the program'] * (kills - 1) + list(TRIALS)
+    for turn, name in enumerate(turns):
+        trial = Trial(desk, oberon, random.Random(turn))
+        try:
+            TRIALS[name](trial)
+        except (Ended, OSError, TypeError, subprocess.CalledProcessError) as error:
+            trial.wrong.append(repr(error))
+        trial.stop()
+        if trial.wrong:
+            failed += 1
+            print(f'{name}: ' + '; '.join(trial.wrong))
+    print(f'{len(turns)} beginnings and ends, {failed} differ')
+    return failed

@@ -1,0 +1,164 @@
+"""What presses come to, by another program: their events go as lines of a script to `oberon`. The rest of a sitting,
+which rows are in sight and what the line below says, is here once more (crates/desk_sitting/specs)."""
+import subprocess
+
+from presses import FILES, spelled, told
+
+COLUMNS, ROWS = 80, 32
+WIDTHS = {0: 50, 50: 30}  # of the tracks, by their left columns
+GREETING = 'Middle button, or F2 and then a click, calls the word there; Ctrl-Q leaves'
+UNREAD = "The host's file can't be read, and nothing was typed."
+# What the line below says of a refusal, by its code.
+REASONS = {
+    1: 'no viewer has the caret',
+    2: 'nothing is selected',
+    3: 'a parameter is missing or of another kind',
+    4: "the word is no command's",
+    5: 'there is no such file, or it is named twice',
+    6: 'no room for more characters',
+    7: 'no viewer is at the marker, or none is kept',
+    8: 'there are 256 files',
+    9: 'the cell lies outside the display',
+    10: "it isn't there from the caret on",
+    11: 'there is no such font, colour or offset',
+    13: "a viewer of one row can't be parted",
+}
+
+
+class Screen:
+    """What `screen` prints: the characters, and the marks that it tells of, from the top row down."""
+
+    def __init__(self, lines):
+        at = lines.index('marks')
+        self.rows = [line[3:] for line in lines[:at]]
+        self.marks = ['' for _ in self.rows]
+        for line in lines[at + 1:]:
+            self.marks[ROWS - 1 - int(line[:2])] = line[3:]
+
+    def mark(self, x, y):
+        marks = self.marks[ROWS - 1 - y]
+        return marks[x] if x < len(marks) else '.'
+
+    def caret(self):
+        """The lowest row that has a caret, and its first column there, as (column, row); None where there is none."""
+        for y in range(ROWS):
+            if 'c' in self.marks[ROWS - 1 - y]:
+                return self.marks[ROWS - 1 - y].index('c'), y
+        return None
+
+
+class Model:
+    """A desktop, the part of it that is in sight in a window of so many rows, and what the line below says."""
+
+    def __init__(self, oberon, store, window):
+        self.play = subprocess.Popen([oberon, 'play', store], stdin=subprocess.PIPE, stdout=subprocess.PIPE)
+        self.top, self.rows = ROWS - 1, ROWS
+        self.follows = True
+        self.saying = GREETING
+        self.fit(window)
+        self.look()
+
+    def ask(self, line):
+        self.play.stdin.write(line.encode() + b'\n')
+        self.play.stdin.flush()
+        return self.play.stdout.readline().decode().rstrip('\n')
+
+    def lines(self, line):
+        """All lines of an answer, without its end."""
+        found = [self.ask(line)]
+        while found[-1] != 'end':
+            found.append(self.play.stdout.readline().decode().rstrip('\n'))
+        return found[:-1]
+
+    def screen(self):
+        return Screen(self.lines('screen'))
+
+    def in_sight(self):
+        """The rows in sight, from the top."""
+        first = ROWS - 1 - self.top
+        return self.screen().rows[first:first + self.rows]
+
+    def end(self):
+        self.play.stdin.close()
+        return self.play.wait()
+
+    # ---- the window
+
+    def fit(self, window):
+        self.rows = max(1, min(window - 1, ROWS))
+        self.top = max(self.top, self.rows - 1)
+
+    def move(self, word):
+        self.follows = False
+        if word == 'up':
+            self.top = min(self.top + self.rows, ROWS - 1)
+        else:
+            self.top = max(self.top - self.rows, self.rows - 1)
+
+    def look(self):
+        """The screen is shown: where an event was done since the last time the rows in sight follow the caret."""
+        place = self.screen().caret() if self.follows else None
+        self.follows = False
+        if place:
+            self.top = max(place[1], min(self.top, place[1] + self.rows - 1))
+
+    def spot(self, column, row):
+        return min(max(column - 1, 0), COLUMNS - 1), self.top - min(max(row - 1, 0), self.rows - 1)
+
+    # ---- presses
+
+    def post(self, line):
+        reply = self.ask(line)
+        if reply == 'ok':
+            self.follows = True
+            self.saying = ''
+        else:
+            code = int(reply.removeprefix('no '))
+            self.saying = f'refused ({code}): {REASONS[code]}'
+
+    def take(self, meaning):
+        kind, *rest = meaning
+        if kind == 'type':
+            self.post('type ' + spelled(rest[0]))
+        elif kind == 'key':
+            self.post('key ' + rest[0])
+        elif kind == 'mark':
+            self.post('mark %d %d' % self.spot(*rest))
+        elif kind == 'point':
+            self.post('point %s %d %d %d %d' % (rest[0], *self.spot(*rest[1:3]), *self.spot(*rest[3:])))
+        elif kind == 'arrow':
+            self.step(rest[0])
+        elif kind == 'file':
+            self.bring(rest[0])
+        elif kind == 'fit':
+            self.fit(rest[0])
+        else:
+            self.move(rest[0])
+
+    def bring(self, name):
+        """A file of the host's is typed, each event of it heard by itself."""
+        if name not in FILES:
+            self.saying = UNREAD
+            return
+        self.saying = ''
+        for event in told(FILES[name]):
+            self.look()
+            self.take(event)
+
+    def step(self, word):
+        """A left click beside the caret, where a text is shown there."""
+        screen = self.screen()
+        caret = screen.caret()
+        if not caret:
+            return
+        x, y = caret
+        x, y = {'up': (x, y + 1), 'down': (x, y - 1), 'right': (x + 1, y), 'left': (x - 1, y)}[word]
+        if 0 <= x < COLUMNS and 0 <= y < ROWS and self.is_text(screen, x, y):
+            self.post(f'point l {x} {y} {x} {y}')
+
+    def is_text(self, screen, x, y):
+        if screen.mark(x, y) != '.':
+            return screen.mark(x, y) != 'c'
+        viewers = [line.split(' ') for line in self.lines('list') if line.startswith('viewer ')]
+        spans = [(int(v[1]), int(v[2]), int(v[3])) for v in viewers]
+        return any(left < x < left + WIDTHS[left] and bottom <= y < top - 1 for left, bottom, top in spans)

@@ -1,0 +1,144 @@
+"""Random presses: the bytes that a terminal sends for them, and what they mean.
+
+A meaning is a tuple: ('type', text), ('key', word), ('mark', column, row), ('point', keys, column, row, column, row),
+('arrow', word), ('page', word), ('fit', rows) or ('file', name). Columns and rows are those of the terminal, from 1 at
+the upper left."""
+
+PRINTED = [chr(code) for code in range(32, 127)]
+GESTURES = ['l', 'm', 'r', 'lm', 'lr', 'ml', 'mr', 'rl', 'rm']
+NUMBERS = {'l': 0, 'm': 1, 'r': 2}
+ARROWS = {'up': b'A', 'down': b'B', 'right': b'C', 'left': b'D'}
+# What a byte below the space is, where it is a key.
+CONTROLS = {3: ('key', 'copy'), 7: ('key', 'escape'), 10: ('type', '\r'), 22: ('key', 'paste'), 24: ('key', 'cut')}
+# The clicks that a function key says, by its spellings.
+FUNCTIONS = {'m': [b'\x1bOQ', b'\x1b[Q', b'\x1b[12~', b'\x1b[[B'], 'r': [b'\x1bOR', b'\x1b[13~', b'\x1b[[C'],
+             'lm': [b'\x1bOS', b'\x1b[14~', b'\x1b[[D'], 'lr': [b'\x1b[15~', b'\x1b[[E'], 'rl': [b'\x1b[17~'],
+             'rm': [b'\x1b[18~']}
+MARK = [b'\x1bOP', b'\x1b[P', b'\x1b[11~', b'\x1b[[A']
+# What means nothing: a wheel, a motion, a button that goes up alone, keys and answers that are not told apart, letters
+# of other scripts, a byte amid one, and a mouse report of the older form.
+NOTHING = [b'\x1b[<64;3;4M', b'\x1b[<35;3;4M', b'\x1b[<0;7;7m', b'\x1b[1;5H', b'\x1b[?1;2c', b'\x1b[I', b'\x1b[2~',
+           b'\x1b[27u', b'\x01', b'\x00', '\u00e4'.encode(), '\u2014'.encode(), b'\x80', b'\xff', b'\x1b[M !!',
+           b'\x1bOz', b'\x1b[1;2;3;4;5;6;7z']
+
+
+# The files of the host that are brought in, and names of what is none: that isn't there, a folder, a pipe.
+FILES = {'note.txt': b'a short note\n', 'long.txt': b'a line of a long file\r\n' * 100, 'odd': bytes(range(256)) * 2,
+         'empty': b''}
+NO_FILES = ['none.txt', '.', 'pipe']
+
+
+def report(key, column, row, is_down, flags=0):
+    return b'\x1b[<%d;%d;%d%s' % (NUMBERS[key] + flags, column, row, b'M' if is_down else b'm')
+
+
+def drag(random, keys, start, end, flags=0):
+    """The buttons go down one after another, the first at the start, and up in any order, the last at the end."""
+    middle = random.choice([start, end])
+    data = report(keys[0], *start, True, flags)
+    for key in keys[1:]:
+        data += report(key, *middle, True)
+    order = random.sample(keys, len(keys))
+    for key in order[:-1]:
+        data += report(key, *middle, False)
+    return data + report(order[-1], *end, False)
+
+
+def cell(random, rows):
+    """A place in the window, mostly where there is something to be found."""
+    if random.random() < 0.5:
+        return (random.choice([1, 2, 3, 4, 11, 21, 47, 51, 52, 53, 54, 61]), random.randrange(1, min(rows, 22) + 1))
+    return (random.randrange(1, 84), random.randrange(1, rows + 2))
+
+
+def spelled(text):
+    """A text as a line of a script spells it."""
+    return ''.join(c if ' ' <= c <= '~' and c != '%' else '%%%02x' % ord(c) for c in text)
+
+
+def pasted(text):
+    """The events of a paste."""
+    text = text.replace('\r\n', '\r').replace('\n', '\r')
+    text = ''.join(c if c in '\t\r' or ' ' <= c <= '~' else '?' for c in text)
+    return [('type', text[at:at + 900]) for at in range(0, len(text), 900)]
+
+
+def paste(random, is_long):
+    """A paste, with ends of lines of three kinds and characters that can't be typed."""
+    pieces = random.choices(['x', '\r', '\n', '\r\n', '\u00e4', '\u2014', 'hello ', '\t', '%', '\x08', '\x01', ' '],
+                            k=random.randrange(0, 400))
+    text = ''.join(pieces)[:899]
+    if is_long:
+        text = ('a line of a long text\r' * 90)[:random.choice([899, 900, 901, 1800, 1801])]
+    return b'\x1b[200~' + text.encode() + b'\x1b[201~', pasted(text)
+
+
+def told(data):
+    """The events of a file of the host's: where a character has several bytes the first one stands for it."""
+    return pasted(''.join(chr(byte) if byte < 128 else '?' for byte in data if not 128 <= byte < 192))
+
+
+def brought(random):
+    """A file of the host's is asked for."""
+    name = random.choice([*FILES, *NO_FILES])
+    typed = random.choice([name, 'x\x7f' + name, name + 'xy\b\b'])
+    return random.choice([b'\x0f', b'\x1b[19~']) + typed.encode() + random.choice([b'\r', b'\n']), [('file', name)]
+
+
+def called_off(random):
+    """A name of a host file is asked for, and nothing comes of it."""
+    name = random.choice([b'', b'n', b'a name.txt', b'x\x7f\x7f', b'\xff\x18', b'\x1b[A', b'\x1b[<0;3;4M\x1b[<0;3;4m'])
+    return random.choice([b'\x0f', b'\x1b[19~']) + name + b'\x07', []
+
+
+def press(random, rows, is_whole):
+    """One press, or a few that belong together, in a window of so many rows. Where the whole display is in sight a
+    paste may be of several events, and elsewhere the window may get another size."""
+    kind = random.randrange(26)
+    if kind < 6:
+        character = random.choice(PRINTED + ['\r', '\t', 'e', 'a', ' '])
+        return character.encode(), [('type', character)]
+    if kind < 8:
+        return random.choice([b'\x7f', b'\x08']), [('key', 'back')]
+    if kind == 8:
+        code, meaning = random.choice(list(CONTROLS.items()))
+        return bytes([code]), [meaning]
+    if kind == 9:
+        return paste(random, is_whole and random.random() < 0.2)
+    if kind == 10:
+        return random.choice(NOTHING), []
+    if kind == 11:
+        word = random.choice(list(ARROWS))
+        return random.choice([b'\x1b[', b'\x1bO']) + ARROWS[word], [('arrow', word)]
+    if kind == 12 or kind == 13 and not is_whole:
+        return random.choice([(b'\x1b[5~', [('page', 'up')]), (b'\x1b[6~', [('page', 'down')])])
+    if kind == 14:
+        letter = random.choice('abxyz. ')
+        return b'\x1b' + letter.encode(), [('key', 'escape'), ('type', letter)]
+    if kind == 15:
+        return random.choice([called_off, brought])(random)
+    if kind == 16 and not is_whole:
+        height = random.choice([2, 5, 12, 13, 24, 32, 33, 34, 45])
+        return b'\x1b[%d;%d;81t' % (random.choice([8, 48]), height), [('fit', height)]
+    return mouse(random, rows)
+
+
+def mouse(random, rows):
+    """A gesture of the mouse."""
+    kind = random.randrange(10)
+    start, end = cell(random, rows), cell(random, rows)
+    if kind < 2:
+        place = (random.choice([2, 3, 5, 52, 55]), random.randrange(2, min(rows, 12)))
+        return drag(random, 'l', place, place), [('point', 'l', *place, *place)]
+    if kind == 2:
+        return random.choice(MARK) + drag(random, 'l', start, end), [('mark', *start)]
+    if kind == 3:
+        keys = random.choice(list(FUNCTIONS))
+        return random.choice(FUNCTIONS[keys]) + drag(random, 'l', start, end), [('point', keys, *start, *end)]
+    if kind == 4:
+        flags, keys = random.choice([(8, 'm'), (16, 'r')])
+        return drag(random, 'l', start, end, flags), [('point', keys, *start, *end)]
+    if kind == 5:
+        return drag(random, random.sample('lmr', 3), start, end), []
+    keys = random.choice(GESTURES)
+    return drag(random, keys, start, end), [('point', keys, *start, *end)]
