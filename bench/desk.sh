@@ -1,7 +1,8 @@
 #!/bin/sh
 # Times events and screens of a desktop in memory with one text in a viewer, by processor time: 20,000 keystrokes, in lines, at the text's end and in
 # its middle, 1,000 screens, 200,000 events that touch no text, and 100 searches for a word that isn't there, each with 1,000, 10,000 and 200,000
-# characters; and 100 times the list of 256 files in the log. As a sense of scale, grep -F and ls do the last two over files.
+# characters; 5,000 keystrokes and 1,000 screens where 20,000 characters are one line; and 100 times the list of 256 files in the log. As a sense of
+# scale, grep -F and ls do searches and lists over files.
 # It times bench/out/desk_bench, which it builds first, or the program that DESK_BENCH names. Other sizes: bench/desk.sh CHARACTERS..
 # A run without rounds is taken off, so only the rounds count; of grep and ls, a run over nothing.
 set -e
@@ -32,6 +33,8 @@ EOF
         report "$mode, $place: $size characters" "$rounds" "$(seconds "$mode" "$place" "$size" "$rounds")" "$(seconds "$mode" "$place" "$size" 0)"
     done
 done
+report 'type, one line: 20000 characters' 5000 "$(seconds type line 20000 5000)" "$(seconds type line 20000 0)"
+report 'screen, one line: 20000 characters' 1000 "$(seconds screen line 20000 1000)" "$(seconds screen line 20000 0)"
 report 'directory: 256 files' 100 "$(seconds directory end 1000 100)" "$(seconds directory end 1000 0)"
 
 folder=$(mktemp -d)

@@ -41,6 +41,7 @@ done
 of fresh; put 2 '\000\000\000\001' 8; say 'one character written, and no tail'
 of fresh; put 2 '\000\000\000\001' 8; put 2 '\034' 15
 put 1029 '\101\000\017\100\000\000\000\001\000'; put 1029 '\000' 27; say 'one character written, and a tail'
+echo list | "$OBERON" play desk.disk
 for byte in '0 005' '1 020' '2 200' '3 040' '4 002' '6 000' '26 002'; do
     of fresh; put 1029 "\\${byte#* }" "${byte% *}"; say "byte ${byte% *} of the image is 0${byte#* }"
 done

@@ -20,4 +20,11 @@ front 1029 8
 sector 7429 | cmp - characters && echo 'the first sector of the area has them still'
 sector 7430 | cmp -n 1024 - /dev/zero && echo 'the second sector of the area has zeros'
 "$OBERON" check desk.disk
-printf 'list\nshow X.Text\nshow Y.Text\nshow Z.Text\n' | "$OBERON" play desk.disk
+# After opening: what filled the first sector stays, and the second one takes what the image began with, and more.
+printf 'file V.Text %s\nfile W.Text %s\ncheckpoint\n' "$x" "$x" | "$OBERON" play desk.disk
+sector 7429 | cmp - characters && echo 'the first sector of the area has them still'
+sector 7430 | cmp - <(head -c 1024 <(printf z; printf %s "$x$x")) && echo 'the second sector of the area is full'
+sector 7431 | cmp -n 1024 - /dev/zero && echo 'the third sector of the area has zeros'
+sector 4229 | cmp -n 777 - <(printf %s "$x") && front 4 16
+"$OBERON" check desk.disk
+printf 'list\nshow X.Text\nshow Y.Text\nshow Z.Text\nshow W.Text\n' | "$OBERON" play desk.disk

@@ -7,7 +7,9 @@ x=$(head -c 900 /dev/zero | tr '\0' x)
     echo "file A.Text $(head -c 304 /dev/zero | tr '\0' y)"
 } | "$OBERON" play desk.disk | uniq -c | sed 's/^ *//'
 "$OBERON" check desk.disk
-printf '%s\n' 'file A.Text z' list 'file A.Text' list | "$OBERON" play desk.disk
+# Its last characters are shown from the area, also after opening.
+printf '%s\n' 'file A.Text z' list checkpoint 'show A.Text' | "$OBERON" play desk.disk
+printf '%s\n' 'show A.Text' 'file A.Text z' 'file A.Text' list | "$OBERON" play desk.disk
 echo checkpoint | "$OBERON" play desk.disk
 "$OBERON" check desk.disk
 printf '%s\n' 'file A.Text z' list | "$OBERON" play desk.disk

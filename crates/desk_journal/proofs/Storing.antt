@@ -1,57 +1,72 @@
 -- What a store knows of its disk between two calls, and how it is after them. `d` is what is known of a disk.
-use Rattle.std.proofs.Common.{◌≡◌, ◌*◌, ◌<◌, ◌≤◌, ℕ, length, inl, sym, ◌∙◌, ap, subst, arith}
+use Rattle.std.proofs.Common.{◌≡◌, ◌+◌, ◌/◌, ◌<◌, ◌≤◌, ℕ, inl, sym, ◌∙◌, ap, subst, arith}
 use Rattle.sector_disk.specs.declared.disk.Disk.{Ghosts}
 use Rattle.sector_disk.specs.Confined.{IsConfined}
 use Rattle.sector_disk.specs.Trail.{Content, now, LeavesOnly, Nowhere}
 use Rattle.sector_disk.proofs.Touching.{weakened, chained, still_all}
 use Rattle.event_bytes.specs.declared.event.Event.{Event}
-use Rattle.desktop_definitions.specs.Desktop.{KeptDesktop}
 use Rattle.desktop_definitions.specs.Step.{step}
 use Rattle.sector_disk.specs.declared.disk.TheConstants.{SECTOR_BYTES}
 use Rattle.store_layout.specs.declared.layout.TheConstants.{JOURNAL_EVENTS, SLOTS, STORE_SECTORS}
-use Rattle.store_layout.specs.Kept.{IsKept, IsFront}
-use Rattle.store_layout.specs.Meaning.{Means, MeansEither}
+use Rattle.store_layout.specs.Kept.{IsKept}
+use Rattle.store_layout.specs.Layout.{head}
+use Rattle.store_layout.specs.Meaning.{Means, MeansEither, full_sectors}
+use Rattle.char_pages.specs.Pages.{saved_sectors}
 use Rattle.desk_slots.specs.declared.live.LiveDesktop.{LiveDesktop}
+use Rattle.desk_slots.specs.declared.place.Place.{Place}
+use Rattle.desk_slots.specs.Written.{IsBeside}
 use Rattle.desk_journal.specs.Checkpointing.{LeavesDesktop, IsRenewed}
 use Rattle.desk_slots.specs.Device.{IsSameDevice}
-use Rattle.desk_slots.specs.Live.{shown, IsLive, StaysLive}
+use Rattle.desk_slots.specs.Live.{shown, IsLive, IsNamed, IsTold, StaysLive}
 use Rattle.desk_journal.specs.Posting.{LeavesEither, IsStarved}
 use Rattle.desk_journal.specs.View.{StoreView}
 use Rattle.desk_slots.proofs.Settling.{kept_on}
 
 -- what a store knows of its disk: room, and where it is honest what stands there
-abbrev Knows : {D : Type 0} → Ghosts D → D → ℕ → ℕ → ℕ → ℕ → LiveDesktop → Type 0
-Knows d disk slot epoch events saved live = (slot < SLOTS) × (events ≤ JOURNAL_EVENTS) × (STORE_SECTORS ≤ d.size disk)
-    × IsLive live × (SECTOR_BYTES * saved ≤ length live.characters)
-    × (d.honest disk → IsKept (d.size disk) (d.trail disk) slot epoch events (shown live)
-    × IsFront (now (d.trail disk)).reads slot saved live.characters)
+abbrev Knows : {D : Type 0} → Ghosts D → D → ℕ → ℕ → ℕ → LiveDesktop → Type 0
+Knows d disk slot epoch events live = (slot < SLOTS) × (events ≤ JOURNAL_EVENTS) × (STORE_SECTORS ≤ d.size disk)
+    × IsLive live × IsTold d disk live
+    × (d.honest disk → IsKept (d.size disk) (d.trail disk) slot epoch events (shown (now (d.trail disk)).reads live)
+    × IsNamed (now (d.trail disk)).reads slot live)
 
 -- a look
-pub looked_at : {D : Type 0} (d : Ghosts D) (slot epoch events saved : ℕ) (old new : D) (live live' : LiveDesktop)
-    → IsConfined d.size d.honest d.trail Nowhere old new → StaysLive (d.honest old) live live'
-    → Knows d old slot epoch events saved live → Knows d new slot epoch events saved live'
-looked_at d slot epoch events saved old new live live' run stays was =
-    let as_long : length live'.characters ≡ length live.characters =
-    stays.over.counted ∙ ap (λ (k : KeptDesktop). k.written) stays.kept_same ∙ sym was.3.counted in (
-      was.0,
-      was.1,
-      omega (arith, was.2, run.as_large),
-      stays.over,
-      omega (arith, was.4, as_long),
-      λ honest.
-          let before = run.already honest in
-          let touches = run.moments before in (
-            subst (λ desktop. IsKept (d.size new) (d.trail new) slot epoch events desktop)
-                (sym (stays.shown_same before))
-                (subst (λ n. IsKept n (d.trail new) slot epoch events (shown live)) (sym run.as_large)
-                (kept_on (d.size old) (d.trail old) (d.trail new) slot epoch events (shown live)
-                (was.5 before).0 touches)),
-            subst (λ characters. IsFront (now (d.trail new)).reads slot saved characters)
-                (sym (stays.characters_same before))
-                (subst (λ (content : Content). IsFront content slot saved live.characters)
-                (sym (still_all (d.trail old) (d.trail new) touches)) (was.5 before).1),
-          ),
-    )
+pub looked_at : {D : Type 0} (d : Ghosts D) (slot epoch events : ℕ) (old new : D) (live live' : LiveDesktop)
+    → IsConfined d.size d.honest d.trail Nowhere old new → StaysLive d old new live live'
+    → Knows d old slot epoch events live → Knows d new slot epoch events live'
+looked_at d slot epoch events old new live live' run stays was = (
+  was.0,
+  was.1,
+  omega (arith, was.2, run.as_large),
+  stays.live,
+  stays.told,
+  λ honest.
+      let before = run.already honest in
+      let touches = run.moments before in
+      let desktop = shown (now (d.trail old)).reads live in (
+        subst (λ desktop. IsKept (d.size new) (d.trail new) slot epoch events desktop)
+            (sym (stays.shown_same before))
+            (subst (λ n. IsKept n (d.trail new) slot epoch events desktop) (sym run.as_large)
+            (kept_on (d.size old) (d.trail old) (d.trail new) slot epoch events desktop (was.5 before).0 touches)),
+        ap (λ (c : Content). full_sectors (head c slot).written) (still_all (d.trail old) (d.trail new) touches)
+            ∙ (was.5 before).1 ∙ sym (ap (λ n. n / SECTOR_BYTES) stays.place_same),
+      ),
+)
+
+-- a checkpoint that is done: the disk shows the desktop by the other slot
+pub renewed_kept : {D : Type 0} (d : Ghosts D) (slot epoch events : ℕ) (old new : D) (live live' : LiveDesktop)
+    (place : Place) → Knows d old slot epoch events live → IsSameDevice d old new → slot + place.slot ≡ 1
+    → epoch + 1 ≡ place.epoch → place.saved ≡ saved_sectors live.pages
+    → (d.honest old → (from number count : ℕ) → IsBeside place (d.size old) (d.trail old) from number count
+    (shown (now (d.trail old)).reads live)
+    → IsKept (d.size old) (d.trail new) place.slot place.epoch 0 (shown (now (d.trail new)).reads live'))
+    → d.honest new
+    → IsKept (d.size new) (d.trail new) place.slot place.epoch 0 (shown (now (d.trail new)).reads live')
+renewed_kept d slot epoch events old new live live' place was device two next saved renewed honest =
+    let before = device.already honest in
+    let stood = was.5 before in
+    subst (λ n. IsKept n (d.trail new) place.slot place.epoch 0 (shown (now (d.trail new)).reads live'))
+    (sym device.as_large) (renewed before slot epoch events
+    (record { two = two; next = next; kept = stood.0; named = stood.1 ∙ sym saved }))
 
 -- a checkpoint, and then the rest of a post
 module _ {D : Type 0} (d : Ghosts D) (event : Event) (old mid new : StoreView D) (first : LeavesDesktop d old mid)

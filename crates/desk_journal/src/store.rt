@@ -22,7 +22,7 @@ use desktop_definitions::{Entry, Reply};
 use event_bytes::{Event, Name};
 use piece_ring::Look;
 use screen_cells::Screen;
-use sector_disk::{Disk, Fault, SECTOR_BYTES};
+use sector_disk::{Disk, Fault};
 use std::alloc::Global;
 use std::marker::Model;
 use store_layout::{JOURNAL_EVENTS, LAST_EPOCH, LAYOUT, STORE_SECTORS};
@@ -37,7 +37,8 @@ pub struct Info {
     pub written: u32,
 }
 
-/// A desktop on a disk.
+/// A desktop on a disk. The characters that fill sectors of the disk's area stay there, but for 64 sectors that were read
+/// last; the others are in memory.
 ///
 /// After `NoMemory` or `Fault` of a post, or `Fault` of a checkpoint, the store isn't used again: each call but `close`
 /// returns `MustReopen`, and what is on the disk is found by opening it.
@@ -50,25 +51,22 @@ pub struct Store<D: Disk> {
     epoch: u32,
     /// How many events its journal has.
     events: u32,
-    /// How many sectors of the area its head names.
-    saved: u32,
     must_reopen: bool,
 }
 
 impl<D: Disk> Model for Store<D> {
-    ghost use Rattle.std.specs.Prelude.{◌≡◌, ◌<◌, ◌≤◌, ◌*◌, length, false};
+    ghost use Rattle.std.specs.Prelude.{◌≡◌, ◌<◌, ◌≤◌, false};
     ghost use Rattle.sector_disk.specs.Trail.{now};
-    ghost use Rattle.sector_disk.specs.declared.disk.TheConstants.{SECTOR_BYTES};
     ghost use Rattle.store_layout.specs.declared.layout.TheConstants.{JOURNAL_EVENTS, SLOTS, STORE_SECTORS};
-    ghost use Rattle.store_layout.specs.Kept.{IsKept, IsFront};
-    ghost use Rattle.desk_slots.specs.Live.{shown, IsLive};
+    ghost use Rattle.store_layout.specs.Kept.{IsKept};
+    ghost use Rattle.desk_slots.specs.Live.{shown, IsLive, IsNamed, IsTold};
     ghost use Rattle.desk_journal.specs.View.{StoreView};
 
     ghost Value = { StoreView D };
 
     ghost view = { λ s. record {
       disk = s.disk;
-      desktop = shown s.desktop;
+      desktop = shown (now (D.Disk.trail s.disk)).reads s.desktop;
       kept = s.desktop.desktop;
       epoch = s.epoch;
       events = s.events;
@@ -76,11 +74,11 @@ impl<D: Disk> Model for Store<D> {
     } };
 
     ghost invariant = { λ s. s.must_reopen ≡ false → (s.slot < SLOTS) × (s.events ≤ JOURNAL_EVENTS)
-        × (STORE_SECTORS ≤ D.Disk.size s.disk) × IsLive s.desktop
-        × (SECTOR_BYTES * s.saved ≤ length s.desktop.characters)
+        × (STORE_SECTORS ≤ D.Disk.size s.disk) × IsLive s.desktop × IsTold D.Disk s.disk s.desktop
         × (D.Disk.honest s.disk
-        → IsKept (D.Disk.size s.disk) (D.Disk.trail s.disk) s.slot s.epoch s.events (shown s.desktop)
-        × IsFront (now (D.Disk.trail s.disk)).reads s.slot s.saved s.desktop.characters) };
+        → IsKept (D.Disk.size s.disk) (D.Disk.trail s.disk) s.slot s.epoch s.events
+        (shown (now (D.Disk.trail s.disk)).reads s.desktop)
+        × IsNamed (now (D.Disk.trail s.disk)).reads s.slot s.desktop) };
 }
 
 impl<D: Disk> Store<D> {
@@ -113,9 +111,10 @@ impl<D: Disk> Store<D> {
     /// Errors, each with the disk: `NotAStore` where it has fewer sectors than a store needs, or another label;
     /// `Damaged(n)`, in this order, where no slot is open (sector 1), where the head in sector n stands under an open
     /// gate and isn't one of this layout, where the image that begins in sector n is none, or where the body in sector
-    /// n, under an open gate, begins with no event; `Fault`; `NoMemory`. Memory is taken for the characters and the
-    /// image of the slot in use and for the events of its journal, and for nothing that is read before them: a wrong
-    /// label, closed slots and a bad head are told whatever memory there is.
+    /// n, under an open gate, begins with no event; `Fault`; `NoMemory`. Memory is taken for the image of the slot in
+    /// use and the characters that it has, and for the events of its journal, and for nothing that is read before them:
+    /// a wrong label, closed slots and a bad head are told whatever memory there is. Of the characters in the area only
+    /// those are read that the events of the journal read.
     pub fn open(alloc: Global, disk: D) -> Result<Store<D>, (Error, D)>
         ensures ok { IfOk result (λ store. IsOpened D.Disk disk store) }
         ensures no_store { IfErr result (λ e. IsNoStore D.Disk disk e.0) }
@@ -132,7 +131,6 @@ impl<D: Disk> Store<D> {
                 slot: loaded.slot,
                 epoch: loaded.epoch,
                 events: loaded.events,
-                saved: loaded.saved,
                 must_reopen: false,
             }),
             Err(error) => Err((error, disk)),
@@ -215,11 +213,10 @@ impl<D: Disk> Store<D> {
         let place = Place {
             slot: 1 - self.slot,
             epoch: self.epoch + 1,
-            saved: self.saved,
+            saved: self.desktop.saved(),
         };
         self.must_reopen = true;
-        renew(&mut self.disk, &self.desktop, place)?;
-        self.saved = self.desktop.written() / SECTOR_BYTES;
+        renew(&mut self.disk, &mut self.desktop, place)?;
         self.slot = place.slot;
         self.epoch = place.epoch;
         self.events = 0;
@@ -308,7 +305,6 @@ impl<D: Disk> Store<D> {
             slot: _,
             epoch: _,
             events: _,
-            saved: _,
             must_reopen: _,
         } = self;
         disk

@@ -2,17 +2,24 @@
 use Rattle.std.proofs.Common.{◌≡◌, ℕ, ◌+◌, ◌*◌, ◌<◌, ◌≤◌, List, ◌++◌, length, take, drop, sym, ◌∙◌, ap}
 use Rattle.std.proofs.Common.{◌-◌, ◌/◌, subst, arith, length-append}
 use Rattle.std.proofs.Math.Seq.{take-add, drop-append-add}
-use Rattle.std.proofs.lemmas.List.{length-take-le, length-drop, take-append-drop, take_all}
+use Rattle.std.proofs.lemmas.List.{length-take-le, length-drop, take_all}
 use Rattle.sector_disk.specs.Trail.{Content, Moment, written}
-use Rattle.sector_streams.specs.Stored.{stored_same, sector_more}
+use Rattle.sector_disk.specs.Stored.{stored, stored_same, sector_more, length-stored}
 use Rattle.sector_streams.proofs.Filled.{reads_here, reads_elsewhere}
 use Rattle.sector_disk.specs.declared.disk.TheConstants.{SECTOR_BYTES}
 use Rattle.sector_streams.specs.Filling.{InRange}
-use Rattle.store_layout.specs.declared.layout.TheConstants.{IMAGE_SECTORS, SLOTS}
+use Rattle.char_pages.specs.declared.pages.Pages.{Pages}
+use Rattle.char_pages.specs.Pages.{base_of, saved_of, saved_sectors, rest_of, paged_characters}
+use Rattle.char_pages.proofs.Paging.{length-paged}
+use Rattle.desktop_definitions.specs.Desktop.{KeptDesktop}
+use Rattle.store_layout.specs.declared.layout.TheConstants.{AREA_SECTORS, IMAGE_SECTORS, SLOTS}
 use Rattle.store_layout.specs.Layout.{area_at, image_at}
-use Rattle.store_layout.specs.Meaning.{full_sectors}
+use Rattle.store_layout.specs.Meaning.{full_sectors, left_over}
 use Rattle.store_layout.specs.Kept.{HasFront}
 use Rattle.store_layout.specs.StandingLaws.{has_front_stays}
+use Rattle.desk_slots.specs.Live.{IsOverPages}
+use Rattle.desk_slots.proofs.Counting.{no_content, few_written}
+use Rattle.desk_slots.proofs.Settled.{has_front}
 
 -- the sector that was written, by another name
 pub placed : (m m' : Moment) (place n : ℕ) (bytes : List ℕ) → place ≡ n → m' ≡ written m place bytes
@@ -47,38 +54,62 @@ rest_more m m' saved i sector front rest is_written room is long was =
     (is ∙ ap (take SECTOR_BYTES) (sym (drop-append-add front rest (SECTOR_BYTES * i)))
     ∙ ap (λ n. take SECTOR_BYTES (drop n (front ++ rest))) (omega (arith, long))) was
 
--- what stands before the rest, and the rest
-parted : (n : ℕ) (l : List ℕ) → n ≤ length l → take n l ++ take (length l - n) (drop n l) ≡ l
-parted n l within = ap (λ r. take n l ++ r) (take_all (length l - n) (drop n l) (omega (arith, length-drop n l)))
-    ∙ take-append-drop n l
+-- how many of these fill whole sectors, and the others
+abbrev full : List ℕ → ℕ
+full rest = length rest / SECTOR_BYTES * SECTOR_BYTES
 
--- the rest of the characters is written, and then the image of a slot
-pub filled : (c mid c' : Content) (saved slot : ℕ) (again characters rest : List ℕ) → again ≡ characters
-    → slot < SLOTS → SECTOR_BYTES * saved ≤ length characters
-    → rest ≡ take (length again - SECTOR_BYTES * saved) (drop (SECTOR_BYTES * saved) again)
-    → ((front : List ℕ) → length front ≡ SECTOR_BYTES * saved → HasFront c saved (front ++ rest)
-    → HasFront mid (saved + length rest / SECTOR_BYTES) (front ++ rest))
-    → ((n : ℕ) → ¬ InRange (image_at slot) IMAGE_SECTORS n → c' n ≡ mid n)
-    → HasFront c saved characters → HasFront c' (full_sectors (length characters)) characters
-filled c mid c' saved slot again characters rest same low enough rest_is fills outside was =
-    has_front_stays mid c' (full_sectors (length characters)) characters
-    (λ k few. outside (area_at k) (λ within. omega (arith, within.1, low)))
-    (subst (λ n. HasFront mid n characters) count
-    (subst (λ l. HasFront mid (saved + length rest / SECTOR_BYTES) l) whole
-    (fills front (length-take-le (SECTOR_BYTES * saved) characters enough)
-    (subst (λ l. HasFront c saved l) (sym whole) was))))
-  where
-    front : List ℕ
-    front = take (SECTOR_BYTES * saved) characters
+abbrev tail_of : List ℕ → List ℕ
+tail_of rest = take (length rest - full rest) (drop (full rest) rest)
 
-    rest_of : rest ≡ take (length characters - SECTOR_BYTES * saved) (drop (SECTOR_BYTES * saved) characters)
-    rest_of = rest_is ∙ ap (λ l. take (length l - SECTOR_BYTES * saved) (drop (SECTOR_BYTES * saved) l)) same
+all_behind : (rest : List ℕ) → tail_of rest ≡ drop (full rest) rest
+all_behind rest = take_all (length rest - full rest) (drop (full rest) rest)
+    (omega (arith, length-drop (full rest) rest))
 
-    whole : front ++ rest ≡ characters
-    whole = ap (λ r. front ++ r) rest_of ∙ parted (SECTOR_BYTES * saved) characters enough
+-- characters on the disk and in memory: what is written of them, and what is left over
+module _ (c : Content) (p : Pages) (rest : List ℕ) (rest_is : rest ≡ rest_of p) where
+  long : length (paged_characters c p) ≡ saved_of p + length rest
+  long = length-paged c p.base p.saved p.rest.items ∙ ap (λ l. saved_of p + length l) (sym rest_is)
 
-    long : length front + length rest ≡ length characters
-    long = sym (length-append front rest) ∙ ap length whole
+  -- the rest of the characters is written, and then the image of a slot
+  pub filled : (mid c' : Content) (saved slot : ℕ) → base_of p ≡ area_at 0 → saved ≡ saved_sectors p → slot < SLOTS
+      → ((front : List ℕ) → length front ≡ SECTOR_BYTES * saved → HasFront c saved (front ++ rest)
+      → HasFront mid (saved + length rest / SECTOR_BYTES) (front ++ rest))
+      → ((n : ℕ) → ¬ InRange (image_at slot) IMAGE_SECTORS n → c' n ≡ mid n)
+      → HasFront c' (full_sectors (length (paged_characters c p))) (paged_characters c p)
+  filled mid c' saved slot based saved_is low fills outside =
+      has_front_stays mid c' (full_sectors (length (paged_characters c p))) (paged_characters c p)
+      (λ k few. outside (area_at k) (λ within. omega (arith, within.1, low)))
+      (subst (λ n. HasFront mid n (paged_characters c p)) count
+      (subst (λ l. HasFront mid (saved + length rest / SECTOR_BYTES) (stored c p.base p.saved ++ l)) rest_is
+      (fills (stored c p.base p.saved) (length-stored c p.base p.saved ∙ sym whole)
+      (subst (λ l. HasFront c saved (stored c p.base p.saved ++ l)) (sym rest_is)
+      (has_front c p saved based whole)))))
+    where
+      whole : SECTOR_BYTES * saved ≡ saved_of p
+      whole = omega (arith, saved_is, p.whole)
 
-    count : saved + length rest / SECTOR_BYTES ≡ full_sectors (length characters)
-    count = omega (arith, long, length-take-le (SECTOR_BYTES * saved) characters enough)
+      count : saved + length rest / SECTOR_BYTES ≡ full_sectors (length (paged_characters c p))
+      count = omega (arith, long, whole)
+
+  -- the others are in memory
+  pub tail_same : tail_of rest
+      ≡ drop (SECTOR_BYTES * full_sectors (length (paged_characters c p))) (paged_characters c p)
+  tail_same = all_behind rest ∙ ap (drop (full rest)) rest_is
+      ∙ sym (ap (λ n. drop n (paged_characters c p)) at
+      ∙ drop-append-add (stored c p.base p.saved) p.rest.items (full rest))
+    where
+      at : SECTOR_BYTES * full_sectors (length (paged_characters c p))
+          ≡ length (stored c p.base p.saved) + full rest
+      at = omega (arith, long, length-stored c p.base p.saved, p.whole)
+
+-- how many they are, and how many sectors they fill
+module _ (p : Pages) (d : KeptDesktop) (rest : List ℕ) (rest_is : rest ≡ rest_of p) (over : IsOverPages p d) where
+  written_is : d.written ≡ saved_of p + length rest
+  written_is = sym (over no_content).counted ∙ long no_content p rest rest_is
+
+  pub few_in_area : (saved : ℕ) → saved ≡ saved_sectors p
+      → SECTOR_BYTES * saved + length rest ≤ SECTOR_BYTES * AREA_SECTORS
+  few_in_area saved saved_is = omega (arith, saved_is, p.whole, written_is, few_written d (over no_content).whole)
+
+  pub tail_long : length (tail_of rest) ≡ left_over d.written
+  tail_long = ap length (all_behind rest) ∙ length-drop (full rest) rest ∙ omega (arith, written_is, p.whole)

@@ -1,4 +1,5 @@
 pub mod Choosing
+pub mod Counting
 pub mod Fronts
 pub mod Laying
 pub mod Loading
@@ -6,6 +7,8 @@ pub mod NewSlot
 pub mod OneMore
 pub mod Recording
 pub mod Renewing
+pub mod Settled
 pub mod Settling
 pub mod Starting
+pub mod Staying
 pub mod Streaming

@@ -1,5 +1,5 @@
 -- Reading a slot: its journal, event by event, and what the disk shows then.
-use Rattle.std.proofs.Common.{◌≡◌, ◌⊎◌, inl, inr, ℕ, ◌+◌, ◌*◌, ◌<◌, ◌≤◌, List, [], length}
+use Rattle.std.proofs.Common.{◌≡◌, ◌⊎◌, inl, inr, ℕ, ◌+◌, ◌<◌, []}
 use Rattle.std.proofs.Common.{◌∷◌, ◌++◌, length-append, append_assoc}
 use Rattle.std.proofs.Common.{refl, sym, ◌∙◌, ap, subst, arith, true, false}
 use Rattle.std.proofs.lemmas.List.{append-nil}
@@ -9,18 +9,19 @@ use Rattle.sector_disk.proofs.Touching.{still_all, still_settled}
 use Rattle.event_bytes.specs.declared.event.Event.{Event}
 use Rattle.event_bytes.specs.Spelling.{Begins}
 use Rattle.desktop_definitions.specs.Desktop.{Desktop}
-use Rattle.desktop_definitions.specs.Sound.{Grows}
 use Rattle.desktop_definitions.specs.Step.{step}
-use Rattle.sector_disk.specs.declared.disk.TheConstants.{SECTOR_BYTES}
 use Rattle.store_layout.specs.declared.head.Head.{Head}
 use Rattle.store_layout.specs.declared.layout.TheConstants.{JOURNAL_EVENTS}
 use Rattle.store_layout.specs.Layout.{is_open, slot_gate, slot_head, gate, body, image_at, head}
-use Rattle.store_layout.specs.Meaning.{IsJournal, HasImage, Standing, Stands, Shows}
+use Rattle.store_layout.specs.Meaning.{IsJournal, HasImage, Standing, Stands, Shows, full_sectors}
 use Rattle.store_layout.specs.Footprint.{IsLedTo}
 use Rattle.store_layout.specs.Finding.{IsNoEvent, AreShut, HasBadHead, IsDamage, IsDamagedAt}
-use Rattle.store_layout.specs.Kept.{IsKept, IsFront}
+use Rattle.store_layout.specs.Kept.{IsKept}
+use Rattle.char_pages.specs.Pages.{saved_sectors}
+use Rattle.desk_slots.specs.declared.live.LiveDesktop.{LiveDesktop}
+use Rattle.desk_slots.specs.Live.{IsNamed}
 use Rattle.desk_slots.specs.Load.{IsLocated, IsReadTo, IsReadWhole}
-use Rattle.desk_slots.proofs.Recording.{steps_on, front_longer}
+use Rattle.desk_slots.proofs.Recording.{steps_on}
 
 -- ---- the journal
 
@@ -79,14 +80,6 @@ not_read c slot k from to was room opened none = record {
       was.each;
   none = none;
 }
-
--- ---- characters that only grow
-
-pub grown_on : (old mid new : List ℕ) → Grows old mid → Grows mid new → Grows old new
-grown_on old mid new first second = (
-  first.0 ++ second.0,
-  second.1 ∙ ap (λ l. l ++ second.0) first.1 ∙ append_assoc old first.0 second.0,
-)
 
 -- ---- the whole
 
@@ -183,14 +176,11 @@ module _ {size slot : ℕ} {h : Head} {old mid : Trail} (found : IsLocated size 
         is = sym whole.is;
       }
 
--- the characters in the area, where more were written and the disk was only read
-pub front_after : {old mid late last : Trail} {slot saved : ℕ} {h : Head} {characters more : List ℕ}
-    → head (now old).reads slot ≡ h → Touches Nowhere old mid → Touches Nowhere mid late → Touches Nowhere late last
-    → (head (now mid).reads slot ≡ h → IsFront (now mid).reads slot saved characters)
-    → SECTOR_BYTES * saved ≤ length characters → Grows characters more → IsFront (now last).reads slot saved more
-front_after {old = old} {mid = mid} {late = late} {last = last} {slot = slot} {saved = saved} {h = h}
-    {characters = characters} {more = more} is first second third has within grows =
-    front_longer (now last).reads slot saved characters more within grows
-    (subst (λ c. IsFront c slot saved characters)
-    (sym (still_all late last third ∙ still_all mid late second))
-    (has (ap (λ c. head c slot) (still_all old mid first) ∙ is)))
+-- the head that was found names what the desktop of it has in the area, after reads
+pub named_after : {old mid late last : Trail} (slot : ℕ) {h : Head} (live : LiveDesktop) → head (now old).reads slot ≡ h
+    → Touches Nowhere old mid → Touches Nowhere mid late → Touches Nowhere late last
+    → saved_sectors live.pages ≡ full_sectors h.written → IsNamed (now last).reads slot live
+named_after {old = old} {mid = mid} {late = late} {last = last} slot live is first second third counted =
+    ap (λ x. full_sectors x.written)
+    (ap (λ c. head c slot) (still_all late last third ∙ still_all mid late second ∙ still_all old mid first) ∙ is)
+    ∙ sym counted

@@ -5,7 +5,7 @@ use Rattle.std.proofs.Math.Seq.{take-append_seam, drop-append_seam}
 use Rattle.std.proofs.lemmas.List.{take-append-drop, length-drop}
 use Rattle.sector_disk.specs.declared.disk.TheConstants.{SECTOR_BYTES}
 use Rattle.sector_disk.specs.Trail.{Moment, written, settled}
-use Rattle.sector_streams.specs.Stored.{stored, stored_same}
+use Rattle.sector_disk.specs.Stored.{stored, stored_same}
 use Rattle.sector_streams.proofs.Filled.{reads_here, reads_elsewhere}
 use Rattle.desktop_definitions.specs.Desktop.{KeptDesktop}
 use Rattle.desktop_definitions.specs.Limits.{most_written}
@@ -20,10 +20,7 @@ use Rattle.store_layout.specs.Meaning.{Makes, full_sectors, left_over}
 use Rattle.store_layout.specs.Kept.{HasFront, IsNewSlot}
 use Rattle.store_layout.specs.StandingLaws.{has_front_stays}
 use Rattle.desk_slots.specs.Written.{IsFilled}
-
-as_kept : (characters : List ℕ) (d : KeptDesktop) → (seen characters d).written ≡ d.written
-unfolding seen
-as_kept characters d = refl
+use Rattle.desk_slots.proofs.Counting.{as_kept}
 
 -- as many characters were written as there are
 pub all_written : (characters : List ℕ) (d : KeptDesktop) → IsOver characters d
@@ -31,7 +28,7 @@ pub all_written : (characters : List ℕ) (d : KeptDesktop) → IsOver character
 all_written characters d over = as_kept characters d ∙ sym over.counted
 
 -- the area has room for them
-pub few_characters : (characters : List ℕ) (d : KeptDesktop) → IsOver characters d → length characters ≤ most_written
+few_characters : (characters : List ℕ) (d : KeptDesktop) → IsOver characters d → length characters ≤ most_written
 few_characters characters d over = subst (λ n. n ≤ most_written) (all_written characters d over)
     (over.whole.sound characters).written_within
 

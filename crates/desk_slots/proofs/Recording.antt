@@ -1,7 +1,6 @@
 -- What the writes of one event make of a settled disk.
-use Rattle.std.proofs.Common.{◌≡◌, ◌≢◌, ◌⊎◌, inl, inr, ℕ, ◌+◌, ◌*◌, ◌<◌, ◌≤◌, List, [], ◌∷◌, ◌++◌, length, take}
+use Rattle.std.proofs.Common.{◌≡◌, ◌≢◌, ◌⊎◌, inl, inr, ℕ, ◌+◌, ◌<◌, List, [], ◌∷◌, ◌++◌, length}
 use Rattle.std.proofs.Common.{length-append, refl, sym, ◌∙◌, ap, subst, arith, true, false}
-use Rattle.std.proofs.lemmas.List.{take-append-le}
 use Rattle.sector_disk.specs.declared.disk.Disk.{Ghosts}
 use Rattle.sector_disk.specs.Confined.{IsConfined}
 use Rattle.sector_disk.specs.Trail.{Content, Trail, now, LeavesOnly, Touches, Only, Nowhere}
@@ -9,16 +8,14 @@ use Rattle.sector_disk.proofs.Touching.{spared, weakened, chained, at_last, stil
 use Rattle.event_bytes.specs.declared.event.Event.{Event}
 use Rattle.event_bytes.specs.Spelling.{Begins}
 use Rattle.desktop_definitions.specs.Desktop.{Desktop}
-use Rattle.desktop_definitions.specs.Sound.{Grows}
 use Rattle.desktop_definitions.specs.Step.{step, steps}
-use Rattle.sector_disk.specs.declared.disk.TheConstants.{SECTOR_BYTES}
 use Rattle.store_layout.specs.declared.layout.TheConstants.{JOURNAL_EVENTS, LABEL, SLOTS}
 use Rattle.store_layout.specs.Bits.{true_or_false}
 use Rattle.store_layout.specs.Layout.{is_open, slot_gate, slot_head, gate, body, image_at, area_at}
 use Rattle.store_layout.specs.Meaning.{IsJournal, Standing, desktop_of, Stands, Means, MeansEither, and_then}
-use Rattle.store_layout.specs.Kept.{IsSettled, IsKept, IsFront, NextRecord, IsStaged}
-use Rattle.store_layout.specs.StandingLaws.{IsApart, carried_on, footprint, front_stays, older_stays}
-use Rattle.desk_slots.specs.Written.{HasRecord}
+use Rattle.store_layout.specs.Kept.{IsSettled, IsKept, NextRecord, IsStaged}
+use Rattle.store_layout.specs.StandingLaws.{IsApart, carried_on, footprint, older_stays}
+use Rattle.desk_slots.specs.Written.{HasRecord, InRecord}
 use Rattle.desk_slots.proofs.Settling.{kept_on, means_on}
 
 -- one event more
@@ -207,44 +204,14 @@ module _ {size : ℕ} {d : Trail} {live number count : ℕ} {desktop : Desktop}
           (sealed size first new s event count desktop (sym kept.events) room kept.is staged seals_here
           (subst (λ n. is_open ((now new).reads (gate n count)) ≡ true) (sym kept.slot) opened) silent))
 
--- ---- the characters in the area
-
--- what is written to a journal leaves them
-front_over : (area : ℕ → Type 0) (old new : Trail) (live saved : ℕ) (characters : List ℕ) → live < SLOTS
-    → ((n : ℕ) → area n → (gate 0 0 ≤ n) × (n < area_at 0)) → Touches area old new
-    → IsFront (now old).reads live saved characters → IsFront (now new).reads live saved characters
-front_over area old new live saved characters low within run was =
-    front_stays (now old).reads (now new).reads live saved characters
-    (still_reads old new run (slot_head live) (λ out. let bounds = within (slot_head live) out in
-    omega (arith, bounds.0, low)))
-    (λ k few. still_reads old new run (area_at k) (λ out. let bounds = within (area_at k) out in
-    omega (arith, bounds.1)))
-    was
-
-pub front_staged : (old new : Trail) (live k saved : ℕ) (characters : List ℕ) → live < SLOTS → k < JOURNAL_EVENTS
-    → Touches (NextRecord live k) old new
-    → IsFront (now old).reads live saved characters → IsFront (now new).reads live saved characters
-front_staged old new live k saved characters low index run was =
-    front_over (NextRecord live k) old new live saved characters low (λ n place. elim place [
-      | inl a ↦ (omega (arith, a), omega (arith, a, low, index))
-      | inr a ↦ (omega (arith, a.0), omega (arith, a.0, low, index))
-    ]) run was
-
-pub front_sealed : (old new : Trail) (live k saved : ℕ) (characters : List ℕ) → live < SLOTS → k < JOURNAL_EVENTS
-    → Touches (Only (gate live k)) old new
-    → IsFront (now old).reads live saved characters → IsFront (now new).reads live saved characters
-front_sealed old new live k saved characters low index run was =
-    front_over (Only (gate live k)) old new live saved characters low
-    (λ n only. (omega (arith, only), omega (arith, only, low, index))) run was
-
--- more characters behind them
-pub front_longer : (c : Content) (live saved : ℕ) (old new : List ℕ) → SECTOR_BYTES * saved ≤ length old → Grows old new
-    → IsFront c live saved old → IsFront c live saved new
-front_longer c live saved old new within grown was = record {
-  named = was.named;
-  same = was.same ∙ sym (ap (take (SECTOR_BYTES * saved)) grown.1
-      ∙ take-append-le (SECTOR_BYTES * saved) old grown.0 within);
-}
+-- the head of the slot is as it was
+pub head_stays : (old new : Trail) (slot k : ℕ) → slot < SLOTS → k < JOURNAL_EVENTS → Touches (InRecord slot k) old new
+    → (now new).reads (slot_head slot) ≡ (now old).reads (slot_head slot)
+head_stays old new slot k low index run = still_reads old new run (slot_head slot) (λ within. elim within [
+  | inl (inl a) ↦ omega (arith, a, low)
+  | inl (inr a) ↦ omega (arith, a.0, low)
+  | inr a ↦ omega (arith, a, low)
+])
 
 -- ---- reads, and then the record
 module _ {D : Type 0} (d : Ghosts D) {old mid : D} (run : IsConfined d.size d.honest d.trail Nowhere old mid)

@@ -1,16 +1,23 @@
 -- The three steps of a checkpoint: the gate of the other slot is closed, the slot is filled, its gate is opened.
-use Rattle.std.proofs.Common.{◌≡◌, inl, inr, ℕ, ◌+◌, ◌<◌, List, [], length, refl, sym, ◌∙◌, ap, subst}
+use Rattle.std.proofs.Common.{◌≡◌, inl, inr, ℕ, ◌+◌, ◌*◌, ◌<◌, List, [], length, refl, sym, ◌∙◌, ap, subst}
 use Rattle.std.proofs.Common.{arith, true, false}
-use Rattle.sector_disk.specs.Trail.{Trail, now, LeavesOnly, Touches, Only}
+use Rattle.sector_disk.specs.declared.disk.TheConstants.{SECTOR_BYTES}
+use Rattle.sector_disk.specs.Trail.{Content, Moment, Trail, now, LeavesOnly, Touches, Only}
 use Rattle.sector_disk.proofs.Touching.{spared, still_reads, at_last, read_is_an_image, weakened, chained}
+use Rattle.char_pages.specs.Pages.{saved_of, saved_sectors}
 use Rattle.desktop_definitions.specs.Desktop.{Desktop}
+use Rattle.desktop_definitions.specs.Seen.{seen}
+use Rattle.store_layout.specs.declared.layout.TheConstants.{SLOTS}
 use Rattle.store_layout.specs.Bits.{true_or_false, clash}
-use Rattle.store_layout.specs.Layout.{is_open, slot_gate, slot_head, area_at, head}
+use Rattle.store_layout.specs.Layout.{is_open, slot_gate, slot_head, area_at, head, head_of}
 use Rattle.store_layout.specs.Meaning.{Standing, Stands, Means, desktop_of, full_sectors}
-use Rattle.store_layout.specs.Kept.{IsSettled, IsFront, HasFront, OpenGate, InCheckpoint, IsNewSlot}
+use Rattle.store_layout.specs.Kept.{IsSettled, IsKept, IsFront, HasFront, OpenGate, InCheckpoint, IsNewSlot}
 use Rattle.store_layout.specs.StandingLaws.{footprint, other_gate, behind_closed, new_slot, either_slot, front_stays}
+use Rattle.desk_slots.specs.declared.live.LiveDesktop.{LiveDesktop}
 use Rattle.desk_slots.specs.declared.place.Place.{Place}
-use Rattle.desk_slots.specs.Written.{HasGate, IsFilled, IsBeside, IsInPlace}
+use Rattle.desk_slots.specs.Live.{characters_of, shown, IsLive, IsNamed}
+use Rattle.desk_slots.specs.Written.{HasGate, IsFilled, IsBeside, InRenewal}
+use Rattle.desk_slots.proofs.Staying.{characters_stay, apart_renewal}
 
 -- a gate is in no checkpoint
 gate_outside : (slot saved : ℕ) → slot < 2 → InCheckpoint slot saved (slot_gate slot) → ⊥
@@ -21,8 +28,8 @@ gate_outside slot saved low within = elim within [
   | inr a ↦ omega (arith, a.0, low)
 ]
 
-module _ {place : Place} {size live number count : ℕ} {characters : List ℕ} {desktop : Desktop} {old first : Trail}
-    (was : IsBeside place size old live number count characters desktop)
+module _ {place : Place} {size live number count : ℕ} {desktop : Desktop} {old first : Trail}
+    (was : IsBeside place size old live number count desktop)
     (closes : Touches (OpenGate (now old).reads place.slot) old first) where
   abbrev idle : ℕ
   idle = place.slot
@@ -48,11 +55,10 @@ module _ {place : Place} {size live number count : ℕ} {characters : List ℕ} 
   pub one_step : LeavesOnly old first (Means size desktop)
   one_step = as_desktop closing
 
-  -- the characters that the slot in use names are there still
-  front_there : IsFront (now first).reads live place.saved characters
-  front_there = front_stays (now old).reads (now first).reads live place.saved characters
-      (still_reads old first closes (slot_head live) (λ within. omega (arith, within.0, was.two)))
-      (λ k low. still_reads old first closes (area_at k) (λ within. omega (arith, within.0, was.two))) was.front
+  -- the head of the slot in use names the same sectors
+  still_named : full_sectors (head (now first).reads live).written ≡ place.saved
+  still_named = ap (λ b. full_sectors (head_of b).written)
+      (still_reads old first closes (slot_head live) (λ within. omega (arith, within.0, was.two))) ∙ was.named
 
   module _ {second : Trail} (closed : HasGate (now first) idle false)
       (fills : Touches (InCheckpoint idle place.saved) first second) where
@@ -65,17 +71,14 @@ module _ {place : Place} {size live number count : ℕ} {characters : List ℕ} 
     filling : LeavesOnly first second (λ c. Stands size c s)
     filling = spared (λ c. Stands size c s) closed.quiet fills (λ c same.
         behind_closed (now first).reads c s idle place.saved sum after_one.stands closed.is
-        (ap (λ n. full_sectors (head (now first).reads n).written) was.kept.slot ∙ front_there.named) same)
+        (ap (λ n. full_sectors (head (now first).reads n).written) was.kept.slot ∙ still_named) same)
 
     pub two_steps : LeavesOnly old second (Means size desktop)
     two_steps = chained one_step (as_desktop filling)
 
-    module _ {new : Trail} (fresh : HasFront (now first).reads place.saved characters
-        → IsFilled (now second) idle place.epoch characters desktop)
+    module _ {new : Trail} {characters : List ℕ}
+        (filled : IsFilled (now second) idle place.epoch characters desktop)
         (opens : Touches (Only (slot_gate idle)) second new) where
-      filled : IsFilled (now second) idle place.epoch characters desktop
-      filled = fresh front_there.same
-
       stands_still : Stands size (now second).reads s
       stands_still = at_last filling (now second).reads (read_is_an_image (now second))
 
@@ -95,21 +98,61 @@ module _ {place : Place} {size live number count : ℕ} {characters : List ℕ} 
           (spared (Means size (desktop_of s)) filled.quiet opens (λ c same.
           either_slot (now second).reads c s idle sum stands_still still_closed fresh_too same)))
 
-      pub now_new : HasGate (now new) idle true → IsInPlace place size new characters desktop
-      now_new opened = (
-        record {
-          standing = record { slot = idle; epoch = s.epoch + 1; start = desktop_of s; events = [] };
-          settled = record {
-            quiet = opened.quiet;
-            stands = new_slot (now second).reads (now new).reads s idle (desktop_of s) sum stands_still fresh_too
-                (λ n other. still_reads second new opens n other) opened.is;
-          };
-          slot = refl;
-          epoch = sym epoch_is;
-          events = refl;
-          is = was.kept.is;
-        },
-        front_stays (now second).reads (now new).reads idle (full_sectors (length characters)) characters
-            (still_reads second new opens (slot_head idle) (omega arith))
-            (λ k low. still_reads second new opens (area_at k) (omega (arith, was.two))) filled.front,
-      )
+      pub now_new : HasGate (now new) idle true → IsKept size new place.slot place.epoch 0 desktop
+      now_new opened = record {
+        standing = record { slot = idle; epoch = s.epoch + 1; start = desktop_of s; events = [] };
+        settled = record {
+          quiet = opened.quiet;
+          stands = new_slot (now second).reads (now new).reads s idle (desktop_of s) sum stands_still fresh_too
+              (λ n other. still_reads second new opens n other) opened.is;
+        };
+        slot = refl;
+        epoch = sym epoch_is;
+        events = refl;
+        is = was.kept.is;
+      }
+
+-- ---- what is written of a desktop
+
+-- closing the gate leaves what it shows
+pub filled_still : (old first : Trail) (m : Moment) (number : ℕ) (place : Place) (live : LiveDesktop) → IsLive live
+    → Touches (OpenGate (now old).reads place.slot) old first
+    → IsFilled m place.slot number (characters_of (now first).reads live) (shown (now first).reads live)
+    → IsFilled m place.slot number (characters_of (now old).reads live) (shown (now old).reads live)
+filled_still old first m number place live is closes filled =
+    subst (λ l. IsFilled m place.slot number l (seen l live.desktop)) (characters_stay old first live.pages closes
+    (λ n from to within. omega (arith, is.based, from, within.0, place.two))) filled
+
+-- so does opening it
+pub front_still : (second new : Trail) (slot n : ℕ) (characters : List ℕ) → slot < SLOTS
+    → Touches (Only (slot_gate slot)) second new → IsFront (now second).reads slot n characters
+    → IsFront (now new).reads slot n characters
+front_still second new slot n characters low opens =
+    front_stays (now second).reads (now new).reads slot n characters
+    (still_reads second new opens (slot_head slot) (omega arith))
+    (λ k few. still_reads second new opens (area_at k) (omega (arith, low)))
+
+-- The desktop that stands in the slot, and then the characters in memory that stand in the area are given up. `old` and
+-- `new` are the disk before and after, and `live` and `done` the desktop.
+module _ (old new : Trail) (place : Place) (live done : LiveDesktop) (is : IsLive live)
+    (saved : place.saved ≡ saved_sectors live.pages) (run : Touches (InRenewal place) old new)
+    (front : IsFront (now new).reads place.slot (full_sectors (length (characters_of (now old).reads live)))
+    (characters_of (now old).reads live))
+    (kept : done.desktop ≡ live.desktop) (settles : (c : Content) → HasFront c (full_sectors live.desktop.written)
+    (characters_of c live) → characters_of c done ≡ characters_of c live) where
+  stay : characters_of (now new).reads live ≡ characters_of (now old).reads live
+  stay = characters_stay old new live.pages run (apart_renewal live.pages place is.based saved)
+
+  counted : length (characters_of (now old).reads live) ≡ live.desktop.written
+  counted = (is.over (now old).reads).counted
+
+  there : HasFront (now new).reads (full_sectors live.desktop.written) (characters_of (now new).reads live)
+  there = subst (λ l. HasFront (now new).reads (full_sectors live.desktop.written) l) (sym stay)
+      (subst (λ n. HasFront (now new).reads (full_sectors n) (characters_of (now old).reads live)) counted front.same)
+
+  pub shown_settled : shown (now new).reads done ≡ shown (now old).reads live
+  shown_settled = λ i. seen ((settles (now new).reads there ∙ stay) i) (kept i)
+
+  pub named_settled : saved_of done.pages ≡ SECTOR_BYTES * full_sectors live.desktop.written
+      → IsNamed (now new).reads place.slot done
+  named_settled saved_is = omega (arith, front.named, counted, saved_is)

@@ -1,28 +1,20 @@
 -- What a slot starts from: the characters of the area and of its image, and its desktop.
-use Rattle.std.proofs.Common.{◌≡◌, ℕ, ◌+◌, ◌*◌, ◌<◌, ◌≤◌, List, [], ◌∷◌, ◌++◌}
+use Rattle.std.proofs.Common.{◌≡◌, ℕ, ◌+◌, ◌<◌, ◌≤◌, List, [], ◌∷◌, ◌++◌}
 use Rattle.std.proofs.Common.{length, take, drop, length-append, append_assoc}
 use Rattle.std.proofs.Common.{sym, ◌∙◌, ap, subst, arith}
 use Rattle.std.specs.Prelude.{set}
 use Rattle.std.proofs.lemmas.List.{take_more_set, take_at, drop_at, length-take-le}
 use Rattle.sector_disk.specs.Trail.{Content}
-use Rattle.sector_streams.specs.Stored.{stored, length-stored, sector_more}
-use Rattle.sector_disk.specs.declared.disk.TheConstants.{SECTOR_BYTES}
+use Rattle.sector_disk.specs.Stored.{stored}
 use Rattle.desk_image.specs.Image.{Spells}
 use Rattle.desktop_definitions.specs.Desktop.{Desktop, KeptDesktop}
 use Rattle.desktop_definitions.specs.Seen.{seen}
 use Rattle.store_layout.specs.declared.head.Head.{Head}
-use Rattle.store_layout.specs.Layout.{area_at, image_at, head}
+use Rattle.store_layout.specs.Layout.{image_at, head}
 use Rattle.store_layout.specs.Meaning.{Makes, HasImage, area_bytes, full_sectors, left_over}
-use Rattle.store_layout.specs.Kept.{IsFront}
+use Rattle.desk_slots.specs.declared.live.LiveDesktop.{LiveDesktop}
+use Rattle.desk_slots.specs.Live.{characters_of, shown}
 use Rattle.desk_slots.specs.Load.{IsStart}
-
--- ---- the area
-
--- one sector more
-pub sector_added : (c : Content) (k : ℕ) (sector old new : List ℕ) → new ≡ old ++ sector → sector ≡ c (area_at k)
-    → length sector ≡ SECTOR_BYTES → old ≡ area_bytes c k → new ≡ area_bytes c (k + 1)
-sector_added c k sector old new is bytes wide was = is ∙ ap (λ l. l ++ sector) was
-    ∙ sym (sector_more c (area_at 0) k sector (sym bytes) wide)
 
 -- ---- bytes that are taken into a sector: so far i of them, and the rest is to come
 
@@ -57,15 +49,13 @@ all_taken old tail rest count was room = record {
 
 -- ---- the slot
 
--- the start of a slot, by other names of its bytes and of the characters of the area
-pub start_from : {honest honest' : Type 0} {bytes bytes' area area' characters : List ℕ} {written : ℕ} {d : KeptDesktop}
-    → (honest → honest') → (honest → bytes' ≡ bytes) → (honest → area' ≡ area)
-    → IsStart honest' bytes' written area' characters d → IsStart honest bytes written area characters d
-start_from {written = written} {d = d} still bytes area start = record {
-  tail = λ h. start.tail (still h) ∙ (λ i. area h i ++ take (left_over written) (bytes h i));
-  enough = λ h. subst (λ l. left_over written ≤ length l) (bytes h) (start.enough (still h));
-  spelled = λ h. subst (λ l. Spells written (drop (left_over written) l) d) (bytes h) (start.spelled (still h));
-  long = start.long;
+-- the start of a slot, by another name of its bytes
+pub start_from : {honest : Type 0} {bytes bytes' tail : List ℕ} {written : ℕ} {d : KeptDesktop}
+    → (honest → bytes' ≡ bytes) → IsStart honest bytes' written tail d → IsStart honest bytes written tail d
+start_from {written = written} {d = d} same start = record {
+  front = λ h. start.front h ∙ ap (take (left_over written)) (same h);
+  enough = λ h. subst (λ l. left_over written ≤ length l) (same h) (start.enough h);
+  spelled = λ h. subst (λ l. Spells written (drop (left_over written) l) d) (same h) (start.spelled h);
   whole = start.whole;
   count = start.count;
 }
@@ -87,18 +77,22 @@ module _ (c : Content) (slot : ℕ) (h : Head) (is : head c slot ≡ h) where
       is = ap (λ l. seen l d) (sym made);
     })
 
-    pub front_loaded : IsFront c slot (full_sectors h.written) characters
-    front_loaded = record {
-      named = ap (λ x. full_sectors x.written) is;
-      same = sym (ap (take (SECTOR_BYTES * full_sectors h.written)) made
-          ∙ take_at (area_bytes c (full_sectors h.written))
-          (take (left_over h.written) (stored c (image_at slot) h.extent))
-          (SECTOR_BYTES * full_sectors h.written)
-          (length-stored c (area_at 0) (SECTOR_BYTES * full_sectors h.written)));
-    }
-
   pub none_loaded : (left_over h.written ≤ length (stored c (image_at slot) h.extent) → (d : KeptDesktop)
       → Spells h.written (drop (left_over h.written) (stored c (image_at slot) h.extent)) d → ⊥)
       → (start : Desktop) → HasImage c slot start → ⊥
   none_loaded none start has = let made : MadeBy start h = subst (MadeBy start) is has in
       none made.tail made.kept made.spells
+
+-- a live desktop of what was read shows it, over the same content by another name
+pub shown_by : (c c' : Content) (slot : ℕ) (h : Head) → c' ≡ c → head c slot ≡ h → (tail : List ℕ) (d : KeptDesktop)
+    (live : LiveDesktop) → live.desktop ≡ d
+    → characters_of c live ≡ area_bytes c (full_sectors h.written) ++ take (left_over h.written) tail
+    → take (left_over h.written) tail ≡ take (left_over h.written) (stored c (image_at slot) h.extent)
+    → left_over h.written ≤ length (stored c (image_at slot) h.extent)
+    → Spells h.written (drop (left_over h.written) (stored c (image_at slot) h.extent)) d
+    → HasImage c slot (shown c' live)
+shown_by c c' slot h same is tail d live desktop characters front enough spelled =
+    subst (λ (content : Content). HasImage c slot (shown content live)) (sym same)
+    (subst (λ k. HasImage c slot (seen (characters_of c live) k)) (sym desktop)
+    (image_loaded c slot h is (characters_of c live)
+    (characters ∙ ap (λ l. area_bytes c (full_sectors h.written) ++ l) front) d enough spelled))

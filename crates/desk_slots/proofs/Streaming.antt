@@ -1,13 +1,27 @@
 -- Bytes that were put into the sectors of an image.
-use Rattle.std.proofs.Common.{◌≡◌, ℕ, ◌+◌, ◌*◌, ◌≤◌, List, ◌++◌, length, sym, ◌∙◌, ap, subst, arith}
+use Rattle.std.proofs.Common.{◌≡◌, ℕ, ◌+◌, ◌*◌, ◌≤◌, List, ◌++◌, length, refl, sym, ◌∙◌, ap, subst, arith}
 use Rattle.std.proofs.Common.{length-append}
 use Rattle.sector_disk.specs.declared.disk.TheConstants.{SECTOR_BYTES}
 use Rattle.sector_disk.specs.Trail.{Content}
 use Rattle.sector_streams.specs.declared.filling.Filling.{Filling}
 use Rattle.sector_streams.specs.Filling.{first_sector, most_sectors}
-use Rattle.sector_streams.specs.Stored.{Holds, stored, stored_held}
+use Rattle.sector_disk.specs.Stored.{Holds, stored, stored_held}
+use Rattle.desktop_definitions.specs.Desktop.{KeptDesktop}
+use Rattle.desktop_definitions.specs.Sound.{IsKeptWhole}
 use Rattle.desk_image.specs.declared.limits.TheConstants.{IMAGE_BYTES}
+use Rattle.desk_image.specs.Image.{image_of, image_bytes, IsSpellable}
+use Rattle.desk_image.specs.Laws.{RoomLaw}
+use Rattle.store_layout.specs.Meaning.{left_over}
 use Rattle.store_layout.specs.declared.layout.TheConstants.{IMAGE_SECTORS}
+
+-- the characters that are left over and the image have room in a slot
+pub has_room : (d : KeptDesktop) (tail : List ℕ) (count : ℕ) → IsKeptWhole d → IsSpellable d
+    → length tail ≡ left_over d.written → count ≡ length (image_bytes (image_of d)) → RoomLaw
+    → length tail + count ≤ IMAGE_BYTES
+has_room d tail count whole parts tail_is count_is law =
+    let room = law d.written (image_bytes (image_of d)) d
+    (record { count = refl; whole = whole; parts = parts; exact = refl }) in
+    omega (arith, tail_is, count_is, room)
 
 -- bytes that fit are stored there, where the last sector was written
 pub all_stored : (c : Content) (f : Filling) (at count : ℕ) (tail bytes : List ℕ) → first_sector f ≡ at

@@ -1,5 +1,5 @@
 -- What opening a store has found and read: the slot in use, what it starts from, and how far its journal goes.
-use Rattle.std.specs.Prelude.{◌≡◌, ◌*◌, ◌<◌, ◌≤◌, ◌++◌, ℕ, List, length, take, drop}
+use Rattle.std.specs.Prelude.{◌≡◌, ◌<◌, ◌≤◌, ◌++◌, ℕ, List, length, take, drop}
 use Rattle.std.specs.Prelude.{nat_lt, if◌then◌else◌, Option, Some, None, true}
 use Rattle.sector_disk.specs.Trail.{Content}
 use Rattle.event_bytes.specs.declared.event.Event.{Event}
@@ -10,14 +10,13 @@ use Rattle.desktop_definitions.specs.Step.{steps}
 use Rattle.desk_image.specs.declared.fault.ImageFault.{ImageFault}
 use Rattle.desk_image.specs.declared.fault.ImageFault.TheVariants.{Damaged as BadImage, Fault as Failed}
 use Rattle.desk_image.specs.declared.fault.ImageFault.TheVariants.{NoMemory as Refused}
-use Rattle.sector_disk.specs.declared.disk.TheConstants.{SECTOR_BYTES}
 use Rattle.desk_image.specs.Image.{Spells}
 use Rattle.store_layout.specs.declared.head.Head.{Head}
-use Rattle.store_layout.specs.declared.layout.TheConstants.{AREA_SECTORS, LABEL, STORE_SECTORS}
+use Rattle.store_layout.specs.declared.layout.TheConstants.{LABEL, STORE_SECTORS}
 use Rattle.store_layout.specs.Layout.{is_label, body, image_at, head}
 use Rattle.desk_slots.specs.declared.error.Error.{Error}
 use Rattle.desk_slots.specs.declared.error.Error.TheVariants.{NoMemory, Fault, Damaged}
-use Rattle.store_layout.specs.Meaning.{IsJournal, full_sectors, left_over}
+use Rattle.store_layout.specs.Meaning.{IsJournal, left_over}
 use Rattle.store_layout.specs.Finding.{AreHeadsGood}
 use Rattle.store_layout.specs.Footprint.{IsLedTo, IsInUse}
 
@@ -37,23 +36,15 @@ pub record IsReadWhole (c : Content) (slot count : ℕ) (from to : Desktop) : Ty
   pub journal : IsJournal c slot 0 events
   pub is : to ≡ steps from events
 
--- of so many characters those in whole sectors were read, and the area has room for all
-pub record IsAreaRead (written : ℕ) (characters : List ℕ) : Type 0 where
-  pub long : length characters ≡ SECTOR_BYTES * full_sectors written
-  pub few : written ≤ SECTOR_BYTES * AREA_SECTORS
-
--- The start of a slot was read from the bytes of its image: the characters at their front stand behind those of the
--- area, and the rest of the bytes spells the desktop.
-pub record IsStart (honest : Type 0) (bytes : List ℕ) (written : ℕ) (area characters : List ℕ) (d : KeptDesktop)
-    : Type 0
-  where
-    pub tail : honest → characters ≡ area ++ take (left_over written) bytes
-    pub enough : honest → left_over written ≤ length bytes
-    pub spelled : honest → Spells written (drop (left_over written) bytes) d
-    -- whatever was read
-    pub long : length characters ≡ written
-    pub whole : IsKeptWhole d
-    pub count : d.written ≡ written
+-- The start of a slot was read from the bytes of its image: the characters at their front stand at the front of a sector,
+-- and the rest of the bytes spells the desktop.
+pub record IsStart (honest : Type 0) (bytes : List ℕ) (written : ℕ) (tail : List ℕ) (d : KeptDesktop) : Type 0 where
+  pub front : honest → take (left_over written) tail ≡ take (left_over written) bytes
+  pub enough : honest → left_over written ≤ length bytes
+  pub spelled : honest → Spells written (drop (left_over written) bytes) d
+  -- whatever was read
+  pub whole : IsKeptWhole d
+  pub count : d.written ≡ written
 
 -- behind the characters at the front of these bytes no desktop is spelled
 abbrev pub HasNoStart : List ℕ → ℕ → Type 0

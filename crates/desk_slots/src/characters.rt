@@ -1,27 +1,30 @@
-//! Loading what a slot starts from: its characters and its desktop. Nothing is written.
+//! Loading what a slot starts from: its desktop, and the characters that its image has. Those of the area stay on the disk.
+//! Nothing is written.
 ghost use Rattle.std.specs.Prelude.{◌≡◌, ◌+◌, ◌*◌, ◌<◌, ◌≤◌, ◌++◌, ◌∷◌, [], ℕ, OnOk, IfOk, IsErrOf, length, take, drop};
+ghost use Rattle.sector_disk.specs.Trail.{Content};
+ghost use Rattle.sector_disk.specs.Stored.{stored};
 ghost use Rattle.sector_streams.specs.Draining.{IsLoaded, IsOnDisk, bytes_left};
-ghost use Rattle.sector_streams.specs.Stored.{stored};
+ghost use Rattle.char_pages.specs.Pages.{saved_sectors, cached_of};
 ghost use Rattle.desktop_definitions.specs.Desktop.{Desktop as ADesktop};
+ghost use Rattle.desktop_definitions.specs.Sound.{IsKeptWhole};
 ghost use Rattle.desk_image.specs.Passing.{OnlyGets};
 ghost use Rattle.desk_image.specs.Streams.{IsImageFault};
 ghost use Rattle.store_layout.specs.Layout.{head as head_at, image_at, IsGoodHead};
-ghost use Rattle.store_layout.specs.Meaning.{HasImage, area_bytes, full_sectors};
-ghost use Rattle.store_layout.specs.Kept.{IsFront};
+ghost use Rattle.store_layout.specs.Meaning.{HasImage, area_bytes, full_sectors, left_over};
 ghost use Rattle.desk_slots.specs.Errors.{OfReplay};
-ghost use Rattle.desk_slots.specs.Live.{shown, IsLive};
-ghost use Rattle.desk_slots.specs.Load.{image_error, IsAreaRead, IsStart, HasNoStart};
-ghost use Rattle.desk_slots.specs.Words.{Nowhere, now, IsConfined, FailsAs, OneOf};
+ghost use Rattle.desk_slots.specs.Live.{characters_of, shown, IsLive, IsTold};
+ghost use Rattle.desk_slots.specs.Load.{image_error, IsStart, HasNoStart};
+ghost use Rattle.desk_slots.specs.Words.{Nowhere, now, IsConfined, FailsAs};
 
 use crate::Error;
 use crate::live::LiveDesktop;
-use char_file::{CharFile, CharSource};
+use char_pages::Pages;
 use desk_image::{ByteSource, ImageFault};
 use event_loop::Desktop;
-use sector_disk::{Disk, SECTOR_BYTES};
+use sector_disk::{Disk, SECTOR_BYTES, Sector};
 use sector_streams::{Draining, SectorSource};
-use std::alloc::Global;
-use store_layout::{AREA_SECTORS, Head, SLOTS, STORE_SECTORS, area_at, image_at};
+use std::alloc::{AllocError as NoMemory, Global};
+use store_layout::{Head, SLOTS, STORE_SECTORS, area_at, image_at};
 
 /// Why a store isn't opened, where its image isn't read: it is damaged at the image's first sector, or for the same
 /// reason.
@@ -36,67 +39,27 @@ fn error_of(fault: ImageFault, slot: u32) -> Error
     }
 }
 
-/// Reads sector k of the area after those before it.
-fn load_sector<D: Disk>(disk: &mut D, k: u32, characters: &mut CharFile) -> Result<(), ImageFault>
-    requires room { STORE_SECTORS ≤ D.size disk.old }
-    requires index { k < AREA_SECTORS }
-    requires long { length characters.old ≡ SECTOR_BYTES * k }
-    ensures kept { IsConfined D.size D.honest D.trail Nowhere disk.old disk.new }
-    ensures faults { FailsAs ImageFault.Fault (OneOf (ImageFault.Fault ∷ ImageFault.NoMemory ∷ [])) result
-        (D.failures disk.old) (D.failures disk.new) }
-    ensures longer { OnOk result (length characters.new ≡ SECTOR_BYTES * (k + 1)) }
-    ensures read { OnOk result (D.honest disk.old → characters.old ≡ area_bytes (now (D.trail disk.old)).reads k
-        → characters.new ≡ area_bytes (now (D.trail disk.old)).reads (k + 1)) }
-{
-    let mut sector = [0; SECTOR_BYTES as usize];
-    disk.read(area_at(k), &mut sector)?;
-    characters.append(&sector)?;
-    Ok(())
-}
-
-/// Reads so many sectors of the area.
-fn load_area<D: Disk>(disk: &mut D, full: u32, characters: &mut CharFile) -> Result<(), ImageFault>
-    requires room { STORE_SECTORS ≤ D.size disk.old }
-    requires full { full ≤ AREA_SECTORS }
-    requires none { characters.old ≡ [] }
-    ensures kept { IsConfined D.size D.honest D.trail Nowhere disk.old disk.new }
-    ensures faults { FailsAs ImageFault.Fault (OneOf (ImageFault.Fault ∷ ImageFault.NoMemory ∷ [])) result
-        (D.failures disk.old) (D.failures disk.new) }
-    ensures longer { OnOk result (length characters.new ≡ SECTOR_BYTES * full) }
-    ensures read { OnOk result (D.honest disk.old → characters.new ≡ area_bytes (now (D.trail disk.old)).reads full) }
-{
-    for k in 0..full {
-        load_sector(disk, k, characters)?;
-    }
-    Ok(())
-}
-
-/// Reads so many bytes from the source, fewer than a sector has, and adds them to the characters.
+/// Reads so many bytes from the source, fewer than a sector has, to the front of a sector.
 fn read_tail<S: ByteSource>(
     source: &mut S,
     count: usize,
-    characters: &mut CharFile,
+    tail: &mut Sector,
 ) -> Result<(), ImageFault>
-    requires short { count < SECTOR_BYTES }
-    requires room { length characters.old + count ≤ SECTOR_BYTES * AREA_SECTORS }
-    ensures tail { OnOk result (S.honest source.old
-        → characters.new ≡ characters.old ++ take count (S.remaining source.old)) }
+    requires { count < SECTOR_BYTES }
+    ensures tail { OnOk result (S.honest source.old → take count tail.new ≡ take count (S.remaining source.old)) }
     ensures rest { OnOk result (S.honest source.old → S.remaining source.new ≡ drop count (S.remaining source.old)) }
     ensures enough { OnOk result (S.honest source.old → count ≤ length (S.remaining source.old)) }
-    ensures longer { OnOk result (length characters.new ≡ length characters.old + count) }
     ensures damaged { IsErrOf result ImageFault.Damaged → S.honest source.old
         → length (S.remaining source.old) < count }
     ensures only { OnlyGets S.honest S.same_ground source.old source.new }
     ensures faults { FailsAs ImageFault.Fault IsImageFault result (S.failures source.old) (S.failures source.new) }
 {
-    let mut tail = [0; SECTOR_BYTES as usize];
     for i in 0..count {
         match source.get()? {
             Some(byte) => tail[i] = byte,
             None => return Err(ImageFault::Damaged),
         }
     }
-    characters.append(&tail[..count])?;
     Ok(())
 }
 
@@ -105,17 +68,15 @@ fn read_image<S: ByteSource>(
     alloc: Global,
     source: &mut S,
     written: u32,
-    characters: &mut CharFile,
+    tail: &mut Sector,
 ) -> Result<Desktop, ImageFault>
-    requires { IsAreaRead written characters.old }
-    ensures start { IfOk result
-        (IsStart (S.honest source.old) (S.remaining source.old) written characters.old characters.new) }
+    ensures start { IfOk result (IsStart (S.honest source.old) (S.remaining source.old) written tail.new) }
     ensures damaged { IsErrOf result ImageFault.Damaged → S.honest source.old
         → HasNoStart (S.remaining source.old) written }
     ensures only { OnlyGets S.honest S.same_ground source.old source.new }
     ensures faults { FailsAs ImageFault.Fault IsImageFault result (S.failures source.old) (S.failures source.new) }
 {
-    read_tail(source, (written % SECTOR_BYTES) as usize, characters)?;
+    read_tail(source, (written % SECTOR_BYTES) as usize, tail)?;
     Desktop::from_image(alloc, source, written)
 }
 
@@ -125,48 +86,68 @@ fn read_through<D: Disk>(
     disk: &mut D,
     draining: &mut Draining,
     written: u32,
-    characters: &mut CharFile,
+    tail: &mut Sector,
 ) -> Result<Desktop, ImageFault>
     requires there { IsOnDisk (D.size disk.old) draining.old }
     requires loaded { IsLoaded (now (D.trail disk.old)).reads draining.old }
-    requires area { IsAreaRead written characters.old }
     ensures kept { IsConfined D.size D.honest D.trail Nowhere disk.old disk.new }
     ensures faults { FailsAs ImageFault.Fault IsImageFault result (D.failures disk.old) (D.failures disk.new) }
     ensures start { IfOk result (IsStart (D.honest disk.old)
-        (bytes_left (now (D.trail disk.old)).reads draining.old) written characters.old characters.new) }
+        (bytes_left (now (D.trail disk.old)).reads draining.old) written tail.new) }
     ensures damaged { IsErrOf result ImageFault.Damaged → D.honest disk.old
         → HasNoStart (bytes_left (now (D.trail disk.old)).reads draining.old) written }
 {
     let mut source = SectorSource::over(disk, draining);
-    read_image(alloc, &mut source, written, characters)
+    read_image(alloc, &mut source, written, tail)
 }
 
-/// Reads all characters of a slot of this head, and then its desktop.
+/// Reads the image of a slot of this head: the characters that are left over, to the front of a sector, and then its
+/// desktop. The characters of the area aren't read.
 fn load_start<D: Disk>(
     alloc: Global,
     disk: &mut D,
     slot: u32,
     head: &Head,
-    characters: &mut CharFile,
+    tail: &mut Sector,
 ) -> Result<Desktop, ImageFault>
     requires room { STORE_SECTORS ≤ D.size disk.old }
     requires two { slot < SLOTS }
     requires good { IsGoodHead head.now }
-    requires none { characters.old ≡ [] }
     ensures kept { IsConfined D.size D.honest D.trail Nowhere disk.old disk.new }
     ensures faults { FailsAs ImageFault.Fault IsImageFault result (D.failures disk.old) (D.failures disk.new) }
     ensures start { IfOk result (IsStart (D.honest disk.old)
-        (stored (now (D.trail disk.old)).reads (image_at slot) head.now.extent) head.now.written
-        (area_bytes (now (D.trail disk.old)).reads (full_sectors head.now.written)) characters.new) }
+        (stored (now (D.trail disk.old)).reads (image_at slot) head.now.extent) head.now.written tail.new) }
     ensures damaged { IsErrOf result ImageFault.Damaged → D.honest disk.old
         → HasNoStart (stored (now (D.trail disk.old)).reads (image_at slot) head.now.extent) head.now.written }
 {
-    load_area(disk, head.written / SECTOR_BYTES, characters)?;
     let mut draining = Draining::new(image_at(slot), head.extent);
-    read_through(alloc, disk, &mut draining, head.written, characters)
+    read_through(alloc, disk, &mut draining, head.written, tail)
 }
 
-/// Loads what a slot of this head starts from.
+/// A desktop of so many characters: those that fill sectors stand in the area, and the others at the front of a sector.
+/// Its error is NoMemory.
+fn with_pages(
+    alloc: Global,
+    desktop: Desktop,
+    written: u32,
+    tail: &Sector,
+) -> Result<LiveDesktop, NoMemory>
+    requires whole { IsKeptWhole desktop }
+    requires count { desktop.written ≡ written }
+    ensures live { IfOk result IsLive }
+    ensures desktop { IfOk result (λ live. live.desktop ≡ desktop) }
+    ensures characters { IfOk result (λ live. (c : Content) → characters_of c live
+        ≡ area_bytes c (full_sectors written) ++ take (left_over written) tail.now) }
+    ensures saved { IfOk result (λ live. saved_sectors live.pages ≡ full_sectors written) }
+    ensures cached { IfOk result (λ live. cached_of live.pages ≡ []) }
+{
+    let left = written % SECTOR_BYTES;
+    let pages = Pages::new(alloc, area_at(0), written - left, &tail[..left as usize])?;
+    Ok(LiveDesktop::over(desktop, pages))
+}
+
+/// Loads what a slot of this head starts from. Memory is taken for the image and for the characters that are left over,
+/// fewer than a sector has.
 pub fn load_slot<D: Disk>(
     alloc: Global,
     disk: &mut D,
@@ -178,19 +159,18 @@ pub fn load_slot<D: Disk>(
     requires good { IsGoodHead head.now }
     ensures kept { IsConfined D.size D.honest D.trail Nowhere disk.old disk.new }
     ensures faults { FailsAs Error.Fault OfReplay result (D.failures disk.old) (D.failures disk.new) }
-    ensures over { IfOk result (λ live. IsLive live) }
-    ensures long { IfOk result (λ live. length live.characters ≡ head.now.written) }
+    ensures live { IfOk result (λ live. IsLive live) }
+    ensures told { IfOk result (λ live. IsTold D.Disk disk.new live) }
+    ensures saved { IfOk result (λ live. saved_sectors live.pages ≡ full_sectors head.now.written) }
     ensures image { IfOk result (λ live. D.honest disk.old → head_at (now (D.trail disk.old)).reads slot ≡ head.now
-        → HasImage (now (D.trail disk.old)).reads slot (shown live)) }
-    ensures front { IfOk result (λ live. D.honest disk.old → head_at (now (D.trail disk.old)).reads slot ≡ head.now
-        → IsFront (now (D.trail disk.old)).reads slot (full_sectors head.now.written) live.characters) }
+        → HasImage (now (D.trail disk.old)).reads slot (shown (now (D.trail disk.new)).reads live)) }
     ensures damaged { (n : ℕ) → IsErrOf result (Error.Damaged n) → D.honest disk.old
         → head_at (now (D.trail disk.old)).reads slot ≡ head.now
         → (n ≡ image_at slot) × ((start : ADesktop) → HasImage (now (D.trail disk.old)).reads slot start → ⊥) }
 {
-    let mut characters = CharFile::new(alloc);
-    match load_start(alloc, disk, slot, head, &mut characters) {
-        Ok(desktop) => Ok(LiveDesktop::over(desktop, characters)),
+    let mut tail = [0; SECTOR_BYTES as usize];
+    match load_start(alloc, disk, slot, head, &mut tail) {
+        Ok(desktop) => Ok(with_pages(alloc, desktop, head.written, &tail)?),
         Err(fault) => Err(error_of(fault, slot)),
     }
 }

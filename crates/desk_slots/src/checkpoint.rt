@@ -3,17 +3,19 @@
 //! The other slot's gate is closed and synced first, if it is open. Behind the closed gate the slot is filled: the
 //! characters that came since into the area, as far as they fill sectors, then the image, the head and a closed gate of
 //! the journal. After a sync its gate is opened, and a sync follows. Nothing that the slot in use names is written, so
-//! at each moment the disk means the same desktop.
+//! at each moment the disk means the same desktop, and the characters that stand in the area stay as they are. At last
+//! the characters that stand there by then are given up in memory.
 ghost use Rattle.std.specs.Prelude.{◌≡◌, ◌+◌, ◌*◌, ◌/◌, ◌<◌, ◌≤◌, ◌++◌, true, false, ℕ, List, length, drop, OnOk, IfOk};
-ghost use Rattle.sector_streams.specs.Stored.{stored};
+ghost use Rattle.sector_disk.specs.Stored.{stored};
 ghost use Rattle.sector_streams.specs.Filling.{first_sector, most_sectors, SectorsOf, InRange, HasTaken};
 ghost use Rattle.desk_image.specs.Image.{image_of, image_bytes, IsSpellable};
 ghost use Rattle.store_layout.specs.Layout.{slot_gate, image_at, area_at};
 ghost use Rattle.store_layout.specs.Meaning.{Means, full_sectors, left_over};
-ghost use Rattle.store_layout.specs.Kept.{OpenGate, InArea, InCheckpoint, HasFront};
+ghost use Rattle.char_pages.specs.Pages.{saved_sectors};
+ghost use Rattle.store_layout.specs.Kept.{OpenGate, InArea, InCheckpoint, HasFront, IsFront, IsKept};
 ghost use Rattle.desk_slots.specs.Device.{IsSameDevice, StaysWithin};
-ghost use Rattle.desk_slots.specs.Live.{shown, IsLive};
-ghost use Rattle.desk_slots.specs.Written.{HasGate, IsFilled, IsBeside, IsInPlace};
+ghost use Rattle.desk_slots.specs.Live.{characters_of, shown, IsLive, IsNamed, IsTold};
+ghost use Rattle.desk_slots.specs.Written.{HasGate, IsFilled, IsBeside, InRenewal};
 ghost use Rattle.desk_slots.specs.Words.{LeavesOnly, Only, CountsFault, now, IsConfined};
 
 use crate::live::LiveDesktop;
@@ -88,7 +90,7 @@ fn put_through<D: Disk>(
     desktop: &LiveDesktop,
 ) -> Result<u32, Fault>
     requires room { first_sector filling.old + most_sectors filling.old ≤ D.size disk.old }
-    requires over { IsLive desktop.now }
+    requires live { IsLive desktop.now }
     ensures kept { IsConfined D.size D.honest D.trail (SectorsOf filling.old) disk.old disk.new }
     ensures cause { CountsFault result (D.failures disk.old) (D.failures disk.new) }
     ensures from { first_sector filling.new ≡ first_sector filling.old }
@@ -114,8 +116,8 @@ fn stream<D: Disk>(
 ) -> Result<u32, Fault>
     requires room { STORE_SECTORS ≤ D.size disk.old }
     requires two { slot < SLOTS }
-    requires tail { length tail.now ≡ left_over (length desktop.now.characters) }
-    requires over { IsLive desktop.now }
+    requires tail { length tail.now ≡ left_over desktop.now.desktop.written }
+    requires live { IsLive desktop.now }
     ensures kept { IsConfined D.size D.honest D.trail (InRange (image_at slot) IMAGE_SECTORS) disk.old disk.new }
     ensures cause { CountsFault result (D.failures disk.old) (D.failures disk.new) }
     ensures fits { IfOk result (λ n. n ≤ IMAGE_BYTES) }
@@ -133,41 +135,36 @@ fn stream<D: Disk>(
 /// Fills the area and the image of a slot, and returns how many bytes the image has with the characters before it.
 fn fill_slot<D: Disk>(disk: &mut D, desktop: &LiveDesktop, place: Place) -> Result<u32, Fault>
     requires room { STORE_SECTORS ≤ D.size disk.old }
-    requires over { IsLive desktop.now }
-    requires saved { SECTOR_BYTES * place.saved ≤ length desktop.now.characters }
+    requires live { IsLive desktop.now }
+    requires saved { place.saved ≡ saved_sectors desktop.now.pages }
     ensures kept { IsConfined D.size D.honest D.trail (InCheckpoint place.slot place.saved) disk.old disk.new }
     ensures cause { CountsFault result (D.failures disk.old) (D.failures disk.new) }
     ensures fits { IfOk result (λ n. n ≤ IMAGE_BYTES) }
     ensures spelled { OnOk result (IsSpellable desktop.now.desktop) }
-    ensures front { OnOk result (D.honest disk.old
-        → HasFront (now (D.trail disk.old)).reads place.saved desktop.now.characters
-        → HasFront (now (D.trail disk.new)).reads (full_sectors (length desktop.now.characters))
-        desktop.now.characters) }
+    ensures front { OnOk result (D.honest disk.old → HasFront (now (D.trail disk.new)).reads
+        (full_sectors (length (characters_of (now (D.trail disk.old)).reads desktop.now)))
+        (characters_of (now (D.trail disk.old)).reads desktop.now)) }
     ensures stored { IfOk result (λ n. D.honest disk.old → stored (now (D.trail disk.new)).reads (image_at place.slot) n
-        ≡ drop (SECTOR_BYTES * full_sectors (length desktop.now.characters)) desktop.now.characters
+        ≡ drop (SECTOR_BYTES * full_sectors (length (characters_of (now (D.trail disk.old)).reads desktop.now)))
+        (characters_of (now (D.trail disk.old)).reads desktop.now)
         ++ image_bytes (image_of desktop.now.desktop)) }
 {
-    let characters = desktop.characters();
+    let rest = desktop.rest();
     let width = SECTOR_BYTES as usize;
-    let full = characters.len() / width * width;
-    fill_area(
-        disk,
-        &characters[width * place.saved as usize..],
-        place.saved,
-    )?;
-    stream(disk, &characters[full..], desktop, place.slot)
+    let full = rest.len() / width * width;
+    fill_area(disk, rest, place.saved)?;
+    stream(disk, &rest[full..], desktop, place.slot)
 }
 
 /// Writes a whole slot behind its closed gate.
 fn write_slot<D: Disk>(disk: &mut D, desktop: &LiveDesktop, place: Place) -> Result<(), Fault>
     requires room { STORE_SECTORS ≤ D.size disk.old }
-    requires over { IsLive desktop.now }
-    requires saved { SECTOR_BYTES * place.saved ≤ length desktop.now.characters }
+    requires live { IsLive desktop.now }
+    requires saved { place.saved ≡ saved_sectors desktop.now.pages }
     ensures kept { IsConfined D.size D.honest D.trail (InCheckpoint place.slot place.saved) disk.old disk.new }
     ensures cause { CountsFault result (D.failures disk.old) (D.failures disk.new) }
-    ensures filled { OnOk result (D.honest disk.old
-        → HasFront (now (D.trail disk.old)).reads place.saved desktop.now.characters
-        → IsFilled (now (D.trail disk.new)) place.slot place.epoch desktop.now.characters (shown desktop.now)) }
+    ensures filled { OnOk result (D.honest disk.old → IsFilled (now (D.trail disk.new)) place.slot place.epoch
+        (characters_of (now (D.trail disk.old)).reads desktop.now) (shown (now (D.trail disk.old)).reads desktop.now)) }
 {
     let extent = fill_slot(disk, desktop, place)?;
     let head = Head {
@@ -195,22 +192,55 @@ pub fn open_slot<D: Disk>(disk: &mut D, slot: u32) -> Result<(), Fault>
     Ok(())
 }
 
-/// Puts the desktop into the other slot, and makes that the slot in use. It takes no memory.
-pub fn renew<D: Disk>(disk: &mut D, desktop: &LiveDesktop, place: Place) -> Result<(), Fault>
+/// Puts the desktop into the other slot, and makes that the slot in use.
+fn change_slot<D: Disk>(disk: &mut D, desktop: &LiveDesktop, place: Place) -> Result<(), Fault>
     requires room { STORE_SECTORS ≤ D.size disk.old }
-    requires over { IsLive desktop.now }
-    requires saved { SECTOR_BYTES * place.saved ≤ length desktop.now.characters }
-    ensures device { IsSameDevice D.Disk disk.old disk.new }
-    ensures within { StaysWithin D.Disk disk.old disk.new }
+    requires live { IsLive desktop.now }
+    requires saved { place.saved ≡ saved_sectors desktop.now.pages }
+    ensures kept { IsConfined D.size D.honest D.trail (InRenewal place) disk.old disk.new }
     ensures cause { CountsFault result (D.failures disk.old) (D.failures disk.new) }
     ensures any_moment { D.honest disk.old → (live number count : ℕ) → IsBeside place (D.size disk.old)
-        (D.trail disk.old) live number count desktop.now.characters (shown desktop.now)
-        → LeavesOnly (D.trail disk.old) (D.trail disk.new) (Means (D.size disk.old) (shown desktop.now)) }
+        (D.trail disk.old) live number count (shown (now (D.trail disk.old)).reads desktop.now)
+        → LeavesOnly (D.trail disk.old) (D.trail disk.new)
+        (Means (D.size disk.old) (shown (now (D.trail disk.old)).reads desktop.now)) }
     ensures renewed { OnOk result (D.honest disk.old → (live number count : ℕ) → IsBeside place (D.size disk.old)
-        (D.trail disk.old) live number count desktop.now.characters (shown desktop.now)
-        → IsInPlace place (D.size disk.old) (D.trail disk.new) desktop.now.characters (shown desktop.now)) }
+        (D.trail disk.old) live number count (shown (now (D.trail disk.old)).reads desktop.now)
+        → IsKept (D.size disk.old) (D.trail disk.new) place.slot place.epoch 0
+        (shown (now (D.trail disk.old)).reads desktop.now)) }
+    ensures front { OnOk result (D.honest disk.old → IsFront (now (D.trail disk.new)).reads place.slot
+        (full_sectors (length (characters_of (now (D.trail disk.old)).reads desktop.now)))
+        (characters_of (now (D.trail disk.old)).reads desktop.now)) }
 {
     close_slot(disk, place.slot)?;
     write_slot(disk, desktop, place)?;
     open_slot(disk, place.slot)
+}
+
+/// Puts the desktop into the other slot, makes that the slot in use, and then gives up the characters in memory that
+/// stand in the area from then on. It takes no memory.
+pub fn renew<D: Disk>(disk: &mut D, desktop: &mut LiveDesktop, place: Place) -> Result<(), Fault>
+    requires room { STORE_SECTORS ≤ D.size disk.old }
+    requires live { IsLive desktop.old }
+    requires saved { place.saved ≡ saved_sectors desktop.old.pages }
+    ensures device { IsSameDevice D.Disk disk.old disk.new }
+    ensures within { StaysWithin D.Disk disk.old disk.new }
+    ensures cause { CountsFault result (D.failures disk.old) (D.failures disk.new) }
+    ensures any_moment { D.honest disk.old → (live number count : ℕ) → IsBeside place (D.size disk.old)
+        (D.trail disk.old) live number count (shown (now (D.trail disk.old)).reads desktop.old)
+        → LeavesOnly (D.trail disk.old) (D.trail disk.new)
+        (Means (D.size disk.old) (shown (now (D.trail disk.old)).reads desktop.old)) }
+    ensures renewed { OnOk result (D.honest disk.old → (live number count : ℕ) → IsBeside place (D.size disk.old)
+        (D.trail disk.old) live number count (shown (now (D.trail disk.old)).reads desktop.old)
+        → IsKept (D.size disk.old) (D.trail disk.new) place.slot place.epoch 0
+        (shown (now (D.trail disk.new)).reads desktop.new)) }
+    ensures named { OnOk result (D.honest disk.old → IsNamed (now (D.trail disk.new)).reads place.slot desktop.new) }
+    ensures shown { OnOk result (D.honest disk.old → shown (now (D.trail disk.new)).reads desktop.new
+        ≡ shown (now (D.trail disk.old)).reads desktop.old) }
+    ensures kept { desktop.new.desktop ≡ desktop.old.desktop }
+    ensures live { OnOk result (IsLive desktop.new) }
+    ensures told { OnOk result (IsTold D.Disk disk.old desktop.old → IsTold D.Disk disk.new desktop.new) }
+{
+    change_slot(disk, desktop, place)?;
+    desktop.settle();
+    Ok(())
 }

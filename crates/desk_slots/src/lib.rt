@@ -3,7 +3,8 @@
 //! `store_layout` says what the sectors mean (in words: docs/STORE.md). Here they are read and written: a new store is
 //! laid out, the slot in use is found and read, an event goes into its journal (first its body and a closed gate after
 //! it, then, after a sync, its gate is opened, and a sync follows), and the desktop goes whole into the other slot.
-//! What a store has in memory beside its disk is a `LiveDesktop`. The store itself is in `desk_journal`.
+//! What a store has in memory beside its disk is a `LiveDesktop`; the characters that fill sectors of the disk's area stay
+//! there. The store itself is in `desk_journal`.
 #![tactic(auto)]
 
 mod characters;
@@ -12,6 +13,7 @@ mod error;
 mod format;
 mod live;
 mod loaded;
+mod over;
 mod place;
 mod reading;
 mod records;

@@ -1,55 +1,66 @@
 //! The desktop that a store has in memory, with its characters.
-ghost use Rattle.std.specs.Prelude.{◌≡◌, ◌≤◌, ◌++◌, ℕ, Ok, IfOk, OnOk, IsErrOf, None, option_map, length};
+ghost use Rattle.std.specs.Prelude.{◌≡◌, ◌≤◌, ◌*◌, ◌++◌, ℕ, Ok, IfOk, OnOk, IsErrOf, None, option_map, length};
+ghost use Rattle.char_pages.specs.Pages.{base_of, saved_of, saved_sectors, rest_of, cached_of};
 ghost use Rattle.desktop_definitions.specs.Desktop.{file_of};
-ghost use Rattle.desktop_definitions.specs.Sound.{Grows, IsOver};
 ghost use Rattle.desk_image.specs.Image.{image_of, image_bytes, IsSpellable};
 ghost use Rattle.desk_image.specs.Streams.{Puts};
+ghost use Rattle.sector_disk.specs.Trail.{Content};
+ghost use Rattle.store_layout.specs.Layout.{area_at};
+ghost use Rattle.store_layout.specs.Kept.{HasFront};
+ghost use Rattle.store_layout.specs.Meaning.{full_sectors};
 ghost use Rattle.desk_slots.specs.Errors.{OfDesktop};
-ghost use Rattle.desk_slots.specs.Live.{shown, IsLive, StaysLive};
-ghost use Rattle.desk_slots.specs.Words.{Nowhere, IsConfined, FailsAs, No, IsReply, entries_of, shown_screen, step};
+ghost use Rattle.desk_slots.specs.Live.{characters_of, shown, IsLive, IsOverPages, IsTold, StaysLive};
+ghost use Rattle.desk_slots.specs.Words.{Nowhere, now, IsConfined, FailsAs, No, IsReply, entries_of, shown_screen, step};
 ghost use Rattle.desk_slots.specs.Words.{StepsUnread, ListsUnread};
 
 use crate::Error;
-use crate::reading::read_all;
-use char_file::CharFile;
+use crate::over::{list_over, read_over, screen_over, step_over};
+use char_pages::Pages;
 use desk_image::ByteSink;
 use event_bytes::{Event, Name};
 use event_loop::{Desktop, Entry, Reply};
 use piece_ring::Look;
 use screen_cells::Screen;
-use sector_disk::{Disk, Fault};
+use sector_disk::{Disk, Fault, SECTOR_BYTES};
 use std::alloc::Global;
+use store_layout::STORE_SECTORS;
 
-/// A desktop and the characters that its texts name.
+/// A desktop and the characters that its texts name: those that fill whole sectors of the disk's area stand there, the
+/// others in memory.
 ///
-/// A clause sees it as its characters read (`shown`), and asks that it stands over them (`IsLive`). Its calls are
-/// handed the disk, from which they only read, and what they say of characters stands under its premise. After an error
-/// of `step` it isn't used again.
+/// A clause sees it as its characters read over what the disk reads (`shown`), and asks that it stands over them
+/// (`IsLive`) and that what it has in memory of the disk is so (`IsTold`). Its calls are handed the disk, from which they
+/// only read, and what they say of characters stands under its premise. After an error of `step` it isn't used again.
 #[derive(Drop)]
 pub struct LiveDesktop {
     desktop: Desktop,
-    characters: CharFile,
+    pages: Pages,
 }
 
 impl LiveDesktop {
     /// A desktop over its characters.
-    pub fn over(desktop: Desktop, characters: CharFile) -> LiveDesktop
-        requires { IsOver characters desktop }
+    pub fn over(desktop: Desktop, pages: Pages) -> LiveDesktop
+        requires over { IsOverPages pages desktop }
+        requires based { base_of pages ≡ area_at 0 }
         ensures desktop { result.desktop ≡ desktop }
-        ensures characters { result.characters ≡ characters }
-        ensures over { IsLive result }
+        ensures pages { result.pages ≡ pages }
+        ensures live { IsLive result }
     {
-        LiveDesktop {
-            desktop,
-            characters,
-        }
+        LiveDesktop { desktop, pages }
     }
 
-    /// All its characters.
-    pub fn characters(&self) -> &[u8]
-        ensures { result.now ≡ self.now.characters }
+    /// The characters that are in memory: those behind the ones in the area.
+    pub fn rest(&self) -> &[u8]
+        ensures { result.now ≡ rest_of self.now.pages }
     {
-        self.characters.bytes()
+        self.pages.rest()
+    }
+
+    /// How many sectors of the area hold the others.
+    pub fn saved(&self) -> u32
+        ensures { result ≡ saved_sectors self.now.pages }
+    {
+        self.pages.saved_sectors()
     }
 
     /// Puts these characters and then its image, and returns how many bytes the image has. It takes no memory.
@@ -70,20 +81,21 @@ impl LiveDesktop {
         event: &Event,
         disk: &mut D,
     ) -> Result<Reply, Error>
-        requires { IsLive self.old }
-        ensures done { IfOk result (λ reply. D.honest disk.old
-            → (shown self.new, reply) ≡ step (shown self.old) event.now) }
+        requires live { IsLive self.old }
+        requires room { STORE_SECTORS ≤ D.size disk.old }
+        requires told { IsTold D.Disk disk.old self.old }
+        ensures done { IfOk result (λ reply. D.honest disk.old → (shown (now (D.trail disk.new)).reads self.new, reply)
+            ≡ step (shown (now (D.trail disk.old)).reads self.old) event.now) }
         ensures unread { IfOk result (StepsUnread self.old.desktop self.new.desktop event.now) }
         ensures replies { IfOk result IsReply }
         ensures refusal { (code : ℕ) → result ≡ Ok (No code) → self.new.desktop ≡ self.old.desktop }
-        ensures over { OnOk result (IsLive self.new) }
-        ensures grows { OnOk result (D.honest disk.old → Grows self.old.characters self.new.characters) }
-        ensures longer { OnOk result (length self.old.characters ≤ length self.new.characters) }
+        ensures live { OnOk result (IsLive self.new) }
+        ensures told { IsTold D.Disk disk.new self.new }
+        ensures counted { saved_of self.new.pages ≡ saved_of self.old.pages }
         ensures disk { IsConfined D.size D.honest D.trail Nowhere disk.old disk.new }
         ensures faults { FailsAs Error.Fault OfDesktop result (D.failures disk.old) (D.failures disk.new) }
     {
-        let _ = disk;
-        Ok(self.desktop.step(alloc, event, &mut self.characters)?)
+        Ok(step_over(alloc, &mut self.desktop, event, disk, &mut self.pages)?)
     }
 
     /// The characters of the file of that name, with their looks; None where there is none.
@@ -93,33 +105,36 @@ impl LiveDesktop {
         name: &Name,
         disk: &mut D,
     ) -> Result<Option<Vec<(u8, Look)>>, Error>
-        requires { IsLive self.old }
-        ensures found { IfOk result (λ file. D.honest disk.old
-            → option_map (λ characters. characters.items) file ≡ file_of (shown self.old) name.now) }
+        requires live { IsLive self.old }
+        requires room { STORE_SECTORS ≤ D.size disk.old }
+        requires told { IsTold D.Disk disk.old self.old }
+        ensures found { IfOk result (λ file. D.honest disk.old → option_map (λ characters. characters.items) file
+            ≡ file_of (shown (now (D.trail disk.old)).reads self.old) name.now) }
         ensures memory { IsErrOf result Error.NoMemory → D.honest disk.old
-            → ¬ (file_of (shown self.old) name.now ≡ None) }
-        ensures same { StaysLive (D.honest disk.old) self.old self.new }
+            → ¬ (file_of (shown (now (D.trail disk.old)).reads self.old) name.now ≡ None) }
+        ensures same { StaysLive D.Disk disk.old disk.new self.old self.new }
         ensures disk { IsConfined D.size D.honest D.trail Nowhere disk.old disk.new }
         ensures faults { FailsAs Error.Fault OfDesktop result (D.failures disk.old) (D.failures disk.new) }
     {
-        let _ = disk;
         match self.desktop.file(name) {
             None => Ok(None),
-            Some(text) => Ok(Some(read_all(alloc, text, &mut self.characters)?)),
+            Some(text) => Ok(Some(read_over(alloc, text, disk, &mut self.pages)?)),
         }
     }
 
     /// What the desktop has.
     pub fn list<D: Disk>(&mut self, alloc: Global, disk: &mut D) -> Result<Vec<Entry>, Error>
-        requires { IsLive self.old }
-        ensures entries { IfOk result (λ entries. D.honest disk.old → entries.items ≡ entries_of (shown self.old)) }
+        requires live { IsLive self.old }
+        requires room { STORE_SECTORS ≤ D.size disk.old }
+        requires told { IsTold D.Disk disk.old self.old }
+        ensures entries { IfOk result (λ entries. D.honest disk.old
+            → entries.items ≡ entries_of (shown (now (D.trail disk.old)).reads self.old)) }
         ensures unread { IfOk result (λ entries. ListsUnread self.old.desktop entries.items) }
-        ensures same { StaysLive (D.honest disk.old) self.old self.new }
+        ensures same { StaysLive D.Disk disk.old disk.new self.old self.new }
         ensures disk { IsConfined D.size D.honest D.trail Nowhere disk.old disk.new }
         ensures faults { FailsAs Error.Fault OfDesktop result (D.failures disk.old) (D.failures disk.new) }
     {
-        let _ = disk;
-        Ok(self.desktop.list(alloc, &mut self.characters)?)
+        Ok(list_over(alloc, &mut self.desktop, disk, &mut self.pages)?)
     }
 
     /// Paints what the desktop shows.
@@ -129,20 +144,36 @@ impl LiveDesktop {
         screen: &mut Screen,
         disk: &mut D,
     ) -> Result<(), Error>
-        requires { IsLive self.old }
-        ensures shown { OnOk result (D.honest disk.old → screen.new ≡ shown_screen (shown self.old)) }
-        ensures same { StaysLive (D.honest disk.old) self.old self.new }
+        requires live { IsLive self.old }
+        requires room { STORE_SECTORS ≤ D.size disk.old }
+        requires told { IsTold D.Disk disk.old self.old }
+        ensures shown { OnOk result (D.honest disk.old
+            → screen.new ≡ shown_screen (shown (now (D.trail disk.old)).reads self.old)) }
+        ensures same { StaysLive D.Disk disk.old disk.new self.old self.new }
         ensures disk { IsConfined D.size D.honest D.trail Nowhere disk.old disk.new }
         ensures faults { FailsAs Error.Fault OfDesktop result (D.failures disk.old) (D.failures disk.new) }
     {
-        let _ = disk;
-        self.desktop.screen(alloc, &mut self.characters, screen)?;
+        screen_over(alloc, &mut self.desktop, screen, disk, &mut self.pages)?;
         Ok(())
+    }
+
+    /// Gives up the characters in memory that fill whole sectors of the area by now. It takes no memory.
+    pub fn settle(&mut self)
+        requires { IsLive self.old }
+        ensures live { IsLive self.new }
+        ensures desktop { self.new.desktop ≡ self.old.desktop }
+        ensures counted { saved_of self.new.pages ≡ SECTOR_BYTES * full_sectors self.old.desktop.written }
+        ensures cached { cached_of self.new.pages ≡ cached_of self.old.pages }
+        ensures same { (c : Content) → HasFront c (full_sectors self.old.desktop.written) (characters_of c self.old)
+            → characters_of c self.new ≡ characters_of c self.old }
+    {
+        let full = self.desktop.written() / SECTOR_BYTES * SECTOR_BYTES;
+        self.pages.settle(full);
     }
 
     /// How many characters were ever written.
     pub fn written(&self) -> u32
-        ensures { result ≡ (shown self.now).written }
+        ensures { (c : Content) → result ≡ (shown c self.now).written }
     {
         self.desktop.written()
     }

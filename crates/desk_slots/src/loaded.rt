@@ -1,15 +1,14 @@
 //! Opening a disk: the slot in use, the desktop that it starts from, and the events of its journal.
-ghost use Rattle.std.specs.Prelude.{◌≡◌, ◌*◌, ◌<◌, ◌≤◌, ◌∷◌, [], ℕ, true, false, OnOk, IfOk, IfSome, IfNone, IsErrOf};
-ghost use Rattle.std.specs.Prelude.{length};
+ghost use Rattle.std.specs.Prelude.{◌≡◌, ◌<◌, ◌≤◌, ◌∷◌, [], ℕ, true, false, OnOk, IfOk, IfSome, IfNone, IsErrOf};
 ghost use Rattle.event_bytes.specs.declared.event.Event.{Event};
 ghost use Rattle.event_bytes.specs.Spelling.{Begins};
-ghost use Rattle.desktop_definitions.specs.Sound.{Grows};
+ghost use Rattle.char_pages.specs.Pages.{saved_of};
 ghost use Rattle.store_layout.specs.Layout.{is_open, gate, body};
 ghost use Rattle.store_layout.specs.Finding.{IsForeign, IsDamagedAt, IsNoEvent};
 ghost use Rattle.store_layout.specs.Meaning.{Shows};
-ghost use Rattle.store_layout.specs.Kept.{IsKept, IsFront};
+ghost use Rattle.store_layout.specs.Kept.{IsKept};
 ghost use Rattle.desk_slots.specs.Errors.{OfOpen, OfReplay};
-ghost use Rattle.desk_slots.specs.Live.{shown, IsLive};
+ghost use Rattle.desk_slots.specs.Live.{shown, IsLive, IsNamed, IsTold};
 ghost use Rattle.desk_slots.specs.Load.{HasSlotInUse, IsReadWhole};
 ghost use Rattle.desk_slots.specs.Words.{Nowhere, now, IsConfined, FailsAs, OneOf};
 
@@ -33,8 +32,6 @@ pub struct Loaded {
     pub epoch: u32,
     /// How many events its journal has.
     pub events: u32,
-    /// How many sectors of the area its head names.
-    pub saved: u32,
 }
 
 /// The event under gate k, or none where the gate is closed.
@@ -76,15 +73,16 @@ fn replay<D: Disk>(
 ) -> Result<u32, Error>
     requires room { STORE_SECTORS ≤ D.size disk.old }
     requires two { slot < SLOTS }
-    requires over { IsLive desktop.old }
+    requires live { IsLive desktop.old }
+    requires told { IsTold D.Disk disk.old desktop.old }
     ensures kept { IsConfined D.size D.honest D.trail Nowhere disk.old disk.new }
     ensures faults { FailsAs Error.Fault OfReplay result (D.failures disk.old) (D.failures disk.new) }
     ensures few { IfOk result (λ count. count ≤ JOURNAL_EVENTS) }
-    ensures whole { IfOk result (λ count. D.honest disk.old
-        → IsReadWhole (now (D.trail disk.old)).reads slot count (shown desktop.old) (shown desktop.new)) }
-    ensures over { OnOk result (IsLive desktop.new) }
-    ensures grows { OnOk result (D.honest disk.old → Grows desktop.old.characters desktop.new.characters) }
-    ensures longer { OnOk result (length desktop.old.characters ≤ length desktop.new.characters) }
+    ensures whole { IfOk result (λ count. D.honest disk.old → IsReadWhole (now (D.trail disk.old)).reads slot count
+        (shown (now (D.trail disk.old)).reads desktop.old) (shown (now (D.trail disk.new)).reads desktop.new)) }
+    ensures live { OnOk result (IsLive desktop.new) }
+    ensures told { OnOk result (IsTold D.Disk disk.new desktop.new) }
+    ensures counted { OnOk result (saved_of desktop.new.pages ≡ saved_of desktop.old.pages) }
     ensures damaged { (n : ℕ) → IsErrOf result (Error.Damaged n) → D.honest disk.old
         → (k : ℕ) × (n ≡ body slot k) × IsNoEvent (now (D.trail disk.old)).reads slot k }
 {
@@ -106,13 +104,14 @@ pub fn load<D: Disk>(alloc: Global, disk: &mut D) -> Result<Loaded, Error>
     ensures large { OnOk result (STORE_SECTORS ≤ D.size disk.new) }
     ensures two { IfOk result (λ x. x.slot < SLOTS) }
     ensures few { IfOk result (λ x. x.events ≤ JOURNAL_EVENTS) }
-    ensures over { IfOk result (λ x. IsLive x.desktop) }
-    ensures saved { IfOk result (λ x. SECTOR_BYTES * x.saved ≤ length x.desktop.characters) }
-    ensures found { IfOk result (λ x. D.honest disk.old
-        → Shows (D.size disk.old) x.epoch x.events (shown x.desktop) (now (D.trail disk.old)).reads) }
+    ensures live { IfOk result (λ x. IsLive x.desktop) }
+    ensures told { IfOk result (λ x. IsTold D.Disk disk.new x.desktop) }
+    ensures found { IfOk result (λ x. D.honest disk.old → Shows (D.size disk.old) x.epoch x.events
+        (shown (now (D.trail disk.new)).reads x.desktop) (now (D.trail disk.old)).reads) }
     ensures shown { IfOk result (λ x. D.honest disk.old
-        → IsKept (D.size disk.old) (D.trail disk.new) x.slot x.epoch x.events (shown x.desktop)
-        × IsFront (now (D.trail disk.new)).reads x.slot x.saved x.desktop.characters) }
+        → IsKept (D.size disk.old) (D.trail disk.new) x.slot x.epoch x.events
+        (shown (now (D.trail disk.new)).reads x.desktop)
+        × IsNamed (now (D.trail disk.new)).reads x.slot x.desktop) }
     ensures foreign { IsErrOf result Error.NotAStore → D.honest disk.old
         → IsForeign (D.size disk.old) (now (D.trail disk.old)).reads }
     ensures damaged { (n : ℕ) → IsErrOf result (Error.Damaged n) → D.honest disk.old
@@ -129,6 +128,5 @@ pub fn load<D: Disk>(alloc: Global, disk: &mut D) -> Result<Loaded, Error>
         slot,
         epoch: head.epoch,
         events,
-        saved: head.written / SECTOR_BYTES,
     })
 }

@@ -1,15 +1,15 @@
 //! The two steps that put an event into the journal.
-ghost use Rattle.std.specs.Prelude.{◌≡◌, ◌+◌, ◌*◌, ◌<◌, ◌≤◌, true, false, ℕ, List, length, Ok, OnOk, IfOk, IsErrOf};
+ghost use Rattle.std.specs.Prelude.{◌≡◌, ◌+◌, ◌<◌, ◌≤◌, true, false, ℕ, Ok, OnOk, IfOk, IsErrOf};
 ghost use Rattle.desktop_definitions.specs.Desktop.{Desktop};
 ghost use Rattle.store_layout.specs.Layout.{is_open, gate, body};
 ghost use Rattle.store_layout.specs.Meaning.{Means, MeansEither};
-ghost use Rattle.store_layout.specs.Kept.{NextRecord, IsKept, IsFront};
+ghost use Rattle.store_layout.specs.Kept.{NextRecord, IsKept};
 ghost use Rattle.desk_slots.specs.Device.{IsSameDevice, StaysWithin};
 ghost use Rattle.desk_slots.specs.Errors.{OfDesktop};
-ghost use Rattle.desk_slots.specs.Live.{shown, IsLive};
+ghost use Rattle.desk_slots.specs.Live.{shown, IsLive, IsNamed, IsTold};
 ghost use Rattle.desk_slots.specs.Words.{LeavesOnly, Only, CountsFault, now, IsConfined, FailsAs, No, IsReply, step};
 ghost use Rattle.desk_slots.specs.Words.{StepsUnread};
-ghost use Rattle.desk_slots.specs.Written.{HasRecord};
+ghost use Rattle.desk_slots.specs.Written.{HasRecord, InRecord};
 
 use crate::Error;
 use crate::live::LiveDesktop;
@@ -73,8 +73,7 @@ fn add_record<D: Disk>(disk: &mut D, slot: u32, k: u32, event: &Event) -> Result
     requires room { STORE_SECTORS ≤ D.size disk.old }
     requires two { slot < SLOTS }
     requires index { k < JOURNAL_EVENTS }
-    ensures device { IsSameDevice D.Disk disk.old disk.new }
-    ensures within { StaysWithin D.Disk disk.old disk.new }
+    ensures kept { IsConfined D.size D.honest D.trail (InRecord slot k) disk.old disk.new }
     ensures cause { CountsFault result (D.failures disk.old) (D.failures disk.new) }
     ensures any_moment { D.honest disk.old → (number : ℕ) (desktop : Desktop)
         → IsKept (D.size disk.old) (D.trail disk.old) slot number k desktop
@@ -83,10 +82,6 @@ fn add_record<D: Disk>(disk: &mut D, slot: u32, k: u32, event: &Event) -> Result
     ensures added { OnOk result (D.honest disk.old → (number : ℕ) (desktop : Desktop)
         → IsKept (D.size disk.old) (D.trail disk.old) slot number k desktop
         → IsKept (D.size disk.old) (D.trail disk.new) slot number (k + 1) (step desktop event.now).0) }
-    // the characters in the area stay
-    ensures front { OnOk result (D.honest disk.old → (saved : ℕ) (characters : List ℕ)
-        → IsFront (now (D.trail disk.old)).reads slot saved characters
-        → IsFront (now (D.trail disk.new)).reads slot saved characters) }
 {
     stage(disk, slot, k, event)?;
     seal(disk, slot, k)?;
@@ -105,28 +100,31 @@ pub fn record<D: Disk>(
     requires room { STORE_SECTORS ≤ D.size disk.old }
     requires two { slot < SLOTS }
     requires index { k < JOURNAL_EVENTS }
-    requires over { IsLive desktop.old }
-    ensures any_moment { D.honest disk.old → (number : ℕ)
-        → IsKept (D.size disk.old) (D.trail disk.old) slot number k (shown desktop.old)
-        → LeavesOnly (D.trail disk.old) (D.trail disk.new)
-        (MeansEither (D.size disk.old) (shown desktop.old) (step (shown desktop.old) event.now).0) }
+    requires live { IsLive desktop.old }
+    requires told { IsTold D.Disk disk.old desktop.old }
+    ensures any_moment { D.honest disk.old → (number : ℕ) → IsKept (D.size disk.old) (D.trail disk.old) slot number k
+        (shown (now (D.trail disk.old)).reads desktop.old)
+        → LeavesOnly (D.trail disk.old) (D.trail disk.new) (MeansEither (D.size disk.old)
+        (shown (now (D.trail disk.old)).reads desktop.old)
+        (step (shown (now (D.trail disk.old)).reads desktop.old) event.now).0) }
     ensures unrecorded { IsErrOf result Error.NoMemory → D.honest disk.old → (number : ℕ)
-        → IsKept (D.size disk.old) (D.trail disk.old) slot number k (shown desktop.old)
-        → LeavesOnly (D.trail disk.old) (D.trail disk.new) (Means (D.size disk.old) (shown desktop.old)) }
+        → IsKept (D.size disk.old) (D.trail disk.old) slot number k (shown (now (D.trail disk.old)).reads desktop.old)
+        → LeavesOnly (D.trail disk.old) (D.trail disk.new)
+        (Means (D.size disk.old) (shown (now (D.trail disk.old)).reads desktop.old)) }
     ensures added { OnOk result (D.honest disk.old → (number : ℕ)
-        → IsKept (D.size disk.old) (D.trail disk.old) slot number k (shown desktop.old)
-        → IsKept (D.size disk.old) (D.trail disk.new) slot number (k + 1) (shown desktop.new)) }
-    ensures stepped { IfOk result (λ reply. D.honest disk.old
-        → (shown desktop.new, reply) ≡ step (shown desktop.old) event.now) }
+        → IsKept (D.size disk.old) (D.trail disk.old) slot number k (shown (now (D.trail disk.old)).reads desktop.old)
+        → IsKept (D.size disk.old) (D.trail disk.new) slot number (k + 1)
+        (shown (now (D.trail disk.new)).reads desktop.new)) }
+    ensures stepped { IfOk result (λ reply. D.honest disk.old → (shown (now (D.trail disk.new)).reads desktop.new, reply)
+        ≡ step (shown (now (D.trail disk.old)).reads desktop.old) event.now) }
     ensures unread { IfOk result (StepsUnread desktop.old.desktop desktop.new.desktop event.now) }
     ensures replies { IfOk result IsReply }
     ensures refusal { (code : ℕ) → result ≡ Ok (No code) → desktop.new.desktop ≡ desktop.old.desktop }
-    ensures over { OnOk result (IsLive desktop.new) }
-    // the characters in the area are the front of those that there are then
-    ensures front { OnOk result (D.honest disk.old → (saved : ℕ) → SECTOR_BYTES * saved ≤ length desktop.old.characters
-        → IsFront (now (D.trail disk.old)).reads slot saved desktop.old.characters
-        → IsFront (now (D.trail disk.new)).reads slot saved desktop.new.characters) }
-    ensures longer { OnOk result (length desktop.old.characters ≤ length desktop.new.characters) }
+    ensures live { OnOk result (IsLive desktop.new) }
+    ensures told { OnOk result (IsTold D.Disk disk.new desktop.new) }
+    // the head of the slot names still what stands in the area
+    ensures named { OnOk result (D.honest disk.old → IsNamed (now (D.trail disk.old)).reads slot desktop.old
+        → IsNamed (now (D.trail disk.new)).reads slot desktop.new) }
     ensures device { IsSameDevice D.Disk disk.old disk.new }
     ensures within { StaysWithin D.Disk disk.old disk.new }
     ensures faults { FailsAs Error.Fault OfDesktop result (D.failures disk.old) (D.failures disk.new) }

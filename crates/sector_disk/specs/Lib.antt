@@ -1,7 +1,8 @@
 pub mod Trail
 pub mod Confined
 pub mod Memory
-pub mod Index
+pub mod Sectors
 pub mod File
 pub mod Failing
 pub mod Faults
+pub mod Stored

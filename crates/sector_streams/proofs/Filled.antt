@@ -9,7 +9,7 @@ use Rattle.std.proofs.Math.Seq.{take-add}
 use Rattle.std.specs.List.{between}
 use Rattle.sector_disk.specs.Trail.{Content, Moment, written}
 use Rattle.sector_disk.specs.declared.disk.TheConstants.{SECTOR_BYTES}
-use Rattle.sector_streams.specs.Stored.{Holds}
+use Rattle.sector_disk.specs.Stored.{Holds}
 use Rattle.sector_streams.specs.declared.filling.Filling.{Filling}
 use Rattle.sector_streams.specs.Filling.{InRange, IsSpread, HasTaken}
 

@@ -8,7 +8,7 @@ use Rattle.sector_disk.specs.Confined.{IsConfined}
 use Rattle.sector_disk.proofs.Confinement.{stays_put, joined}
 use Rattle.sector_disk.specs.declared.disk.TheConstants.{SECTOR_BYTES}
 use Rattle.sector_streams.specs.declared.draining.Draining.{Draining}
-use Rattle.sector_streams.specs.Stored.{stored}
+use Rattle.sector_disk.specs.Stored.{stored}
 
 -- the first sector from which it reads, how many bytes it reads in all, and how many of them it has read
 abbrev pub start_sector : Draining → ℕ

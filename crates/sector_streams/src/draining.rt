@@ -25,7 +25,7 @@ impl Draining {
     ghost use Rattle.sector_disk.specs.Trail.{Content, Nowhere, CountsFault, now};
     ghost use Rattle.sector_disk.specs.Confined.{IsConfined};
     ghost use Rattle.desk_image.specs.Passing.{IsNext};
-    ghost use Rattle.sector_streams.specs.Stored.{stored};
+    ghost use Rattle.sector_disk.specs.Stored.{stored};
     ghost use Rattle.sector_streams.specs.Draining.{start_sector, extent_of, bytes_read, bytes_left};
     ghost use Rattle.sector_streams.specs.Draining.{IsLoaded, IsOnDisk};
 

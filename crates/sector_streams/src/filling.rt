@@ -44,7 +44,7 @@ pub struct Filling {
 impl Filling {
     ghost use Rattle.sector_disk.specs.Trail.{Content, CountsFault, now};
     ghost use Rattle.sector_disk.specs.Confined.{IsConfined};
-    ghost use Rattle.sector_streams.specs.Stored.{Holds};
+    ghost use Rattle.sector_disk.specs.Stored.{Holds};
     ghost use Rattle.sector_streams.specs.Filling.{first_sector, most_sectors, SectorsOf, IsSpread, HasTaken};
 
     /// No bytes yet, on their way to `limit` sectors from sector `from` on.

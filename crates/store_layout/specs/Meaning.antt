@@ -2,7 +2,7 @@
 use Rattle.std.specs.Prelude.{◌≡◌, ◌⊎◌, ◌<◌, ◌≤◌, ◌+◌, ◌*◌, ◌/◌, ◌%◌, ℕ, true, false}
 use Rattle.std.specs.Prelude.{List, [], ◌∷◌, ◌++◌, length, take, drop}
 use Rattle.sector_disk.specs.Trail.{Content}
-use Rattle.sector_streams.specs.Stored.{stored}
+use Rattle.sector_disk.specs.Stored.{stored}
 use Rattle.event_bytes.specs.declared.event.Event.{Event}
 use Rattle.event_bytes.specs.Spelling.{Begins}
 use Rattle.desktop_definitions.specs.Desktop.{Desktop, KeptDesktop}

@@ -76,7 +76,7 @@ fn filled(disk: &mut MemoryDisk, n: u32, filling: usize) -> Sector {
 
 /// The fillings of the pending sectors that a number chooses, each by one of its digits, of which there are five; None
 /// where the number is too large.
-fn chosen(
+pub fn chosen(
     alloc: Global,
     disk: &mut MemoryDisk,
     pending: &[u32],

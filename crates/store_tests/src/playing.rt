@@ -192,6 +192,20 @@ fn script_in_pieces(rt: HostRuntime) -> Result<(), Fail> {
     Ok(())
 }
 
+/// A last line without its line feed is played, but not where reading fails behind it.
+#[test]
+fn last_line(rt: HostRuntime) -> Result<(), Fail> {
+    let rows: [(bool, PlayEnd, &[u8]); 2] = [
+        (false, PlayEnd::Done, b"written 0\nend\n"),
+        (true, PlayEnd::Input, b"input\n"),
+    ];
+    for (fails, end, wanted) in rows {
+        let (ended, written) = in_pieces(rt.alloc(), b"list", 3, fails)?;
+        assert!(rt; ended == end && written.as_slice() == wanted);
+    }
+    Ok(())
+}
+
 #[test]
 fn long_lines(rt: HostRuntime) -> Result<(), Fail> {
     let script = script_of_long_lines(rt.alloc())?;

@@ -1,9 +1,21 @@
-use Rattle.std.proofs.Common.{◌∙◌}
+use Rattle.std.proofs.Common.{sym, subst}
 use Rattle.sector_disk.specs.Trail.{now}
-use Rattle.desk_slots.proofs.Starting.{front_loaded}
+use Rattle.char_pages.specs.Cached.{AreTrue}
+use Rattle.char_pages.proofs.Caching.{none_true}
+use Rattle.sector_disk.proofs.Touching.{still_all}
+use Rattle.desk_slots.proofs.Starting.{shown_by}
 use Rattle.desk_slots.proofs.characters.load_slot.Goals as goal
 
-pub returns-in-Ok-clause-front : goal.returns-in-Ok-clause-front
-returns-in-Ok-clause-front g c = λ honest is.
-    front_loaded (now (g.D.Disk.trail c.args.disk.now)).reads c.args.slot c.args.head.now is c.over.result.characters
-    (c.over.ensures.characters ∙ c.in-Ok.ensures.start.tail honest)
+pub returns-in_ok-with_pages-in-Ok-clause-told : goal.returns-in_ok-with_pages-in-Ok-clause-told
+returns-in_ok-with_pages-in-Ok-clause-told g c = λ honest.
+    subst (AreTrue (now (g.D.Disk.trail c.load_start.new.disk)).reads) (sym c.in_ok-with_pages-in-Ok.ensures.cached)
+    (none_true _)
+
+pub returns-in_ok-with_pages-in-Ok-clause-image : goal.returns-in_ok-with_pages-in-Ok-clause-image
+returns-in_ok-with_pages-in-Ok-clause-image g c = λ honest is.
+    let s = c.in-Ok.ensures.start in
+    let p = c.in_ok-with_pages-in-Ok.ensures in
+    let content = (now (g.D.Disk.trail c.args.disk.now)).reads in
+    shown_by content _ c.args.slot c.args.head.now
+    (still_all _ _ (c.load_start.ensures.kept.moments honest)) is _ c.in-Ok.desktop c.in_ok-with_pages-in-Ok.field-0 p.desktop (p.characters content)
+    (s.front honest) (s.enough honest) (s.spelled honest)

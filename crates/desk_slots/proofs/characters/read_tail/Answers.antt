@@ -1,4 +1,4 @@
-use Rattle.std.proofs.Common.{rules, ◌∙◌, refl, arith}
+use Rattle.std.proofs.Common.{rules, ◌∙◌, arith}
 use Rattle.std.proofs.lemmas.List.{length-set}
 use Rattle.desk_slots.proofs.Starting.{byte_taken}
 use Rattle.desk_slots.proofs.characters.read_tail.Goals as goal
@@ -16,10 +16,9 @@ loop-i-preserved g c =
       };
       calm = search rules;
       wide = length-set c.loop-i.tail c.loop-i.i c.in-Some.byte ∙ i.wide;
-      characters = refl;
       taken = λ honest.
           let next = (rw c.in-Some.is at c.in_ok-byte.ensures.next) (i.only.still honest) in
           byte_taken (s.remaining c.args.source.now) c.loop-i.tail (s.remaining c.loop-i.source)
           (s.remaining c.get.new.self) c.loop-i.i c.in-Some.byte (i.taken honest) next
-          (omega (arith, c.loop-i-test.true, c.requires.short, i.wide));
+          (omega (arith, c.loop-i-test.true, c.requires, i.wide));
     }

@@ -11,6 +11,5 @@ invariant-loop-i g l =
       only : OnlyGets s.honest s.same_ground l.fn.source l.source;
       calm : s.failures l.source ≡ s.failures l.fn.source;
       wide : length l.tail ≡ SECTOR_BYTES;
-      characters : l.characters ≡ l.fn.characters;
       taken : s.honest l.fn.source → s.remaining l.fn.source ≡ take l.i l.tail ++ s.remaining l.source;
     }

@@ -1,27 +1,34 @@
-use Rattle.std.proofs.lemmas.Result.{on_ok_weaker}
-use Rattle.desk_slots.proofs.Renewing.{one_step, two_steps, three_steps, now_new}
+use Rattle.std.proofs.Common.{sym, subst}
+use Rattle.sector_disk.specs.Trail.{now}
+use Rattle.char_pages.specs.Cached.{AreTrue}
+use Rattle.store_layout.specs.Kept.{IsKept}
+use Rattle.desk_slots.proofs.Renewing.{shown_settled, named_settled}
+use Rattle.desk_slots.proofs.Staying.{told_stays, apart_renewal}
 use Rattle.desk_slots.proofs.checkpoint.renew.Goals as goal
 
-pub returns-in_err-close_slot-clause-any_moment : goal.returns-in_err-close_slot-clause-any_moment
-returns-in_err-close_slot-clause-any_moment g c = λ honest live number count was.
-    one_step was (c.close_slot.ensures.kept.moments honest)
-
-pub returns-in_err-write_slot-clause-any_moment : goal.returns-in_err-write_slot-clause-any_moment
-returns-in_err-write_slot-clause-any_moment g c = λ honest live number count was.
-    two_steps was (c.close_slot.ensures.kept.moments honest) (c.in_ok-close_slot.ensures.closed honest)
-    (c.write_slot.ensures.kept.moments (c.close_slot.ensures.kept.still honest))
-
-pub returns-clause-any_moment : goal.returns-clause-any_moment
-returns-clause-any_moment g c = λ honest live number count was.
-    let second = c.close_slot.ensures.kept.still honest in
-    three_steps was (c.close_slot.ensures.kept.moments honest) (c.in_ok-close_slot.ensures.closed honest)
-    (c.write_slot.ensures.kept.moments second) (c.in_ok-write_slot.ensures.filled second)
-    (c.open_slot.ensures.kept.moments (c.write_slot.ensures.kept.still second))
-
 pub returns-clause-renewed : goal.returns-clause-renewed
-returns-clause-renewed g c = on_ok_weaker c.open_slot.result (λ opened honest live number count was.
-    let second = c.close_slot.ensures.kept.still honest in
-    let third = c.write_slot.ensures.kept.still second in
-    now_new was (c.close_slot.ensures.kept.moments honest) (c.in_ok-close_slot.ensures.closed honest)
-    (c.write_slot.ensures.kept.moments second) (c.in_ok-write_slot.ensures.filled second)
-    (c.open_slot.ensures.kept.moments third) (opened third)) c.open_slot.ensures.opened
+returns-clause-renewed g c = λ honest live number count was.
+    let d = g.D.Disk in
+    let after = c.change_slot.new.disk in
+    subst (λ x. IsKept (d.size c.args.disk.now) (d.trail after) c.args.place.slot c.args.place.epoch 0 x)
+    (sym (shown_settled _ _ c.args.place c.args.desktop.now c.settle.new.self c.requires.live c.requires.saved
+    (c.change_slot.ensures.kept.moments honest) (c.in_ok-change_slot.ensures.front honest) c.settle.ensures.desktop
+    c.settle.ensures.same)) (c.in_ok-change_slot.ensures.renewed honest live number count was)
+
+pub returns-clause-named : goal.returns-clause-named
+returns-clause-named g c = λ honest.
+    named_settled _ _ c.args.place c.args.desktop.now c.settle.new.self c.requires.live c.requires.saved
+    (c.change_slot.ensures.kept.moments honest) (c.in_ok-change_slot.ensures.front honest) c.settle.ensures.desktop
+    c.settle.ensures.same c.settle.ensures.counted
+
+pub returns-clause-shown : goal.returns-clause-shown
+returns-clause-shown g c = λ honest.
+    shown_settled _ _ c.args.place c.args.desktop.now c.settle.new.self c.requires.live c.requires.saved
+    (c.change_slot.ensures.kept.moments honest) (c.in_ok-change_slot.ensures.front honest) c.settle.ensures.desktop
+    c.settle.ensures.same
+
+pub returns-clause-told : goal.returns-clause-told
+returns-clause-told g c = λ told honest.
+    subst (λ l. AreTrue (now (g.D.Disk.trail c.change_slot.new.disk)).reads l) (sym c.settle.ensures.cached)
+    (told_stays g.D.Disk c.args.desktop.now.pages c.change_slot.ensures.kept
+    (apart_renewal c.args.desktop.now.pages c.args.place c.requires.live.based c.requires.saved) told honest)

@@ -1,21 +1,53 @@
-use Rattle.std.proofs.Common.{[], ◌≡◌, ◌+◌, ◌∙◌, arith, ap, length, refl}
+use Rattle.std.proofs.Common.{[], ◌+◌, ◌∙◌, arith, ap, length}
 use Rattle.sector_disk.specs.Trail.{now}
+use Rattle.sector_disk.proofs.Confinement.{joined}
+use Rattle.sector_streams.specs.Filling.{sectors_are}
 use Rattle.desk_image.specs.Image.{image_of, image_bytes}
-use Rattle.desk_slots.proofs.Streaming.{all_stored}
+use Rattle.desk_slots.proofs.Counting.{no_content}
+use Rattle.desk_slots.proofs.Streaming.{all_stored, has_room}
 use Rattle.desk_slots.proofs.checkpoint.stream.Goals as goal
+
+pub returns-in_err-finish-clause-kept : goal.returns-in_err-finish-clause-kept
+returns-in_err-finish-clause-kept g c =
+    let d = g.D.Disk in
+    let f = c.new-filling.ensures in
+    let p = c.put_through.ensures in
+    joined d.size d.honest d.trail (sectors_are d c.new-filling.result (f.from ∙ c.image_at.ensures) f.limit p.kept)
+    (sectors_are d c.put_through.new.filling (p.from ∙ f.from ∙ c.image_at.ensures) (p.limit ∙ f.limit)
+    c.finish.ensures.kept)
+
+pub overflow_add-result : goal.overflow_add-result
+overflow_add-result g c =
+    let e = c.in_ok-length.ensures.spelled in
+    let room = has_room c.args.desktop.now.desktop c.args.tail.now c.in_ok-length.length
+    (c.requires.live.over no_content).whole e.0 c.requires.tail e.1 c.images_have_room.ensures in
+    omega (arith, room)
+
+pub returns-clause-kept : goal.returns-clause-kept
+returns-clause-kept g c =
+    let d = g.D.Disk in
+    let f = c.new-filling.ensures in
+    let p = c.put_through.ensures in
+    joined d.size d.honest d.trail (sectors_are d c.new-filling.result (f.from ∙ c.image_at.ensures) f.limit p.kept)
+    (sectors_are d c.put_through.new.filling (p.from ∙ f.from ∙ c.image_at.ensures) (p.limit ∙ f.limit)
+    c.finish.ensures.kept)
+
+pub returns-clause-fits : goal.returns-clause-fits
+returns-clause-fits g c =
+    let e = c.in_ok-length.ensures.spelled in
+    has_room c.args.desktop.now.desktop c.args.tail.now c.in_ok-length.length
+    (c.requires.live.over no_content).whole e.0 c.requires.tail e.1 c.images_have_room.ensures
 
 pub returns-clause-stored : goal.returns-clause-stored
 returns-clause-stored g c = λ honest.
     let f = c.new-filling.ensures in
     let p = c.put_through.ensures in
-    let second = p.kept.still honest in
+    let e = c.in_ok-length.ensures.spelled in
     let d = c.args.desktop.now.desktop in
     let bytes = image_bytes (image_of d) in
-    let count : c.in_ok-length.length ≡ length bytes = c.in_ok-length.ensures.spelled.1 in
-    let room = c.images_have_room.ensures d.written bytes d
-    (record { count = refl; whole = c.requires.over.whole; parts = c.in_ok-length.ensures.spelled.0; exact = refl }) in
     all_stored (now (g.D.Disk.trail c.finish.new.disk)).reads c.put_through.new.filling _
     (length c.args.tail.now + c.in_ok-length.length) c.args.tail.now bytes
-    (p.from ∙ f.from ∙ c.image_at.ensures) (p.limit ∙ f.limit) (ap (λ n. length c.args.tail.now + n) count)
-    (omega (arith, count, room, c.requires.tail, c.requires.over.counted))
-    (c.in_ok-finish.ensures.held second _ (c.in_ok-length.ensures.taken honest [] (f.taken _)))
+    (p.from ∙ f.from ∙ c.image_at.ensures) (p.limit ∙ f.limit) (ap (λ n. length c.args.tail.now + n) e.1)
+    (has_room d c.args.tail.now c.in_ok-length.length (c.requires.live.over no_content).whole e.0 c.requires.tail e.1
+    c.images_have_room.ensures)
+    (c.in_ok-finish.ensures.held (p.kept.still honest) _ (c.in_ok-length.ensures.taken honest [] (f.taken _)))

@@ -1,6 +1,8 @@
-use Rattle.std.proofs.Common.{arith}
+use Rattle.std.proofs.Common.{◌/◌, ◌∙◌, ap}
 use Rattle.std.proofs.lemmas.Result.{err_from_is_err_and}
-use Rattle.desk_slots.proofs.Loading.{image_damage, body_damage, shows, loaded, front_after}
+use Rattle.sector_disk.proofs.Confinement as confined
+use Rattle.desk_slots.proofs.Loading.{image_damage, body_damage, shows, loaded, named_after}
+use Rattle.sector_disk.specs.declared.disk.TheConstants.{SECTOR_BYTES}
 use Rattle.desk_slots.proofs.loaded.load.Goals as goal
 
 pub returns-in_err-desktop-clause-damaged : goal.returns-in_err-desktop-clause-damaged
@@ -37,6 +39,12 @@ returns-clause-shown g c = λ honest.
     let replays = c.replay.ensures.kept.moments third in (
       loaded found first (e.image second) loads (c.in_ok-events.ensures.whole third) replays
           (c.in_ok-slot.ensures.quiet honest),
-      front_after found.is first loads replays (e.front second) (omega (arith, e.long))
-          (c.in_ok-events.ensures.grows third),
+      named_after _ c.replay.new.desktop found.is first loads replays
+          (ap (λ n. n / SECTOR_BYTES) c.in_ok-events.ensures.counted ∙ e.saved),
     )
+
+pub returns-clause-kept : goal.returns-clause-kept
+returns-clause-kept g c =
+    let d = g.D.Disk in
+    confined.joined d.size d.honest d.trail
+    (confined.joined d.size d.honest d.trail c.locate.ensures.kept c.load_slot.ensures.kept) c.replay.ensures.kept

@@ -1,4 +1,4 @@
-use Rattle.desk_slots.proofs.Recording.{one_call, both_calls, recorded, front_staged, front_sealed}
+use Rattle.desk_slots.proofs.Recording.{one_call, both_calls, recorded}
 use Rattle.desk_slots.proofs.records.add_record.Goals as goal
 
 pub returns-in_err-stage-clause-any_moment : goal.returns-in_err-stage-clause-any_moment
@@ -20,10 +20,3 @@ returns-clause-added g c = λ h number desktop kept.
     let second = c.stage.ensures.kept.still h in
     recorded kept c.requires.index (c.stage.ensures.kept.moments h) (c.in_ok-stage.ensures.staged h)
     (c.seal.ensures.kept.moments second) (c.in_ok-seal.ensures.opened second) (c.in_ok-seal.ensures.quiet second)
-
-pub returns-clause-front : goal.returns-clause-front
-returns-clause-front g c = λ h saved characters was.
-    front_sealed _ _ c.args.slot c.args.k saved characters c.requires.two c.requires.index
-    (c.seal.ensures.kept.moments (c.stage.ensures.kept.still h))
-    (front_staged _ _ c.args.slot c.args.k saved characters c.requires.two c.requires.index
-    (c.stage.ensures.kept.moments h) was)

@@ -1,8 +1,11 @@
-use Rattle.std.proofs.Common.{ap, sym, subst}
+use Rattle.std.proofs.Common.{◌∙◌, ◌/◌, ap, sym}
+use Rattle.sector_disk.specs.declared.disk.TheConstants.{SECTOR_BYTES}
 use Rattle.sector_disk.specs.Trail.{Content}
 use Rattle.sector_disk.proofs.Touching.{still_all}
-use Rattle.store_layout.specs.Kept.{IsFront}
-use Rattle.desk_slots.proofs.Recording.{kept_then, unrecorded, read_only, read_then, kept_after, front_longer}
+use Rattle.store_layout.specs.Layout.{head_of, slot_head}
+use Rattle.store_layout.specs.Meaning.{full_sectors}
+use Rattle.desk_slots.proofs.Recording.{kept_then, unrecorded, read_only, read_then, kept_after, head_stays}
+use Rattle.desk_slots.proofs.Staying.{shown_stays, answer_stays, told_stays, apart_record}
 use Rattle.desk_slots.proofs.records.record.Goals as goal
 
 pub returns-in_err-reply-clause-any_moment : goal.returns-in_err-reply-clause-any_moment
@@ -28,14 +31,33 @@ returns-clause-any_moment g c = λ honest number kept.
 pub returns-clause-added : goal.returns-clause-added
 returns-clause-added g c = λ honest number kept.
     let s = c.step.ensures.disk in
-    kept_after g.D.Disk s honest kept c.args.event.now (ap (λ x. x.0) (c.in_ok-reply.ensures.done honest))
+    let live = c.in_ok-reply.ensures.live in
+    kept_after g.D.Disk s honest kept c.args.event.now
+    (shown_stays _ _ c.step.new.self (c.add_record.ensures.kept.moments (s.still honest))
+    (apart_record c.step.new.self.pages c.args.slot c.args.k live.based c.requires.two c.requires.index)
+    ∙ ap (λ x. x.0) (c.in_ok-reply.ensures.done honest))
     (c.in_ok-add_record.ensures.added (s.still honest) number _ (kept_then g.D.Disk s honest kept))
 
-pub returns-clause-front : goal.returns-clause-front
-returns-clause-front g c = λ honest saved within was.
+pub returns-clause-stepped : goal.returns-clause-stepped
+returns-clause-stepped g c = λ honest.
     let s = c.step.ensures.disk in
-    let before = c.args.desktop.now.characters in
-    let read = subst (λ (content : Content). IsFront content c.args.slot saved before)
-    (sym (still_all _ _ (s.moments honest))) was in
-    front_longer _ c.args.slot saved before c.step.new.self.characters within (c.in_ok-reply.ensures.grows honest)
-    (c.in_ok-add_record.ensures.front (s.still honest) saved before read)
+    let live = c.in_ok-reply.ensures.live in
+    answer_stays (shown_stays _ _ c.step.new.self (c.add_record.ensures.kept.moments (s.still honest))
+    (apart_record c.step.new.self.pages c.args.slot c.args.k live.based c.requires.two c.requires.index))
+    (c.in_ok-reply.ensures.done honest)
+
+pub returns-clause-told : goal.returns-clause-told
+returns-clause-told g c =
+    let live = c.in_ok-reply.ensures.live in
+    told_stays g.D.Disk c.step.new.self.pages c.add_record.ensures.kept
+    (apart_record c.step.new.self.pages c.args.slot c.args.k live.based c.requires.two c.requires.index)
+    c.step.ensures.told
+
+pub returns-clause-named : goal.returns-clause-named
+returns-clause-named g c = λ honest named.
+    let s = c.step.ensures.disk in
+    let head_now = head_stays _ _ c.args.slot c.args.k c.requires.two c.requires.index
+    (c.add_record.ensures.kept.moments (s.still honest))
+    ∙ ap (λ (r : Content). r (slot_head c.args.slot)) (still_all _ _ (s.moments honest)) in
+    ap (λ b. full_sectors (head_of b).written) head_now ∙ named
+    ∙ ap (λ n. n / SECTOR_BYTES) (sym c.step.ensures.counted)

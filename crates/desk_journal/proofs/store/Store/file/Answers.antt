@@ -4,5 +4,5 @@ use Rattle.desk_journal.proofs.store.Store.file.Goals as goal
 pub invariant_of-self : goal.invariant_of-self
 invariant_of-self g c = λ usable.
     let s = c.self.inside in
-    looked_at g.D.Disk s.slot s.epoch s.events s.saved s.disk c.file.new.disk s.desktop c.file.new.self
+    looked_at g.D.Disk s.slot s.epoch s.events s.disk c.file.new.disk s.desktop c.file.new.self
     c.file.ensures.disk c.file.ensures.same (c.self.invariant usable)

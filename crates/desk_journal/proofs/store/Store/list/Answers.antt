@@ -4,5 +4,5 @@ use Rattle.desk_journal.proofs.store.Store.list.Goals as goal
 pub invariant_of-self : goal.invariant_of-self
 invariant_of-self g c = λ usable.
     let s = c.self.inside in
-    looked_at g.D.Disk s.slot s.epoch s.events s.saved s.disk c.list.new.disk s.desktop c.list.new.self
+    looked_at g.D.Disk s.slot s.epoch s.events s.disk c.list.new.disk s.desktop c.list.new.self
     c.list.ensures.disk c.list.ensures.same (c.self.invariant usable)

@@ -1,5 +1,6 @@
 use Rattle.std.proofs.Common.{sym, subst, refl}
 use Rattle.store_layout.specs.Kept.{IsKept}
+use Rattle.sector_disk.specs.Trail.{now}
 use Rattle.desk_slots.specs.Live.{shown}
 use Rattle.desk_slots.proofs.Settling.{kept_shows}
 use Rattle.desk_journal.proofs.store.Store.open.Goals as goal
@@ -12,8 +13,9 @@ returns-in-Ok-clause-ok g c =
     record {
       found = e.found;
       durable = λ honest.
-          kept_shows (g.D.Disk.size disk) (g.D.Disk.trail disk) x.slot x.epoch x.events (shown x.desktop)
-          (subst (λ n. IsKept n (g.D.Disk.trail disk) x.slot x.epoch x.events (shown x.desktop)) (sym e.kept.as_large)
+          let desktop = shown (now (g.D.Disk.trail disk)).reads x.desktop in
+          kept_shows (g.D.Disk.size disk) (g.D.Disk.trail disk) x.slot x.epoch x.events desktop
+          (subst (λ n. IsKept n (g.D.Disk.trail disk) x.slot x.epoch x.events desktop) (sym e.kept.as_large)
           (e.shown (e.kept.already honest)).0);
       settled = λ honest. (e.shown honest).0.settled.quiet;
       usable = refl;

@@ -1,6 +1,7 @@
 use Rattle.std.proofs.Common.{◌≡◌, ◌<◌, ◌+◌, Ok, ap, sym, subst, refl, arith, false}
 use Rattle.store_layout.specs.declared.layout.TheConstants.{JOURNAL_EVENTS}
 use Rattle.store_layout.specs.Kept.{IsKept}
+use Rattle.sector_disk.specs.Trail.{now}
 use Rattle.desk_slots.specs.Live.{shown}
 use Rattle.desk_journal.specs.Posting.{IsAcknowledged}
 use Rattle.desk_journal.specs.View.{StoreView}
@@ -12,7 +13,7 @@ returns-clause-ok g c =
     let s = c.self.inside in
     let r = c.in_ok-reply.ensures in
     let after = c.record.new in
-    let live = shown after.desktop in
+    let live = shown (now (g.D.Disk.trail after.disk)).reads after.desktop in
     let room : s.events < JOURNAL_EVENTS = subst (λ v. v.must_reopen ≡ false → v.events < JOURNAL_EVENTS)
     (sym c.self.view_is) c.requires c.if-self.false in
     let store : StoreView g.row.D.Denot = record {

@@ -4,5 +4,5 @@ use Rattle.desk_journal.proofs.store.Store.screen.Goals as goal
 pub invariant_of-self : goal.invariant_of-self
 invariant_of-self g c = λ usable.
     let s = c.self.inside in
-    looked_at g.D.Disk s.slot s.epoch s.events s.saved s.disk c.screen.new.disk s.desktop c.screen.new.self
+    looked_at g.D.Disk s.slot s.epoch s.events s.disk c.screen.new.disk s.desktop c.screen.new.self
     c.screen.ensures.disk c.screen.ensures.same (c.self.invariant usable)

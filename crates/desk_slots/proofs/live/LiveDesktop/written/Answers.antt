@@ -1,4 +1,5 @@
+use Rattle.desk_slots.specs.Live.{characters_of}
 use Rattle.desk_slots.proofs.live.LiveDesktop.written.Goals as goal
 
 pub returns : goal.returns
-returns c = c.written.ensures c.args.self.now.characters
+returns c = λ content. c.written.ensures (characters_of content c.args.self.now)

@@ -1,0 +1,58 @@
+-- Characters of which the first stand on a disk: where each is found, writes to other sectors, and more of them on the
+-- disk than before.
+use Rattle.std.proofs.Common.{◌≡◌, ℕ, ◌+◌, ◌-◌, ◌/◌, ◌%◌, ◌<◌, ◌≤◌, List, ◌++◌, length, get_or, take, drop}
+use Rattle.std.proofs.Common.{sym, ◌∙◌, ap, arith, length-append}
+use Rattle.std.proofs.lemmas.List.{get_or-append_right, get_or_append_left, take-append-drop}
+use Rattle.std.proofs.Math.Seq.{drop-append-add}
+use Rattle.sector_disk.specs.declared.disk.TheConstants.{SECTOR_BYTES}
+use Rattle.sector_disk.specs.Trail.{Content}
+use Rattle.sector_disk.specs.Stored.{stored, stored_at, stored_same, length-stored}
+
+module _ (c : Content) (base saved : ℕ) (rest : List ℕ) where
+  -- how many there are
+  pub length-paged : length (stored c base saved ++ rest) ≡ saved + length rest
+  length-paged = length-append (stored c base saved) rest ∙ ap (λ n. n + length rest) (length-stored c base saved)
+
+  -- one on the disk
+  pub paged_in_area : (i : ℕ) → i < saved → get_or (stored c base saved ++ rest) i 0
+      ≡ get_or (c (base + i / SECTOR_BYTES)) (i % SECTOR_BYTES) 0
+  paged_in_area i low = get_or_append_left (stored c base saved) rest 0 i (omega (arith, low, length-stored c base saved))
+      ∙ stored_at c base saved i low
+
+  -- one in memory
+  pub paged_behind : (i : ℕ) → saved ≤ i → get_or (stored c base saved ++ rest) i 0 ≡ get_or rest (i - saved) 0
+  paged_behind i past = get_or-append_right (stored c base saved) rest saved i 0 (length-stored c base saved) past
+
+-- the same characters where their sectors read the same
+pub paged_on : (c c' : Content) (base saved : ℕ) (rest : List ℕ) → saved % SECTOR_BYTES ≡ 0
+    → ((n : ℕ) → base ≤ n → n < base + saved / SECTOR_BYTES → c' n ≡ c n)
+    → stored c' base saved ++ rest ≡ stored c base saved ++ rest
+paged_on c c' base saved rest whole same = ap (λ l. l ++ rest) (stored_same c c' base saved
+    (λ k low. same (base + k) (omega arith) (omega (arith, low, whole))))
+
+-- where more of them stand on the disk by now, those needn't be in memory
+pub paged_settled : (c : Content) (base saved more : ℕ) (rest : List ℕ) → saved ≤ more
+    → stored c base more ≡ take more (stored c base saved ++ rest)
+    → stored c base more ++ drop (more - saved) rest ≡ stored c base saved ++ rest
+paged_settled c base saved more rest le holds =
+    ap (λ l. l ++ drop (more - saved) rest) holds
+    ∙ ap (λ l. take more (stored c base saved ++ rest) ++ l) (sym behind)
+    ∙ take-append-drop more (stored c base saved ++ rest)
+  where
+    at : length (stored c base saved) + (more - saved) ≡ more
+    at = omega (arith, le, length-stored c base saved)
+
+    behind : drop more (stored c base saved ++ rest) ≡ drop (more - saved) rest
+    behind = ap (λ n. drop n (stored c base saved ++ rest)) (sym at)
+        ∙ drop-append-add (stored c base saved) rest (more - saved)
+
+-- the same characters where all parts are the same
+pub paged_same : {c c' : Content} {base base' saved saved' : ℕ} {rest rest' : List ℕ} → c' ≡ c → base' ≡ base
+    → saved' ≡ saved → rest' ≡ rest → stored c' base' saved' ++ rest' ≡ stored c base saved ++ rest
+paged_same same_c same_base same_saved same_rest = λ i. stored (same_c i) (same_base i) (same_saved i) ++ same_rest i
+
+-- as many characters, whatever is read
+pub paged_as_long : (c c' : Content) (base base' saved saved' : ℕ) (rest rest' : List ℕ) → saved' ≡ saved → rest' ≡ rest
+    → length (stored c' base' saved' ++ rest') ≡ length (stored c base saved ++ rest)
+paged_as_long c c' base base' saved saved' rest rest' same_saved same_rest = length-paged c' base' saved' rest'
+    ∙ (λ i. same_saved i + length (same_rest i)) ∙ sym (length-paged c base saved rest)

@@ -1,0 +1,35 @@
+use Rattle.std.proofs.Common.{◌≤◌, ℕ, Result, Ok, Err, refl, arith}
+use Rattle.sector_disk.specs.Trail.{now, CountsFault}
+use Rattle.sector_disk.proofs.Touching.{still_all}
+use Rattle.char_pages.specs.Ground.{none_more}
+use Rattle.char_pages.proofs.Paging.{length-paged, paged_same, paged_as_long}
+use Rattle.char_pages.proofs.paged.PagedCharSource.char_at.Goals as goal
+
+no_fewer_by : {T E : Type 0} {old new : ℕ} (result : Result T E) → CountsFault result old new → old ≤ new
+no_fewer_by (Ok t) same = omega (arith, same)
+no_fewer_by (Err e) rose = omega (arith, rose)
+
+pub char_over-requires-clause-within : goal.char_over-requires-clause-within
+char_over-requires-clause-within g c =
+    let p = c.args.self.now.pages.now in
+    let reads = (now (g.D.Disk.trail c.args.self.now.disk.now)).reads in
+    omega (arith, c.requires, length-paged reads p.base p.saved p.rest.items)
+
+pub returns-clause-reads : goal.returns-clause-reads
+returns-clause-reads g c =
+    let r = c.char_over.ensures in
+    record {
+      as_long = paged_as_long _ _ _ _ _ _ _ _ r.counted r.rest;
+      same = λ h. paged_same (still_all _ _ (r.kept.moments h)) r.base r.counted r.rest;
+      still = r.kept.still;
+      already = r.kept.already;
+      stands = record {
+        confined = r.kept;
+        same_base = r.base;
+        same_saved = r.counted;
+        only_added = none_more _ _ r.rest;
+        same_disk = refl;
+        same_pages = refl;
+      };
+      no_fewer = no_fewer_by c.char_over.result r.cause;
+    }

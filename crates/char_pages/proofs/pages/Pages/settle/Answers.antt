@@ -1,0 +1,18 @@
+use Rattle.std.proofs.Common.{◌≡◌, ◌-◌, ◌/◌, length, ◌∙◌, ap, arith}
+use Rattle.std.proofs.lemmas.List.{length-drop}
+use Rattle.sector_disk.specs.declared.disk.TheConstants.{SECTOR_BYTES}
+use Rattle.char_pages.proofs.Caching.{below_more}
+use Rattle.char_pages.proofs.pages.Pages.settle.Goals as goal
+
+pub invariant_of-self-clause-few : goal.invariant_of-self-clause-few
+invariant_of-self-clause-few c =
+    let p = c.args.self.now in
+    let left : length c.drop_front.new.bytes.items ≡ length p.rest.items - (c.args.saved - p.saved) =
+    ap length c.drop_front.ensures ∙ length-drop (c.args.saved - p.saved) p.rest.items in
+    omega (arith, left, c.requires.more, c.requires.within, p.few)
+
+pub invariant_of-self-clause-below : goal.invariant_of-self-clause-below
+invariant_of-self-clause-below c =
+    let p = c.args.self.now in
+    below_more {many = p.saved / SECTOR_BYTES} {more = c.args.saved / SECTOR_BYTES} (omega (arith, c.requires.more))
+    p.below

@@ -1,0 +1,3 @@
+pub mod Cached
+pub mod Pages
+pub mod Ground

@@ -1,0 +1,37 @@
+-- Characters of which the first stand on a disk.
+use Rattle.std.specs.Prelude.{◌+◌, ◌*◌, ◌/◌, ℕ, List, ◌++◌, length}
+use Rattle.sector_disk.specs.declared.disk.TheConstants.{SECTOR_BYTES}
+use Rattle.sector_disk.specs.Trail.{Content}
+use Rattle.sector_disk.specs.Stored.{stored}
+use Rattle.char_pages.specs.declared.pages.Pages.{Pages}
+
+-- the first sector of those on the disk
+abbrev pub base_of : Pages → ℕ
+base_of p = p.base
+
+-- how many characters stand on the disk, and in how many sectors
+abbrev pub saved_of : Pages → ℕ
+saved_of p = p.saved
+
+abbrev pub saved_sectors : Pages → ℕ
+saved_sectors p = p.saved / SECTOR_BYTES
+
+-- the characters after them, which are in memory
+abbrev pub rest_of : Pages → List ℕ
+rest_of p = p.rest.items
+
+-- how many characters there are
+abbrev pub many_of : Pages → ℕ
+many_of p = saved_of p + length (rest_of p)
+
+-- the sectors of the disk that are in memory as well, each under its number
+abbrev pub cached_of : Pages → List (ℕ × List ℕ)
+cached_of p = p.cache.entries
+
+-- how many characters are in memory
+abbrev pub held_in : Pages → ℕ
+held_in p = length (rest_of p) + SECTOR_BYTES * length (cached_of p)
+
+-- all characters, where the disk reads this
+abbrev pub paged_characters : Content → Pages → List ℕ
+paged_characters c p = stored c (base_of p) (saved_of p) ++ rest_of p

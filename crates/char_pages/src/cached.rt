@@ -1,0 +1,56 @@
+//! Bytes of sectors, which a cache keeps for a while.
+ghost use Rattle.std.specs.Prelude.{◌≡◌, ◌<◌, get_or, IfOk, IfSome};
+ghost use Rattle.sector_disk.specs.Trail.{Content, CountsFault, Nowhere, now};
+ghost use Rattle.sector_disk.specs.Confined.{IsConfined};
+ghost use Rattle.char_pages.specs.Cached.{AreTrue, AddsSector};
+
+use lru::LruCache;
+use sector_disk::{Disk, Fault, SECTOR_BYTES, Sector};
+
+/// Sectors, each under its number.
+pub(crate) type Cache = LruCache<u32, Sector>;
+
+/// Byte `at` of sector n, if that is the sector that was asked for last. It looks nothing up and moves nothing.
+fn newest(cache: &Cache, n: u32, at: usize) -> Option<u8>
+    requires { at < SECTOR_BYTES }
+    ensures { IfSome result (λ byte. (c : Content) → AreTrue c cache.now.entries → byte ≡ get_or (c n) at 0) }
+{
+    if let Some((number, sector)) = cache.peek_mru() {
+        if *number == n {
+            return Some(sector[at]);
+        }
+    }
+    None
+}
+
+/// Byte `at` of sector n. A sector that the cache doesn't hold is read from the disk and put into it. Where there is no
+/// memory to put it there, the byte is returned all the same.
+pub(crate) fn byte_of<D: Disk>(
+    disk: &mut D,
+    cache: &mut Cache,
+    n: u32,
+    at: usize,
+) -> Result<u8, Fault>
+    requires there { n < D.size disk.old }
+    requires within { at < SECTOR_BYTES }
+    ensures value { IfOk result (λ byte. D.honest disk.old → AreTrue (now (D.trail disk.old)).reads cache.old.entries
+        → byte ≡ get_or ((now (D.trail disk.old)).reads n) at 0) }
+    ensures cached { AddsSector (D.honest disk.old) (now (D.trail disk.old)).reads n cache.old.entries
+        cache.new.entries }
+    ensures capacity { cache.new.cap ≡ cache.old.cap }
+    ensures kept { IsConfined D.size D.honest D.trail Nowhere disk.old disk.new }
+    ensures cause { CountsFault result (D.failures disk.old) (D.failures disk.new) }
+{
+    if let Some(byte) = newest(cache, n, at) {
+        return Ok(byte);
+    }
+    if let Some(sector) = cache.peek(&n) {
+        let byte = sector[at];
+        cache.promote(&n);
+        return Ok(byte);
+    }
+    let mut sector = [0; SECTOR_BYTES as usize];
+    disk.read(n, &mut sector)?;
+    let _ = cache.put(n, sector);
+    Ok(sector[at])
+}

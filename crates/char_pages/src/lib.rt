@@ -1,0 +1,13 @@
+//! Characters of which the first stand on a disk and the others in memory.
+//!
+//! Characters are never changed once they are there, so those that fill whole sectors can be written once and then be
+//! read from the disk. `Pages` is what is in memory of them: those that aren't on the disk, and the sectors that were
+//! read last. `Paged` puts it over the disk for the time of a call, and is a source of characters like any other.
+#![tactic(auto)]
+
+mod cached;
+mod paged;
+mod pages;
+
+pub use paged::Paged;
+pub use pages::{CACHED_SECTORS, Pages};

@@ -1,0 +1,176 @@
+//! What is in memory of characters of which the first stand on a disk.
+ghost use Rattle.std.specs.Prelude.{◌≡◌, ◌+◌, ◌*◌, ◌/◌, ◌%◌, ◌≤◌, length, drop};
+ghost use Rattle.std.specs.NonZero.{non_zero_usize_get};
+ghost use Rattle.sector_disk.specs.declared.disk.TheConstants.{SECTOR_BYTES};
+ghost use Rattle.char_file.specs.declared.source.TheConstants.{MOST_CHARACTERS};
+ghost use Rattle.char_pages.specs.declared.pages.TheConstants.{CACHED_SECTORS};
+ghost use Rattle.char_pages.specs.Cached.{AreBelow};
+
+use crate::cached::{Cache, byte_of};
+use char_file::{MOST_CHARACTERS, NoMemory};
+use lru::LruCache;
+use sector_disk::{Disk, Fault, SECTOR_BYTES};
+use std::alloc::Global;
+use std::num::NonZeroUsize;
+
+/// How many sectors of the disk are in memory at most.
+pub const CACHED_SECTORS: u32 = 64;
+
+/// Characters of which the first fill whole sectors of a disk. The others are in memory, and so are those sectors that
+/// were read last. It holds no disk: a call that reads is given it.
+#[derive(Drop)]
+pub struct Pages {
+    /// The first of the sectors on the disk.
+    base: u32,
+
+    /// How many characters stand on the disk.
+    saved: u32,
+
+    /// The characters after them.
+    rest: Vec<u8>,
+
+    /// Sectors that were read from the disk.
+    cache: Cache,
+    ghost whole: { saved % SECTOR_BYTES ≡ 0 },
+    ghost few: { saved + length rest.items ≤ MOST_CHARACTERS },
+    ghost room: { cache.cap ≡ CACHED_SECTORS },
+    ghost below: { AreBelow base (saved / SECTOR_BYTES) cache.entries },
+}
+
+/// How many sectors a cache takes.
+fn capacity() -> NonZeroUsize
+    ensures { non_zero_usize_get result ≡ CACHED_SECTORS }
+{
+    match NonZeroUsize::new(CACHED_SECTORS as usize) {
+        Some(n) => n,
+        None => unreachable!(),
+    }
+}
+
+/// Takes the first n bytes away, with no memory for it.
+fn drop_front(bytes: &mut Vec<u8>, n: usize)
+    requires { n ≤ length bytes.old.items }
+    ensures { bytes.new.items ≡ drop n bytes.old.items }
+{
+    let left = bytes.len() - n;
+    bytes.copy_within(n.., 0);
+    bytes.truncate(left);
+}
+
+impl Pages {
+    ghost use Rattle.std.specs.Prelude.{◌-◌, ◌<◌, ◌++◌, [], get_or, IfOk, OnOk, OnErr};
+    ghost use Rattle.sector_disk.specs.Trail.{CountsFault, Nowhere, now};
+    ghost use Rattle.sector_disk.specs.Confined.{IsConfined};
+    ghost use Rattle.char_pages.specs.Cached.{AreTrue};
+    ghost use Rattle.char_pages.specs.Pages.{base_of, saved_of, saved_sectors, rest_of, many_of, cached_of, held_in};
+    ghost use Rattle.char_pages.specs.Pages.{paged_characters};
+
+    /// The first `saved` characters stand on a disk from sector `base` on, and `tail` are the others. No sector is in
+    /// memory yet. `NoMemory`: an allocation was refused.
+    pub fn new(alloc: Global, base: u32, saved: u32, tail: &[u8]) -> Result<Pages, NoMemory>
+        requires whole { saved % SECTOR_BYTES ≡ 0 }
+        requires few { saved + length tail.now ≤ MOST_CHARACTERS }
+        ensures base { IfOk result (λ p. base_of p ≡ base) }
+        ensures saved { IfOk result (λ p. saved_of p ≡ saved) }
+        ensures rest { IfOk result (λ p. rest_of p ≡ tail.now) }
+        ensures cached { IfOk result (λ p. cached_of p ≡ []) }
+    {
+        let cache = LruCache::new(alloc, capacity())?;
+        let mut rest = Vec::new(alloc);
+        rest.extend_from_slice(tail)?;
+        Ok(Pages {
+            base,
+            saved,
+            rest,
+            cache,
+        })
+    }
+
+    /// How many characters there are.
+    pub fn len(&self) -> u32
+        ensures count { result ≡ many_of self.now }
+        ensures most { result ≤ MOST_CHARACTERS }
+    {
+        self.saved + self.rest.len() as u32
+    }
+
+    /// How many sectors of the disk hold characters.
+    pub fn saved_sectors(&self) -> u32
+        ensures { result ≡ saved_sectors self.now }
+    {
+        self.saved / SECTOR_BYTES
+    }
+
+    /// How many characters are in memory: those that aren't on the disk, and a sector's for each that was read and is
+    /// still there. They are few: those that aren't on the disk, and 64 sectors at most.
+    pub fn held(&self) -> u32
+        ensures held { result ≡ held_in self.now }
+        ensures few { result ≤ many_of self.now - saved_of self.now + SECTOR_BYTES * CACHED_SECTORS }
+    {
+        self.rest.len() as u32 + SECTOR_BYTES * self.cache.len() as u32
+    }
+
+    /// The characters that aren't on the disk.
+    pub fn rest(&self) -> &[u8]
+        ensures { result.now ≡ rest_of self.now }
+    {
+        &self.rest
+    }
+
+    /// The first `saved` characters stand on the disk by now: those of them that were in memory are given up. It takes
+    /// no memory.
+    pub fn settle(&mut self, saved: u32)
+        requires whole { saved % SECTOR_BYTES ≡ 0 }
+        requires more { saved_of self.old ≤ saved }
+        requires within { saved ≤ many_of self.old }
+        ensures base { base_of self.new ≡ base_of self.old }
+        ensures saved { saved_of self.new ≡ saved }
+        ensures rest { rest_of self.new ≡ drop (saved - saved_of self.old) (rest_of self.old) }
+        ensures cached { cached_of self.new ≡ cached_of self.old }
+    {
+        let gone = (saved - self.saved) as usize;
+        drop_front(&mut self.rest, gone);
+        self.saved = saved;
+    }
+
+    /// The character at an offset, with the disk on which the first ones stand. `Fault`: the disk failed.
+    pub(crate) fn char_over<D: Disk>(&mut self, disk: &mut D, offset: u32) -> Result<u8, Fault>
+        requires on_disk { base_of self.old + saved_sectors self.old ≤ D.size disk.old }
+        requires within { offset < many_of self.old }
+        ensures value { IfOk result (λ byte. D.honest disk.old
+            → AreTrue (now (D.trail disk.old)).reads (cached_of self.old)
+            → byte ≡ get_or (paged_characters (now (D.trail disk.old)).reads self.old) offset 0) }
+        ensures cached { D.honest disk.old → AreTrue (now (D.trail disk.old)).reads (cached_of self.old)
+            → AreTrue (now (D.trail disk.new)).reads (cached_of self.new) }
+        ensures base { base_of self.new ≡ base_of self.old }
+        ensures counted { saved_of self.new ≡ saved_of self.old }
+        ensures rest { rest_of self.new ≡ rest_of self.old }
+        ensures kept { IsConfined D.size D.honest D.trail Nowhere disk.old disk.new }
+        ensures cause { CountsFault result (D.failures disk.old) (D.failures disk.new) }
+    {
+        if offset < self.saved {
+            let _ = disk.sectors(); // it is below 2 ^ 32, and so is each sector's number
+            let sector = self.base + offset / SECTOR_BYTES;
+            let at = (offset % SECTOR_BYTES) as usize;
+            byte_of(disk, &mut self.cache, sector, at)
+        } else {
+            let at = (offset - self.saved) as usize;
+            Ok(self.rest[at])
+        }
+    }
+
+    /// Adds characters at the end, in memory, and returns the offset of the first of them. `NoMemory`: none was added.
+    pub(crate) fn append(&mut self, bytes: &[u8]) -> Result<u32, NoMemory>
+        requires { many_of self.old + length bytes.now ≤ MOST_CHARACTERS }
+        ensures offset { IfOk result (λ offset. offset ≡ many_of self.old) }
+        ensures added { OnOk result (rest_of self.new ≡ rest_of self.old ++ bytes.now) }
+        ensures refused { OnErr result (rest_of self.new ≡ rest_of self.old) }
+        ensures base { base_of self.new ≡ base_of self.old }
+        ensures counted { saved_of self.new ≡ saved_of self.old }
+        ensures cached { cached_of self.new ≡ cached_of self.old }
+    {
+        let offset = self.len();
+        self.rest.extend_from_slice(bytes)?;
+        Ok(offset)
+    }
+}

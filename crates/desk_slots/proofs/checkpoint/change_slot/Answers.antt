@@ -1,0 +1,41 @@
+use Rattle.std.proofs.lemmas.Result.{on_ok_weaker}
+use Rattle.desk_slots.proofs.Renewing.{one_step, two_steps, three_steps, now_new, filled_still, front_still}
+use Rattle.desk_slots.proofs.checkpoint.change_slot.Goals as goal
+
+pub returns-in_err-close_slot-clause-any_moment : goal.returns-in_err-close_slot-clause-any_moment
+returns-in_err-close_slot-clause-any_moment g c = λ honest live number count was.
+    one_step was (c.close_slot.ensures.kept.moments honest)
+
+pub returns-in_err-write_slot-clause-any_moment : goal.returns-in_err-write_slot-clause-any_moment
+returns-in_err-write_slot-clause-any_moment g c = λ honest live number count was.
+    two_steps was (c.close_slot.ensures.kept.moments honest) (c.in_ok-close_slot.ensures.closed honest)
+    (c.write_slot.ensures.kept.moments (c.close_slot.ensures.kept.still honest))
+
+pub returns-clause-any_moment : goal.returns-clause-any_moment
+returns-clause-any_moment g c = λ honest live number count was.
+    let first = c.close_slot.ensures.kept.moments honest in
+    let second = c.close_slot.ensures.kept.still honest in
+    three_steps was first (c.in_ok-close_slot.ensures.closed honest) (c.write_slot.ensures.kept.moments second)
+    (filled_still _ _ _ c.args.place.epoch c.args.place c.args.desktop.now c.requires.live first
+    (c.in_ok-write_slot.ensures.filled second))
+    (c.open_slot.ensures.kept.moments (c.write_slot.ensures.kept.still second))
+
+pub returns-clause-renewed : goal.returns-clause-renewed
+returns-clause-renewed g c = on_ok_weaker c.open_slot.result (λ opened honest live number count was.
+    let first = c.close_slot.ensures.kept.moments honest in
+    let second = c.close_slot.ensures.kept.still honest in
+    let third = c.write_slot.ensures.kept.still second in
+    now_new was first (c.in_ok-close_slot.ensures.closed honest) (c.write_slot.ensures.kept.moments second)
+    (filled_still _ _ _ c.args.place.epoch c.args.place c.args.desktop.now c.requires.live first
+    (c.in_ok-write_slot.ensures.filled second))
+    (c.open_slot.ensures.kept.moments third) (opened third)) c.open_slot.ensures.opened
+
+pub returns-clause-front : goal.returns-clause-front
+returns-clause-front g c = on_ok_weaker c.open_slot.result (λ opened honest.
+    let first = c.close_slot.ensures.kept.moments honest in
+    let second = c.close_slot.ensures.kept.still honest in
+    let filled = filled_still _ _ _ c.args.place.epoch c.args.place c.args.desktop.now c.requires.live first
+    (c.in_ok-write_slot.ensures.filled second) in
+    front_still _ _ c.args.place.slot _ _ c.args.place.two
+    (c.open_slot.ensures.kept.moments (c.write_slot.ensures.kept.still second)) filled.front)
+    c.open_slot.ensures.opened

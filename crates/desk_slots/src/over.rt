@@ -1,0 +1,130 @@
+//! Calls of a desktop over pages and a disk.
+ghost use Rattle.std.specs.Prelude.{◌≡◌, ◌≤◌, ◌+◌, ℕ, Ok, IfOk, OnOk, length};
+ghost use Rattle.char_pages.specs.Pages.{base_of, saved_of, saved_sectors, paged_characters};
+ghost use Rattle.sector_disk.specs.Trail.{Content};
+ghost use Rattle.desk_core.specs.Stops.{IsStop};
+ghost use Rattle.desktop_definitions.specs.Seen.{seen};
+ghost use Rattle.piece_ring.specs.Flat.{flat};
+ghost use Rattle.piece_ring.specs.Offsets.{AreWithin};
+ghost use Rattle.readers_scanners.specs.Reading.{contents};
+ghost use Rattle.desk_slots.specs.Live.{AreTrueOver, IsOverPages};
+ghost use Rattle.desk_slots.specs.Words.{Nowhere, now, IsConfined, FailsAs, No, IsReply, entries_of, shown_screen, step};
+ghost use Rattle.desk_slots.specs.Words.{StepsUnread, ListsUnread};
+
+use crate::reading::read_all;
+use char_pages::{Paged, Pages};
+use event_bytes::Event;
+use event_loop::{Desktop, Entry, Reply, Stop};
+use piece_ring::Look;
+use screen_cells::Screen;
+use sector_disk::Disk;
+use std::alloc::Global;
+use text_core::Text;
+
+/// Does the event.
+pub(crate) fn step_over<D: Disk>(
+    alloc: Global,
+    desktop: &mut Desktop,
+    event: &Event,
+    disk: &mut D,
+    pages: &mut Pages,
+) -> Result<Reply, Stop>
+    requires over { IsOverPages pages.old desktop.old }
+    requires on_disk { base_of pages.old + saved_sectors pages.old ≤ D.size disk.old }
+    requires told { AreTrueOver D.Disk disk.old pages.old }
+    ensures done { IfOk result (λ reply. D.honest disk.old
+        → (seen (paged_characters (now (D.trail disk.new)).reads pages.new) desktop.new, reply)
+        ≡ step (seen (paged_characters (now (D.trail disk.old)).reads pages.old) desktop.old) event.now) }
+    ensures unread { IfOk result (StepsUnread desktop.old desktop.new event.now) }
+    ensures replies { IfOk result IsReply }
+    ensures refusal { (code : ℕ) → result ≡ Ok (No code) → desktop.new ≡ desktop.old }
+    ensures over { OnOk result (IsOverPages pages.new desktop.new) }
+    ensures told { AreTrueOver D.Disk disk.new pages.new }
+    ensures base { base_of pages.new ≡ base_of pages.old }
+    ensures counted { saved_of pages.new ≡ saved_of pages.old }
+    ensures disk { IsConfined D.size D.honest D.trail Nowhere disk.old disk.new }
+    ensures faults { FailsAs Stop.Fault IsStop result (D.failures disk.old) (D.failures disk.new) }
+{
+    let mut source = Paged::over(disk, pages);
+    desktop.step(alloc, event, &mut source)
+}
+
+/// All characters of a text with their looks.
+pub(crate) fn read_over<D: Disk>(
+    alloc: Global,
+    text: &Text,
+    disk: &mut D,
+    pages: &mut Pages,
+) -> Result<Vec<(u8, Look)>, Stop>
+    requires within { (c : Content) → AreWithin (length (paged_characters c pages.old)) (flat text.now) }
+    requires on_disk { base_of pages.old + saved_sectors pages.old ≤ D.size disk.old }
+    requires told { AreTrueOver D.Disk disk.old pages.old }
+    ensures read { IfOk result (λ characters. D.honest disk.old → characters.items
+        ≡ contents (paged_characters (now (D.trail disk.old)).reads pages.old) (flat text.now)) }
+    ensures same { D.honest disk.old → paged_characters (now (D.trail disk.new)).reads pages.new
+        ≡ paged_characters (now (D.trail disk.old)).reads pages.old }
+    ensures long { length (paged_characters (now (D.trail disk.new)).reads pages.new)
+        ≡ length (paged_characters (now (D.trail disk.old)).reads pages.old) }
+    ensures told { AreTrueOver D.Disk disk.new pages.new }
+    ensures base { base_of pages.new ≡ base_of pages.old }
+    ensures counted { saved_of pages.new ≡ saved_of pages.old }
+    ensures disk { IsConfined D.size D.honest D.trail Nowhere disk.old disk.new }
+    ensures faults { FailsAs Stop.Fault IsStop result (D.failures disk.old) (D.failures disk.new) }
+{
+    let mut source = Paged::over(disk, pages);
+    read_all(alloc, text, &mut source)
+}
+
+/// What the desktop has.
+pub(crate) fn list_over<D: Disk>(
+    alloc: Global,
+    desktop: &mut Desktop,
+    disk: &mut D,
+    pages: &mut Pages,
+) -> Result<Vec<Entry>, Stop>
+    requires over { IsOverPages pages.old desktop.old }
+    requires on_disk { base_of pages.old + saved_sectors pages.old ≤ D.size disk.old }
+    requires told { AreTrueOver D.Disk disk.old pages.old }
+    ensures entries { IfOk result (λ entries. D.honest disk.old
+        → entries.items ≡ entries_of (seen (paged_characters (now (D.trail disk.old)).reads pages.old) desktop.old)) }
+    ensures unread { IfOk result (λ entries. ListsUnread desktop.old entries.items) }
+    ensures unchanged { desktop.new ≡ desktop.old }
+    ensures over { IsOverPages pages.new desktop.old }
+    ensures same { D.honest disk.old → paged_characters (now (D.trail disk.new)).reads pages.new
+        ≡ paged_characters (now (D.trail disk.old)).reads pages.old }
+    ensures told { AreTrueOver D.Disk disk.new pages.new }
+    ensures base { base_of pages.new ≡ base_of pages.old }
+    ensures counted { saved_of pages.new ≡ saved_of pages.old }
+    ensures disk { IsConfined D.size D.honest D.trail Nowhere disk.old disk.new }
+    ensures faults { FailsAs Stop.Fault IsStop result (D.failures disk.old) (D.failures disk.new) }
+{
+    let mut source = Paged::over(disk, pages);
+    desktop.list(alloc, &mut source)
+}
+
+/// Paints what the desktop shows.
+pub(crate) fn screen_over<D: Disk>(
+    alloc: Global,
+    desktop: &mut Desktop,
+    screen: &mut Screen,
+    disk: &mut D,
+    pages: &mut Pages,
+) -> Result<(), Stop>
+    requires over { IsOverPages pages.old desktop.old }
+    requires on_disk { base_of pages.old + saved_sectors pages.old ≤ D.size disk.old }
+    requires told { AreTrueOver D.Disk disk.old pages.old }
+    ensures shown { OnOk result (D.honest disk.old → screen.new
+        ≡ shown_screen (seen (paged_characters (now (D.trail disk.old)).reads pages.old) desktop.old)) }
+    ensures unchanged { desktop.new ≡ desktop.old }
+    ensures over { IsOverPages pages.new desktop.old }
+    ensures same { D.honest disk.old → paged_characters (now (D.trail disk.new)).reads pages.new
+        ≡ paged_characters (now (D.trail disk.old)).reads pages.old }
+    ensures told { AreTrueOver D.Disk disk.new pages.new }
+    ensures base { base_of pages.new ≡ base_of pages.old }
+    ensures counted { saved_of pages.new ≡ saved_of pages.old }
+    ensures disk { IsConfined D.size D.honest D.trail Nowhere disk.old disk.new }
+    ensures faults { FailsAs Stop.Fault IsStop result (D.failures disk.old) (D.failures disk.new) }
+{
+    let mut source = Paged::over(disk, pages);
+    desktop.screen(alloc, &mut source, screen)
+}

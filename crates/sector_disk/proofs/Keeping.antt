@@ -1,0 +1,191 @@
+-- What each change of the sectors' maps leaves of what they hold.
+use Rattle.std.proofs.Common.{◌≡◌, ◌≢◌, inl, inr, ℕ, List, if◌then◌else◌, true, false, refl, sym, ◌∙◌, ap}
+use Rattle.std.proofs.Common.{arith, ◌==◌}
+use Rattle.std.specs.declared.option.Option.{Option}
+use Rattle.std.specs.declared.option.Option.TheVariants.{None, Some}
+use Rattle.std.specs.Option.{is_some, unwrap_or}
+use Rattle.std.specs.Ordering.{nat_cmp}
+use Rattle.std.specs.BTreeMap.{BTreeMap, get, is_at, Updates, IsUnchanged, IsEmpty}
+use Rattle.std.specs.Map.{lookup}
+use Rattle.std.proofs.lemmas.Bool.{cases_eq}
+use Rattle.std.proofs.lemmas.Bool.Decides.{nat_tests}
+use Rattle.sector_disk.specs.declared.sectors.Sectors.{Sectors}
+use Rattle.sector_disk.specs.Trail.{written, settled}
+use Rattle.sector_disk.specs.Memory.{blank, zeros}
+use Rattle.sector_disk.specs.Sectors.{seen, held, IsAsBefore, IsOpened}
+
+abbrev Map : Type 0
+Map = BTreeMap ℕ (List ℕ)
+
+abbrev bytes_in : Map → ℕ → List ℕ
+bytes_in m n = unwrap_or (get nat_cmp m n) zeros
+
+none_in : (m : Map) → IsEmpty m → (n : ℕ) → get nat_cmp m n ≡ None
+none_in m empty n = ap (lookup (is_at (nat_cmp n))) empty
+
+same_in : (old new : Map) → IsUnchanged old new → (n : ℕ) → get nat_cmp new n ≡ get nat_cmp old n
+same_in old new same n = ap (lookup (is_at (nat_cmp n))) same
+
+elsewhere : (k n : ℕ) → k ≢ n → is_at (nat_cmp n) k ≡ false
+elsewhere k n other = grind (arith, nat_tests)
+
+tests_same : (k n : ℕ) → k ≡ n → (k == n) ≡ true
+tests_same k n same = grind (arith, nat_tests)
+
+tests_other : (k n : ℕ) → k ≢ n → (k == n) ≡ false
+tests_other k n other = grind (arith, nat_tests)
+
+-- the value that was put is there, and each other one stayed
+put_in : (old new : Map) (n : ℕ) (bytes : List ℕ) → Updates nat_cmp old new n (Some bytes) → (k : ℕ)
+    → get nat_cmp new k ≡ (if k == n then Some bytes else get nat_cmp old k)
+put_in old new n bytes put k = elim (cases_eq k n) [
+  | inl same ↦ ap (get nat_cmp new) same ∙ put.1
+      ∙ sym (ap (λ b. if b then Some bytes else get nat_cmp old k) (tests_same k n same))
+  | inr other ↦ put.2 k (elsewhere k n other)
+      ∙ sym (ap (λ b. if b then Some bytes else get nat_cmp old k) (tests_other k n other))
+]
+
+-- the bytes of a sector put where they stand already
+same_bytes : (old new : Map) (n : ℕ) (bytes : List ℕ) → bytes ≡ bytes_in old n
+    → Updates nat_cmp old new n (Some bytes) → (k : ℕ) → bytes_in new k ≡ bytes_in old k
+same_bytes old new n bytes are put k = elim (cases_eq k n) [
+  | inl same ↦ ap (bytes_in new) same ∙ ap (λ o. unwrap_or o zeros) put.1 ∙ are ∙ ap (bytes_in old) (sym same)
+  | inr other ↦ ap (λ o. unwrap_or o zeros) (put.2 k (elsewhere k n other))
+]
+
+all_before : (old new : Sectors) → ((k : ℕ) → bytes_in new.latest k ≡ bytes_in old.latest k)
+    → ((k : ℕ) → get nat_cmp new.settled k ≡ get nat_cmp old.settled k) → IsAsBefore old new
+unfolding seen held
+all_before old new reads rest = record {
+  reads = λ i. record { reads = λ k. reads k i; pending = λ k. is_some (rest k i) };
+  settled = λ i k. unwrap_or (rest k i) (reads k i);
+}
+
+-- no memory for the bytes, or for what was settled
+pub no_room : (old : Sectors) (latest : Map) → IsUnchanged old.latest latest
+    → IsAsBefore old (record { latest = latest; settled = old.settled })
+no_room old latest same = all_before old (record { latest = latest; settled = old.settled })
+    (λ k. ap (λ o. unwrap_or o zeros) (same_in old.latest latest same k)) (λ k. refl)
+
+module _ (old : Sectors) (latest : Map) (n : ℕ) (bytes : List ℕ) (are : bytes ≡ (seen old).reads n)
+    (put : Updates nat_cmp old.latest latest n (Some bytes)) where
+  reads_on : (k : ℕ) → bytes_in latest k ≡ bytes_in old.latest k
+  unfolding seen
+  reads_on = same_bytes old.latest latest n bytes are put
+
+  pub no_room_settled : (kept : Map) → IsUnchanged old.settled kept
+      → IsAsBefore old (record { latest = latest; settled = kept })
+  no_room_settled kept same = all_before old (record { latest = latest; settled = kept }) reads_on
+      (same_in old.settled kept same)
+
+  pub open_already : (seen old).pending n ≡ true → IsOpened old (record { latest = latest; settled = old.settled }) n
+  unfolding seen held
+  open_already pends = record {
+    reads = reads_on;
+    pending = λ k. elim (cases_eq k n) [
+      | inl same ↦ ap (λ k. (seen old).pending k) same ∙ pends
+          ∙ sym (ap (λ b. if b then true else (seen old).pending k) (tests_same k n same))
+      | inr other ↦ sym (ap (λ b. if b then true else (seen old).pending k) (tests_other k n other))
+    ];
+    settled = λ i k. unwrap_or (get nat_cmp old.settled k) (reads_on k i);
+    room = ap is_some put.1;
+  }
+
+  pub opened : (kept : Map) → (seen old).pending n ≡ false → Updates nat_cmp old.settled kept n (Some bytes)
+      → IsOpened old (record { latest = latest; settled = kept }) n
+  unfolding seen held
+  opened kept quiet settles = record {
+    reads = reads_on;
+    pending = λ k. ap is_some (put_in old.settled kept n bytes settles k) ∙ moved (k == n) k;
+    settled = λ i k. held_on k i;
+    room = ap is_some put.1;
+  }
+    where
+      moved : (b : _) (k : ℕ) → is_some (if b then Some bytes else get nat_cmp old.settled k)
+          ≡ (if b then true else is_some (get nat_cmp old.settled k))
+      moved true k = refl
+      moved false k = refl
+
+      missing : (o : Option (List ℕ)) (d : List ℕ) → is_some o ≡ false → d ≡ unwrap_or o d
+      missing None d none = refl
+      missing (Some x) d some = absurd (cc)
+
+      held_on : (k : ℕ) → unwrap_or (get nat_cmp kept k) (bytes_in latest k)
+          ≡ unwrap_or (get nat_cmp old.settled k) (bytes_in old.latest k)
+      held_on k = elim (cases_eq k n) [
+        | inl same ↦ ap (λ o. unwrap_or o (bytes_in latest k)) (ap (get nat_cmp kept) same ∙ settles.1)
+            ∙ are ∙ missing (get nat_cmp old.settled n) (bytes_in old.latest n) quiet
+            ∙ ap (λ k. unwrap_or (get nat_cmp old.settled k) (bytes_in old.latest k)) (sym same)
+        | inr other ↦ ap (λ o. unwrap_or o (bytes_in latest k)) (settles.2 k (elsewhere k n other))
+            ∙ ap (unwrap_or (get nat_cmp old.settled k)) (reads_on k)
+      ]
+
+-- the write of a sector that is open
+module _ (old mid : Sectors) (latest : Map) (n : ℕ) (bytes : List ℕ) (is : IsOpened old mid n)
+    (put : Updates nat_cmp mid.latest latest n (Some bytes)) where
+  pub wrote : seen (record { latest = latest; settled = mid.settled }) ≡ written (seen old) n bytes
+  unfolding seen
+  wrote = λ i. record { reads = λ k. reads k i; pending = λ k. is.pending k i }
+    where
+      moved : (b : _) (k : ℕ) → unwrap_or (if b then Some bytes else get nat_cmp mid.latest k) zeros
+          ≡ (if b then bytes else bytes_in mid.latest k)
+      moved true k = refl
+      moved false k = refl
+
+      reads : (k : ℕ) → bytes_in latest k ≡ (if k == n then bytes else bytes_in old.latest k)
+      reads k = ap (λ o. unwrap_or o zeros) (put_in mid.latest latest n bytes put k) ∙ moved (k == n) k
+          ∙ ap (λ l. if k == n then bytes else l) (is.reads k)
+
+  pub still_held : held (record { latest = latest; settled = mid.settled }) ≡ held old
+  unfolding seen held
+  still_held = (λ i k. same k i) ∙ is.settled
+    where
+      there : (o : Option (List ℕ)) (d e : List ℕ) → is_some o ≡ true → unwrap_or o d ≡ unwrap_or o e
+      there None d e none = absurd (cc)
+      there (Some x) d e some = refl
+
+      same : (k : ℕ) → unwrap_or (get nat_cmp mid.settled k) (bytes_in latest k)
+          ≡ unwrap_or (get nat_cmp mid.settled k) (bytes_in mid.latest k)
+      same k = elim (cases_eq k n) [
+        | inl here ↦ there (get nat_cmp mid.settled k) _ _
+            (is.pending k ∙ ap (λ b. if b then true else (seen old).pending k) (tests_same k n here))
+        | inr other ↦ ap (unwrap_or (get nat_cmp mid.settled k))
+            (ap (λ o. unwrap_or o zeros) (put.2 k (elsewhere k n other)))
+      ]
+
+-- after a sync, where nothing is kept beside what is read
+pub all_settled : (old : Sectors) (kept : Map) → IsEmpty kept
+    → seen (record { latest = old.latest; settled = kept }) ≡ settled (seen old)
+unfolding seen
+all_settled old kept empty = λ i. record {
+  reads = bytes_in old.latest;
+  pending = λ k. is_some (none_in kept empty k i);
+}
+
+pub settled_reads : (old : Sectors) (kept : Map) → IsEmpty kept
+    → held (record { latest = old.latest; settled = kept }) ≡ (seen old).reads
+unfolding seen held
+settled_reads old kept empty = λ i k. unwrap_or (none_in kept empty k i) (bytes_in old.latest k)
+
+-- before the first call
+pub none_seen : (latest kept : Map) → IsEmpty latest → IsEmpty kept
+    → seen (record { latest = latest; settled = kept }) ≡ blank
+unfolding seen
+none_seen latest kept empty none = λ i. record {
+  reads = λ k. unwrap_or (none_in latest empty k i) zeros;
+  pending = λ k. is_some (none_in kept none k i);
+}
+
+pub none_held : (latest kept : Map) → IsEmpty latest → IsEmpty kept
+    → held (record { latest = latest; settled = kept }) ≡ blank.reads
+unfolding held
+none_held latest kept empty none = λ i k. unwrap_or (none_in kept none k i) (unwrap_or (none_in latest empty k i) zeros)
+
+-- a sector that has no bytes here reads as zeros
+pub unwritten : (s : Sectors) (n : ℕ) → is_some (get nat_cmp s.latest n) ≡ false → (seen s).reads n ≡ zeros
+unfolding seen
+unwritten s n missing = none (get nat_cmp s.latest n) missing
+  where
+    none : (o : Option (List ℕ)) → is_some o ≡ false → unwrap_or o zeros ≡ zeros
+    none None is = refl
+    none (Some x) is = absurd (cc)

@@ -1,0 +1,40 @@
+-- What a disk in memory keeps of its sectors: the bytes of each that was written, and those that each pending one had
+-- at the last sync.
+use Rattle.std.specs.Prelude.{◌≡◌, ◌==◌, ℕ, List, true, if◌then◌else◌}
+use Rattle.std.specs.Option.{is_some, unwrap_or}
+use Rattle.std.specs.Ordering.{nat_cmp}
+use Rattle.std.specs.BTreeMap.{get}
+use Rattle.sector_disk.specs.declared.call.Call.{Call}
+use Rattle.sector_disk.specs.declared.sectors.Sectors.{Sectors}
+use Rattle.sector_disk.specs.Trail.{Content, Moment, now}
+use Rattle.sector_disk.specs.Memory.{zeros, trail_of, IsLastSync}
+
+-- what a read of each sector gives, and which are pending
+unfoldable pub seen : Sectors → Moment
+seen s = record {
+  reads = λ n. unwrap_or (get nat_cmp s.latest n) zeros;
+  pending = λ n. is_some (get nat_cmp s.settled n);
+}
+
+-- what each sector held at the last sync
+unfoldable pub held : Sectors → Content
+held s n = unwrap_or (get nat_cmp s.settled n) (unwrap_or (get nat_cmp s.latest n) zeros)
+
+-- all of it is as it was
+pub record IsAsBefore (old new : Sectors) : Type 0 where
+  pub reads : seen new ≡ seen old
+  pub settled : held new ≡ held old
+
+-- a sector is pending and has room for its bytes, and else all is as it was
+pub record IsOpened (old new : Sectors) (n : ℕ) : Type 0 where
+  pub reads : (k : ℕ) → (seen new).reads k ≡ (seen old).reads k
+  pub pending : (k : ℕ) → (seen new).pending k ≡ (if k == n then true else (seen old).pending k)
+  pub settled : held new ≡ held old
+  pub room : is_some (get nat_cmp new.latest n) ≡ true
+
+-- what is kept is what these calls left
+pub record IsKept (calls : List Call) (sectors : Sectors) : Type 0 where
+  pub moment : ℕ
+  pub last_sync : IsLastSync (trail_of calls) moment
+  pub reads : seen sectors ≡ now (trail_of calls)
+  pub settled : held sectors ≡ ((trail_of calls).at moment).reads
