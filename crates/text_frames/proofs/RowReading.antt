@@ -122,15 +122,16 @@ module _ {S : Type 0} (characters : S → List ℕ) (failures : S → ℕ) (hone
 
   module _ (ground_self : (s : S) → same_ground s s) (ground_through : (a b c : S) → same_ground a b → same_ground b c
       → same_ground a c) where
-    pub row_begun : (start : S) (text : Text ℕ) (reader : Reading) (org w row at r column : ℕ) (line : List ShownCell)
+    pub row_begun : (start now : S) (text : Text ℕ) (reader : Reading) (org w row at r column : ℕ)
+        (line : List ShownCell)
+        → OnlyReads characters failures honest same_ground start now → failures now ≡ failures start
         → IsReadTo (honest start) (characters start) text org row reader r column → at ≡ reader.position → line ≡ []
-        → IsRowSoFar start start text reader org w row at r column line
-    row_begun start text reader org w row at r column line is here none =
+        → IsRowSoFar start now text reader org w row at r column line
+    row_begun start now text reader org w row at r column line reads calm is here none =
         let from = is.from in let within = is.within in let few = is.few in
         record {
           placed = record {
-            way = at_first characters failures honest same_ground ground_self ground_through start text reader at
-                (sym here) is.same;
+            way = record { place = sym here; same = is.same; reads = reads; calm = calm };
             few = omega (arith, few, here);
             short = rw here is.short;
             in_row = λ h. rw here (is.in_row h);
@@ -181,6 +182,92 @@ module _ {S : Type 0} (characters : S → List ℕ) (failures : S → ℕ) (hone
             → ((p : ℕ) → org ≤ p → p < at → row_of (bytes (characters start) text) org p < row + 1)
             → (p : ℕ) → org ≤ p → p < at + 1 → row_of (bytes (characters start) text) org p < row + 1
         below_from h before p under over = elim (cases_eq p at) [
+          | inl same ↦
+              let in_row = is.placed.in_row h in
+              let at_row : row_of (bytes (characters start) text) org p ≡ r =
+              ap (row_of (bytes (characters start) text) org) same ∙ sym in_row in
+              omega (arith, at_row, high)
+          | inr other ↦ before p under (omega (arith, over, other))
+        ]
+
+-- The reader stands before the character `at`, and no character from the row `next` on is passed.
+module _ {S : Type 0} (characters : S → List ℕ) (failures : S → ℕ) (honest : S → Type 0) (same_ground : S → S
+    → Type 0) where
+  pub record IsSkipped (start now : S) (text : Text ℕ) (reader : Reading) (org next at r column : ℕ) : Type 0 where
+    pub placed : IsPlaced characters failures honest same_ground start now text reader org at r column
+    pub from : org ≤ at
+    pub within : at ≤ length text
+    pub high : r ≤ next
+    pub passed : honest start → (p : ℕ) → org ≤ p → p < at → row_of (bytes (characters start) text) org p < next
+
+  pub skipped : (start now : S) (text : Text ℕ) (reader : Reading) (org next at r column : ℕ)
+      → IsSkipped start now text reader org next at r column
+      → IsReadTo (honest start) (characters start) text org next reader r column
+  skipped start now text reader org next at r column is =
+      let place = is.placed.way.place in let from = is.from in let within = is.within in let few = is.placed.few in
+      record {
+        same = is.placed.way.same;
+        from = omega (arith, place, from);
+        within = omega (arith, place, within);
+        few = omega (arith, place, few);
+        short = rw place is.placed.short;
+        high = is.high;
+        in_row = λ h. rw place (is.placed.in_row h);
+        in_column = λ h. rw place (is.placed.in_column h);
+        passed = λ h p low under. is.passed h p low (omega (arith, under, place));
+      }
+
+  module _ (ground_self : (s : S) → same_ground s s) (ground_through : (a b c : S) → same_ground a b → same_ground b c
+      → same_ground a c) where
+    pub skip_begun : (start : S) (text : Text ℕ) (reader : Reading) (org next at r column : ℕ)
+        → IsReadTo (honest start) (characters start) text org next reader r column → at ≡ reader.position
+        → IsSkipped start start text reader org next at r column
+    skip_begun start text reader org next at r column is here =
+        let from = is.from in let within = is.within in let few = is.few in
+        record {
+          placed = record {
+            way = at_first characters failures honest same_ground ground_self ground_through start text reader at
+                (sym here) is.same;
+            few = omega (arith, few, here);
+            short = rw here is.short;
+            in_row = λ h. rw here (is.in_row h);
+            in_column = λ h. rw here (is.in_column h);
+          };
+          from = omega (arith, from, here);
+          within = omega (arith, within, here);
+          high = is.high;
+          passed = λ h p low high. is.passed h p low (omega (arith, high, here));
+        }
+
+    -- a character more that is in a row above
+    pub skip_on : (start now later : S) (text : Text ℕ) (reader next : Reading)
+        (org row at r column byte r' column' : ℕ)
+        → IsSkipped start now text reader org row at r column → r < row → at < length text
+        → (honest now → slice_get (bytes (characters now) reader.text) reader.position ≡ Some byte)
+        → next.position ≡ reader.position + 1 → next.text ≡ reader.text
+        → OnlyReads characters failures honest same_ground now later → failures later ≡ failures now
+        → r' ≡ cond (is_return byte) (r + 1) r → column' ≡ cond (is_return byte) 0 (column_after column byte)
+        → IsSkipped start later text next org row (at + 1) r' column'
+    skip_on start now later text reader next org row at r column byte r' column' is high low there p t reads calm
+        to_row to_column =
+        let from = is.from in
+        record {
+          placed = placed_on characters failures honest same_ground ground_self ground_through start now later text
+              reader next org at r column byte is.placed from there p t reads calm r' column' to_row to_column;
+          from = (let le : org ≤ at + 1 = omega (arith, from) in le);
+          within = (let le : at + 1 ≤ length text = omega (arith, low) in le);
+          high = rw to_row (by (is_return byte));
+          passed = λ h. above h (is.passed h);
+        }
+      where
+        by : (b : Bool) → cond b (r + 1) r ≤ row
+        by true = (let le : r + 1 ≤ row = omega (arith, high) in le)
+        by false = (let le : r ≤ row = omega (arith, high) in le)
+
+        above : honest start
+            → ((p : ℕ) → org ≤ p → p < at → row_of (bytes (characters start) text) org p < row)
+            → (p : ℕ) → org ≤ p → p < at + 1 → row_of (bytes (characters start) text) org p < row
+        above h before p under over = elim (cases_eq p at) [
           | inl same ↦
               let in_row = is.placed.in_row h in
               let at_row : row_of (bytes (characters start) text) org p ≡ r =

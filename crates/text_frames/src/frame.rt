@@ -6,8 +6,8 @@ ghost use Rattle.text_frames.specs.Cells.{IsPositionAt, IsCellOf};
 ghost use Rattle.text_frames.specs.Row.{IsRow};
 ghost use Rattle.text_frames.specs.Rules.{moved, changed_org, is_shown, IsFollowed, IsBrought};
 
-use crate::lines::{line_above, line_start};
-use crate::place::{self, place_of};
+use crate::lines::{ends_between, line_above, line_start};
+use crate::place::{self, cell_in, column_below};
 use crate::row::{RowCells, cells_of_row};
 use crate::{CharSource, Fault, Text};
 
@@ -92,8 +92,8 @@ impl Frame {
 
     /// Brings the position `p` into the `h` rows shown: where it is above `org`, or its line isn't in one of these
     /// rows, `org` becomes the start of the line that stands `h / 2` lines above that of `p`, 0 where there are fewer.
-    /// The text is read from `org` to `p`, or to the end of these rows, and then from `p` back to that start. `Fault`:
-    /// the source failed in this call; the frame is as it was.
+    /// The text is read from `org` to `p`, or to less than 512 characters past the end of these rows, and then from `p`
+    /// back to that start. `Fault`: the source failed in this call; the frame is as it was.
     pub fn show<S: CharSource>(
         &mut self,
         text: &Text,
@@ -175,8 +175,9 @@ impl Frame {
     }
 
     /// The column and the row in which the character at `p` begins, or would begin that is put in there; None where it
-    /// isn't shown in `h` rows of `w` columns. The text is read from `org` to `p`, or to the end of these rows.
-    /// `Fault`: the source failed in this call.
+    /// isn't shown in `h` rows of `w` columns. The text is read from `org` to `p`, or to less than 512 characters past
+    /// the end of these rows, and then at most `w` characters before `p`, twice. `Fault`: the source failed in this
+    /// call.
     pub fn cell_of<S: CharSource>(
         &self,
         text: &Text,
@@ -197,8 +198,9 @@ impl Frame {
         if p < self.org {
             return Ok(None);
         }
-        let place = place_of(text, self.org, h, p, source)?;
-        Ok(place.shown(w, h))
+        let ends = ends_between(text, self.org, h, p, source)?;
+        let column = column_below(text, self.org, w, p, source)?;
+        Ok(cell_in(column, ends, h))
     }
 }
 
@@ -267,6 +269,6 @@ fn is_shown<S: CharSource>(
     if p < org {
         return Ok(false);
     }
-    let place = place_of(text, org, h, p, source)?;
-    Ok(place.row < h as u32)
+    let ends = ends_between(text, org, h, p, source)?;
+    Ok(ends < h as u32)
 }

@@ -1,11 +1,15 @@
-//! Where lines start, read from a position backwards.
-ghost use Rattle.std.specs.Prelude.{◌≡◌, ◌-◌, ◌≤◌, length, IfOk, OnOk};
+//! Where lines start, read from a position backwards, and how many end on the way to one.
+ghost use Rattle.std.specs.Prelude.{◌≡◌, ◌+◌, ◌-◌, ◌<◌, ◌≤◌, nat_lt, length, IfOk, IfSome, MatchOption, OnOk};
 ghost use Rattle.readers_scanners.specs.Words.{CountsFault, OnlyReads, flat, AreWithin, bytes};
-ghost use Rattle.text_frames.specs.Lines.{line_start, line_above};
+ghost use Rattle.text_frames.specs.Lines.{line_start, line_above, ends_between};
+ghost use Rattle.text_frames.specs.Cells.{row_start};
 
 use crate::{CharSource, Fault, Text};
 use event_bytes::CARRIAGE_RETURN;
-use readers_scanners::BackReader;
+use readers_scanners::{BackReader, Reader};
+
+/// How many characters are counted at once, at most.
+const STRETCH: u32 = 512;
 
 /// Where the line of the position starts: at 0, or after the last carriage return before it. The text is read from the
 /// position back to there. `Fault`: the source failed in this call.
@@ -66,4 +70,71 @@ pub(crate) fn line_above<S: CharSource>(
     }
     let start = to_line_start(&mut reader, source)?;
     Ok(start)
+}
+
+/// How many lines end from `org` up to the position; where these are `h` or more, some number from `h` on. The text is
+/// read from `org` to the position, or to less than a stretch past the end of `h` lines. `Fault`: the source failed in
+/// this call.
+pub(crate) fn ends_between<S: CharSource>(
+    text: &Text,
+    org: u32,
+    h: u8,
+    pos: u32,
+    source: &mut S,
+) -> Result<u32, Fault>
+    requires order { org ≤ pos }
+    requires within { pos ≤ length (flat text.now) }
+    requires offsets { AreWithin (length (S.characters source.old)) (flat text.now) }
+    ensures few { IfOk result (λ ends. S.honest source.old
+        → nat_lt ends h ≡ nat_lt (ends_between (bytes (S.characters source.old) (flat text.now)) org pos) h) }
+    ensures exact { IfOk result (λ ends. S.honest source.old → ends < h
+        → ends ≡ ends_between (bytes (S.characters source.old) (flat text.now)) org pos) }
+    ensures reads { OnlyReads S.characters S.failures S.honest S.same_ground source.old source.new }
+    ensures cause { CountsFault result (S.failures source.old) (S.failures source.new) }
+{
+    let mut reader = Reader::open(text, org);
+    let mut ends = 0;
+    let mut left = pos - org;
+    while left > 0 {
+        if ends >= h as u32 {
+            return Ok(ends);
+        }
+        let (count, found) = reader.count(CARRIAGE_RETURN, left.min(STRETCH), source)?;
+        ends += found;
+        left -= count;
+    }
+    Ok(ends)
+}
+
+/// Where the row of the position starts, in a frame that begins at `org`. None where that is `most` characters or more
+/// before the position; no more of them are read. `Fault`: the source failed in this call.
+pub(crate) fn row_start<S: CharSource>(
+    text: &Text,
+    org: u32,
+    most: u8,
+    pos: u32,
+    source: &mut S,
+) -> Result<Option<u32>, Fault>
+    requires order { org ≤ pos }
+    requires within { pos ≤ length (flat text.now) }
+    requires offsets { AreWithin (length (S.characters source.old)) (flat text.now) }
+    ensures start { IfOk result (λ start. S.honest source.old → MatchOption start
+        (row_start (bytes (S.characters source.old) (flat text.now)) org pos + most ≤ pos)
+        (λ start. start ≡ row_start (bytes (S.characters source.old) (flat text.now)) org pos)) }
+    ensures range { IfOk result (λ start. IfSome start (λ start. start ≤ pos)) }
+    ensures reads { OnlyReads S.characters S.failures S.honest S.same_ground source.old source.new }
+    ensures cause { CountsFault result (S.failures source.old) (S.failures source.new) }
+{
+    let mut reader = BackReader::open(text, pos);
+    let low = org.max(pos.saturating_sub(most as u32));
+    for at in (low..pos).rev() {
+        let byte = reader.previous_byte(source)?;
+        if byte == CARRIAGE_RETURN {
+            return Ok(Some(at + 1));
+        }
+    }
+    if low > org {
+        return Ok(None);
+    }
+    Ok(Some(org))
 }

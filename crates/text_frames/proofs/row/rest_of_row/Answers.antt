@@ -4,10 +4,10 @@ use Rattle.text_frames.proofs.row.rest_of_row.Goals as goal
 
 pub loop-at-init : goal.loop-at-init
 loop-at-init g c =
-    let s = g.S.CharSource in let laws = g.met.S.CharSource in record {
+    let s = g.S.CharSource in let laws = g.met.S.CharSource in let passed = c.in_ok-pass_rows.ensures in record {
       so_far = row_begun s.characters s.failures s.honest s.same_ground laws.ground_self laws.ground_through _ _ _ _ _ _
-          _ _ _ _ c.requires.so_far c.pos-at.ensures.position c.new-line.ensures;
-      high = c.requires.so_far.high;
+          _ _ _ _ _ passed.reads passed.cause passed.read c.pos-at.ensures.position c.new-line.ensures;
+      high = passed.read.high;
     }
 
 pub loop-at-preserved : goal.loop-at-preserved

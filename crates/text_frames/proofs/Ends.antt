@@ -1,0 +1,58 @@
+-- Ends of lines, counted stretch after stretch.
+use Rattle.std.specs.Prelude.{◌≡◌, ℕ, zero, suc, ◌+◌, ◌-◌, ◌≤◌, cond, List, [], ◌∷◌, ◌++◌, take, drop}
+use Rattle.std.specs.Prelude.{count_by, slice_range}
+use Rattle.std.proofs.Common.{sym, ap, ◌∙◌, arith}
+use Rattle.std.proofs.lemmas.List.Sums.{sum_by-append}
+use Rattle.char_file.specs.Source.{OnlyReads}
+use Rattle.char_file.proofs.Reading.{read_on}
+use Rattle.piece_ring.specs.Text.{Text}
+use Rattle.readers_scanners.specs.Reading.{bytes, Reading, IsCounted}
+use Rattle.readers_scanners.specs.Walking.{IsAt}
+use Rattle.readers_scanners.proofs.Upcoming.{drop_more}
+use Rattle.event_bytes.specs.Bytes.{carriage_return}
+use Rattle.text_frames.specs.Lines.{is_return, ends_between}
+
+take_on : {X : Type 0} → (xs : List X) (a n : ℕ) → take (a + n) xs ≡ take a xs ++ take n (drop a xs)
+take_on xs zero n = ap (λ k. take k xs) (let e : 0 + n ≡ n = omega arith in e)
+take_on [] (suc a) zero = ap (λ k. take k []) (let e : suc a + 0 ≡ suc a = omega arith in e)
+take_on [] (suc a) (suc n) = ap (λ k. take k []) (let e : suc a + suc n ≡ suc (a + suc n) = omega arith in e)
+take_on (x ∷ xs) (suc a) n =
+    ap (λ k. take k (x ∷ xs)) (let e : suc a + n ≡ suc (a + n) = omega arith in e) ∙ ap (λ l. x ∷ l) (take_on xs a n)
+
+-- those of a stretch more
+pub ends_on : (bs : List ℕ) (org p n : ℕ) → org ≤ p
+    → ends_between bs org (p + n) ≡ ends_between bs org p + count_by is_return (slice_range bs p (p + n))
+ends_on bs org p n from =
+    ap (λ k. count_by is_return (take k (drop org bs))) (let e : p + n - org ≡ p - org + n = omega (arith, from) in e)
+    ∙ ap (count_by is_return) (take_on (drop org bs) (p - org) n)
+    ∙ sum_by-append (λ b. cond (is_return b) 1 0) (take (p - org) (drop org bs)) (take n (drop (p - org) (drop org bs)))
+    ∙ (λ k. ends_between bs org p + count_by is_return (take ((let e : n ≡ p + n - p = omega arith in e) k)
+    ((sym (drop_more bs org (p - org))
+    ∙ ap (λ j. drop j bs) (let o : org + (p - org) ≡ p = omega (arith, from) in o)) k)))
+
+module _ {S : Type 0} (characters : S → List ℕ) (failures : S → ℕ) (honest : S → Type 0) (same_ground : S → S
+    → Type 0) (ground_through : (a b c : S) → same_ground a b → same_ground b c → same_ground a c)
+    (start now : S) (text : Text ℕ) (reader : Reading) (at : ℕ)
+    (is : IsAt characters failures honest same_ground start now text reader at) where
+  -- n characters further on
+  pub onward_by : (later : S) (next : Reading) (n p : ℕ) → next.position ≡ reader.position + n → p ≡ at + n
+      → next.text ≡ reader.text → OnlyReads characters failures honest same_ground now later
+      → failures later ≡ failures now → IsAt characters failures honest same_ground start later text next p
+  onward_by later next n p place e t reads calm = record {
+    place = omega (arith, place, is.place, e);
+    same = t ∙ is.same;
+    reads = read_on characters failures honest same_ground ground_through start now later is.reads reads;
+    calm = calm ∙ is.calm;
+  }
+
+  -- and the lines that end there
+  pub ends_by : (org limit n count ends new p : ℕ) → org ≤ at
+      → IsCounted (honest now) (characters now) reader carriage_return limit (n, count) → p ≡ at + n
+      → (honest start → ends ≡ ends_between (bytes (characters start) text) org at) → new ≡ ends + count
+      → honest start → new ≡ ends_between (bytes (characters start) text) org p
+  ends_by org limit n count ends new p from counted e so_far sum h =
+      let here : count ≡ count_by is_return (slice_range (bytes (characters start) text) at (at + n)) =
+      counted.exact (is.reads.still h)
+      ∙ (λ k. count_by is_return (slice_range (bytes (is.reads.same h k) (is.same k)) (is.place k) (is.place k + n))) in
+      sum ∙ (λ k. so_far h k + here k) ∙ sym (ends_on (bytes (characters start) text) org at n from)
+      ∙ ap (ends_between (bytes (characters start) text) org) (sym e)
