@@ -37,7 +37,7 @@ there_and_back <(cat lines) lines | sed 's/^.*:/a pipe:/'
 # The line of a script.
 for file in empty lines odd; do "$tools/hand_in" A.Text $file; done
 
-# The text of README's walk, which has two looks, and one that is longer than a line can bring in.
+# The text of the walk in docs/SCRIPTS.md, which has two looks, and one that is longer than a line can bring in.
 { "$tools/hand_in" System.Tool "$TESTS/tool.text"; grep -v '^screen$\|^show ' "$TESTS/walk.in"; } | "$OBERON" play desk.disk | uniq
 "$tools/hand_out" desk.disk A.Text
 {

@@ -1,2 +1,2 @@
-# The walk of the README with tests/tool.text, and then a click on each of the other commands of that text.
+# The walk of docs/SCRIPTS.md with tests/tool.text, and then a click on each of the other commands of that text.
 { "$TESTS/../tools/hand_in" System.Tool "$TESTS/tool.text"; cat "$TESTS/walk.in" "$TESTS/clicks.in"; } | "$OBERON"
