@@ -23,9 +23,10 @@ fn newest(cache: &Cache, n: u32, at: usize) -> Option<u8>
     None
 }
 
-/// Byte `at` of sector n, which mostly isn't the one that was asked for last. A sector that the cache doesn't hold is read
-/// from the disk and put into it. Where there is no memory to put it there, the byte is returned all the same.
-#[inline(never)] // so that a byte of the newest sector costs no room for a sector
+/// Byte `at` of sector n, which mostly isn't the one that was asked for last. A sector that the cache doesn't hold is
+/// read from the disk and put into it. Where there is no memory to put it there, the byte is returned all the same.
+/// It is compiled apart, so that a byte of the newest sector takes no room for a sector on the stack.
+#[inline(never)]
 fn looked_up<D: Disk>(disk: &mut D, cache: &mut Cache, n: u32, at: usize) -> Result<u8, Fault>
     requires there { n < D.size disk.old }
     requires within { at < SECTOR_BYTES }
