@@ -23,6 +23,32 @@ fn newest(cache: &Cache, n: u32, at: usize) -> Option<u8>
     None
 }
 
+/// Byte `at` of sector n, which mostly isn't the one that was asked for last. A sector that the cache doesn't hold is
+/// read from the disk and put into it. Where there is no memory to put it there, the byte is returned all the same.
+/// It is compiled apart, so that a byte of the newest sector takes no room for a sector on the stack.
+#[inline(never)]
+fn looked_up<D: Disk>(disk: &mut D, cache: &mut Cache, n: u32, at: usize) -> Result<u8, Fault>
+    requires there { n < D.size disk.old }
+    requires within { at < SECTOR_BYTES }
+    ensures value { IfOk result (λ byte. D.honest disk.old → AreTrue (now (D.trail disk.old)).reads cache.old.entries
+        → byte ≡ get_or ((now (D.trail disk.old)).reads n) at 0) }
+    ensures cached { AddsSector (D.honest disk.old) (now (D.trail disk.old)).reads n cache.old.entries
+        cache.new.entries }
+    ensures capacity { cache.new.cap ≡ cache.old.cap }
+    ensures kept { IsConfined D.size D.honest D.trail Nowhere disk.old disk.new }
+    ensures cause { CountsFault result (D.failures disk.old) (D.failures disk.new) }
+{
+    if let Some(sector) = cache.peek(&n) {
+        let byte = sector[at];
+        cache.promote(&n);
+        return Ok(byte);
+    }
+    let mut sector = [0; SECTOR_BYTES as usize];
+    disk.read(n, &mut sector)?;
+    let _ = cache.put(n, sector);
+    Ok(sector[at])
+}
+
 /// Byte `at` of sector n. A sector that the cache doesn't hold is read from the disk and put into it. Where there is no
 /// memory to put it there, the byte is returned all the same.
 pub(crate) fn byte_of<D: Disk>(
@@ -41,16 +67,8 @@ pub(crate) fn byte_of<D: Disk>(
     ensures kept { IsConfined D.size D.honest D.trail Nowhere disk.old disk.new }
     ensures cause { CountsFault result (D.failures disk.old) (D.failures disk.new) }
 {
-    if let Some(byte) = newest(cache, n, at) {
-        return Ok(byte);
+    match newest(cache, n, at) {
+        Some(byte) => Ok(byte),
+        None => looked_up(disk, cache, n, at),
     }
-    if let Some(sector) = cache.peek(&n) {
-        let byte = sector[at];
-        cache.promote(&n);
-        return Ok(byte);
-    }
-    let mut sector = [0; SECTOR_BYTES as usize];
-    disk.read(n, &mut sector)?;
-    let _ = cache.put(n, sector);
-    Ok(sector[at])
 }
