@@ -3,7 +3,7 @@ use crate::stores::{found, fresh};
 use desktop_definitions::Reply;
 use event_bytes::{Event, FileBytes, Name};
 use oberon_main::{Error, Store};
-use sector_disk::{Fuse, MemoryDisk};
+use sector_disk::{Disk, Fuse, MemoryDisk, OneFault};
 use std::alloc::Global;
 use std::test::Fail;
 use store_runs::{Answer, Call, serve_all, serve_and_reopen};
@@ -37,16 +37,36 @@ fn three_events() -> Result<[Call; 3], Fail> {
     Ok([first, second, third])
 }
 
-/// Makes the calls as one run over a new store whose disk passes so many calls after it is opened: what each returned,
-/// and the disk.
-fn run(alloc: Global, made: &[Call], calls: u64) -> Result<(Vec<Answer>, MemoryDisk), Fail> {
-    let calls = CALLS_TO_OPEN.saturating_add(calls);
-    match Store::open(alloc, Fuse::new(fresh(alloc)?, calls)) {
+/// Makes the calls as one run over a store: what each returned, and the disk.
+fn run_over<D: Disk + Drop>(
+    alloc: Global,
+    made: &[Call],
+    disk: D,
+) -> Result<(Vec<Answer>, D), Fail> {
+    match Store::open(alloc, disk) {
         Err(_) => Err("not opened".into()),
         Ok(mut store) => {
             let returned = serve_all(alloc, &mut store, made)?;
-            Ok((returned, store.close().into_inner()))
+            Ok((returned, store.close()))
         }
+    }
+}
+
+/// The same over a new store whose disk passes so many calls after it is opened, and then none, or all but the next one.
+fn run(
+    alloc: Global,
+    made: &[Call],
+    calls: u64,
+    once: bool,
+) -> Result<(Vec<Answer>, MemoryDisk), Fail> {
+    let calls = CALLS_TO_OPEN.saturating_add(calls);
+    let disk = fresh(alloc)?;
+    if once {
+        let (returned, disk) = run_over(alloc, made, OneFault::new(disk, calls))?;
+        Ok((returned, disk.into_inner()))
+    } else {
+        let (returned, disk) = run_over(alloc, made, Fuse::new(disk, calls))?;
+        Ok((returned, disk.into_inner()))
     }
 }
 
@@ -58,9 +78,37 @@ fn a_run_of_posts(rt: HostRuntime) -> Result<(), Fail> {
         (CALLS_TO_POST, [done, done, done], 3),
         (6, [done, Err(Error::Fault), Err(Error::MustReopen)], 1),
     ] {
-        let (returned, disk) = run(rt.alloc(), &events, calls)?;
+        let (returned, disk) = run(rt.alloc(), &events, calls, false)?;
         assert!(rt; returned.as_slice() == wanted.as_slice());
         assert!(rt; found(rt.alloc(), disk)? == Some(left));
+    }
+    Ok(())
+}
+
+/// How many events are there after the first of three posts failed at a call of its own. Nothing is posted after it, also
+/// where the disk passes all later calls.
+fn left_by_a_failed_post(alloc: Global, call: u64, once: bool) -> Result<Option<usize>, Fail> {
+    let wanted = [
+        Err(Error::Fault),
+        Err(Error::MustReopen),
+        Err(Error::MustReopen),
+    ];
+    let (returned, disk) = run(alloc, &three_events()?, call, once)?;
+    if returned.as_slice() == wanted.as_slice() {
+        found(alloc, disk)
+    } else {
+        Err("other answers".into())
+    }
+}
+
+/// The first event is there where the last call failed, whose gate was written by then.
+#[test]
+fn nothing_is_posted_after_a_fault(rt: HostRuntime) -> Result<(), Fail> {
+    for call in 0..5 {
+        for once in [false, true] {
+            let left = left_by_a_failed_post(rt.alloc(), call, once)?;
+            assert!(rt; left == Some((call == 4) as usize));
+        }
     }
     Ok(())
 }
@@ -84,7 +132,7 @@ fn a_run_with_checkpoints(rt: HostRuntime) -> Result<(), Fail> {
             ],
         ),
     ] {
-        let (returned, _) = run(rt.alloc(), &made, calls)?;
+        let (returned, _) = run(rt.alloc(), &made, calls, false)?;
         assert!(rt; returned.as_slice() == wanted.as_slice());
     }
     Ok(())
