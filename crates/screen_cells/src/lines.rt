@@ -1,5 +1,5 @@
 //! Lines that are kept from one screen to the next.
-ghost use Rattle.std.specs.Prelude.{◌≡◌, ◌≤◌, ◌<◌, ℕ, List, length, All, Some, IfOk, IfSome, IfNone, OnOk, IsOk};
+ghost use Rattle.std.specs.Prelude.{◌≡◌, ◌==◌, ◌≤◌, ◌<◌, ℕ, List, length, All, Some, IfOk, IfSome, IfNone, OnOk, IsOk};
 ghost use Rattle.piece_ring.specs.Flat.{flat};
 ghost use Rattle.piece_ring.specs.Text.{Text as AText};
 ghost use Rattle.readers_scanners.specs.Words.{CountsFault, OnlyReads};

@@ -248,12 +248,13 @@ fn viewer_strip<S: CharSource>(
         return menu_strip(&walk.shown, width, bottom, y, slot, source);
     }
     let row = top - 2 - y;
+    let frame = walk.shown.frame;
     let cell = caret_cell(&walk.shown, width - 1, walk.h, caret, source)?;
     let line = frame_cells(walk, width - 1, row, slot, source)?;
     Ok(Strip::Frame(FrameRow {
         line,
         caret: cell,
-        selection: walk.shown.frame.selection,
+        selection: frame.selection,
         row,
     }))
 }
