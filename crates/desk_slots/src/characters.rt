@@ -140,10 +140,11 @@ fn with_pages(
         ≡ area_bytes c (full_sectors written) ++ take (left_over written) tail.now) }
     ensures saved { IfOk result (λ live. saved_sectors live.pages ≡ full_sectors written) }
     ensures cached { IfOk result (λ live. cached_of live.pages ≡ []) }
+    ensures lines { IfOk result (λ live. (texts : ℕ → AText ℕ) → AreLinesOf texts live.lines) }
 {
     let left = written % SECTOR_BYTES;
     let pages = Pages::new(alloc, area_at(0), written - left, &tail[..left as usize])?;
-    Ok(LiveDesktop::over(desktop, pages))
+    Ok(LiveDesktop::over(alloc, desktop, pages))
 }
 
 /// Loads what a slot of this head starts from. Memory is taken for the image and for the characters that are left over,
