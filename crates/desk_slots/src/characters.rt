@@ -11,6 +11,8 @@ ghost use Rattle.desk_image.specs.Passing.{OnlyGets};
 ghost use Rattle.desk_image.specs.Streams.{IsImageFault};
 ghost use Rattle.store_layout.specs.Layout.{head as head_at, image_at, IsGoodHead};
 ghost use Rattle.store_layout.specs.Meaning.{HasImage, area_bytes, full_sectors, left_over};
+ghost use Rattle.piece_ring.specs.Text.{Text as AText};
+ghost use Rattle.screen_cells.specs.Lines.{AreLinesOf};
 ghost use Rattle.desk_slots.specs.Errors.{OfReplay};
 ghost use Rattle.desk_slots.specs.Live.{characters_of, shown, IsLive, IsTold};
 ghost use Rattle.desk_slots.specs.Load.{image_error, IsStart, HasNoStart};

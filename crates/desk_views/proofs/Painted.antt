@@ -139,7 +139,7 @@ all_named characters d = All-map (λ v. IsNamed characters d (kept_view d.texts 
     })
 
 -- and so are those of what the screen is handed
-pub all_numbered : (characters : List ℕ) (d : KeptDesktop) (shown : List Shown)
+all_numbered : (characters : List ℕ) (d : KeptDesktop) (shown : List Shown)
     → map shown_view shown ≡ map (kept_view d.texts) (views d)
     → All (IsNumbered (text_of (seen characters d)) characters) shown
 all_numbered characters d shown is = λ i s low.
@@ -149,6 +149,13 @@ all_numbered characters d shown is = λ i s low.
     subst (IsNamed characters d) (get_or-map shown_view shown i s (shown_view s) low)
     (all i (shown_view s) (omega (arith, low, length-map {B = KeptView} shown shown_view))) in
     record { menu = here.menu; main = here.main }
+
+pub handed_numbered : (characters : List ℕ) (d : KeptDesktop) (handed : List View) (shown list : List Shown)
+    → handed ≡ views d → list ≡ shown → map shown_view shown ≡ map (kept_view d.texts) handed
+    → All (IsNumbered (text_of (seen characters d)) characters) list
+handed_numbered characters d handed shown list all same is =
+    subst (All (IsNumbered (text_of (seen characters d)) characters)) (sym same)
+    (all_numbered characters d shown (is ∙ ap (map (kept_view d.texts)) all))
 
 -- ---- as they read
 

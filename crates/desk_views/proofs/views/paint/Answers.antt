@@ -10,8 +10,7 @@ use Rattle.desk_views.specs.Views.{view_in, kept_view, AreThere}
 use Rattle.desk_core.proofs.ViewLemmas.{few}
 use Rattle.desktop_definitions.specs.Seen.{seen}
 use Rattle.desktop_definitions.specs.Viewers.{text_of}
-use Rattle.screen_cells.specs.Lines.{IsNumbered}
-use Rattle.desk_views.proofs.Painted.{views, all_there, all_showable, all_numbered, painted_seen}
+use Rattle.desk_views.proofs.Painted.{views, all_there, all_showable, handed_numbered, painted_seen}
 use Rattle.desk_views.proofs.views.paint.Goals as goal
 
 pub views_of-requires : goal.views_of-requires
@@ -41,12 +40,33 @@ returns-clause-shown g c = λ honest told.
     let characters = g.S.CharSource.characters c.args.source.now in
     let same : c.deref-3.result.now ≡ views d = c.deref-3.ensures.value ∙ c.in_ok-views.ensures
     ∙ (λ k. map (view_in d.caret (c.deref-2.ensures.value k)) (c.deref.ensures.value k)) in
-    let is = c.in_ok-shown.ensures ∙ ap (map (kept_view d.texts)) same in
-    let texts = text_of (seen characters d) in
-    c.in_ok-paint.ensures.painted honest texts
-    (subst (All (IsNumbered texts characters)) (sym c.deref-4.ensures.value)
-    (all_numbered characters d c.in_ok-shown.shown.items is))
-    (c.prepare.ensures.lines texts told)
+    c.in_ok-paint.ensures.painted honest (text_of (seen characters d))
+    (handed_numbered characters d c.deref-3.result.now c.in_ok-shown.shown.items _ same c.deref-4.ensures.value
+    c.in_ok-shown.ensures)
+    (c.prepare.ensures.lines (text_of (seen characters d)) told)
     ∙ ap (λ (l : List Shown). screen_of (picture d.columns (map (as_read characters) l) d.marker))
     c.deref-4.ensures.value
-    ∙ painted_seen characters d c.in_ok-shown.shown.items is
+    ∙ painted_seen characters d c.in_ok-shown.shown.items
+    (c.in_ok-shown.ensures ∙ ap (map (kept_view d.texts)) same)
+
+pub returns-in_err-paint-clause-lines : goal.returns-in_err-paint-clause-lines
+returns-in_err-paint-clause-lines g c = λ honest told.
+    let d = kept c.args.desk.now in
+    let characters = g.S.CharSource.characters c.args.source.now in
+    let same : c.deref-3.result.now ≡ views d = c.deref-3.ensures.value ∙ c.in_ok-views.ensures
+    ∙ (λ k. map (view_in d.caret (c.deref-2.ensures.value k)) (c.deref.ensures.value k)) in
+    c.in_err-paint.ensures.lines honest (text_of (seen characters d))
+    (handed_numbered characters d c.deref-3.result.now c.in_ok-shown.shown.items _ same c.deref-4.ensures.value
+    c.in_ok-shown.ensures)
+    (c.prepare.ensures.lines (text_of (seen characters d)) told)
+
+pub returns-clause-lines : goal.returns-clause-lines
+returns-clause-lines g c = λ honest told.
+    let d = kept c.args.desk.now in
+    let characters = g.S.CharSource.characters c.args.source.now in
+    let same : c.deref-3.result.now ≡ views d = c.deref-3.ensures.value ∙ c.in_ok-views.ensures
+    ∙ (λ k. map (view_in d.caret (c.deref-2.ensures.value k)) (c.deref.ensures.value k)) in
+    c.in_ok-paint.ensures.lines honest (text_of (seen characters d))
+    (handed_numbered characters d c.deref-3.result.now c.in_ok-shown.shown.items _ same c.deref-4.ensures.value
+    c.in_ok-shown.ensures)
+    (c.prepare.ensures.lines (text_of (seen characters d)) told)
