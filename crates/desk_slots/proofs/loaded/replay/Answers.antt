@@ -44,6 +44,11 @@ returns-in-None-clause-whole g c = λ honest.
     (there (i.read honest)) (λ room. subst
     (λ r. is_open (r (gate c.args.slot c.loop-k.k)) ≡ false) same closed)
 
+pub returns-in-None-clause-told : goal.returns-in-None-clause-told
+returns-in-None-clause-told g c =
+    live_stays g.D.Disk c.loop-k.desktop c.read_event.ensures.kept (apart_nowhere c.loop-k.desktop.pages)
+    c.loop-k.invariant.told
+
 pub step-requires-clause-told : goal.step-requires-clause-told
 step-requires-clause-told g c =
     live_stays g.D.Disk c.loop-k.desktop c.read_event.ensures.kept (apart_nowhere c.loop-k.desktop.pages)
