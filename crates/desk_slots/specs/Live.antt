@@ -7,6 +7,8 @@ use Rattle.char_pages.specs.Pages.{base_of, saved_of, saved_sectors, cached_of, 
 use Rattle.char_pages.specs.declared.pages.Pages.{Pages}
 use Rattle.desktop_definitions.specs.Desktop.{Desktop, KeptDesktop}
 use Rattle.desktop_definitions.specs.Seen.{seen}
+use Rattle.desktop_definitions.specs.Viewers.{text_of}
+use Rattle.screen_cells.specs.Lines.{AreLinesOf}
 use Rattle.desktop_definitions.specs.Sound.{IsOver}
 use Rattle.store_layout.specs.Layout.{area_at, head}
 use Rattle.store_layout.specs.Meaning.{full_sectors}
@@ -33,9 +35,10 @@ pub record IsLive (live : LiveDesktop) : Type 0 where
   pub over : IsOverPages live.pages live.desktop
   pub based : base_of live.pages ≡ area_at 0
 
--- what it has in memory of the disk is so
-abbrev pub IsTold : {D : Type 0} → Ghosts D → D → LiveDesktop → Type 0
-IsTold d disk live = AreTrueOver d disk live.pages
+-- What it has in memory of the disk is so, and, where the disk is honest, the lines that it keeps are so of its texts.
+pub record IsTold {D : Type 0} (d : Ghosts D) (disk : D) (live : LiveDesktop) : Type 0 where
+  pub pages : AreTrueOver d disk live.pages
+  pub lines : d.honest disk → AreLinesOf (text_of (shown (now (d.trail disk)).reads live)) live.lines
 
 -- the head of this slot names just the sectors of the area on which its first characters stand
 abbrev pub IsNamed : Content → ℕ → LiveDesktop → Type 0

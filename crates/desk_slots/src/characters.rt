@@ -11,6 +11,8 @@ ghost use Rattle.desk_image.specs.Passing.{OnlyGets};
 ghost use Rattle.desk_image.specs.Streams.{IsImageFault};
 ghost use Rattle.store_layout.specs.Layout.{head as head_at, image_at, IsGoodHead};
 ghost use Rattle.store_layout.specs.Meaning.{HasImage, area_bytes, full_sectors, left_over};
+ghost use Rattle.piece_ring.specs.Text.{Text as AText};
+ghost use Rattle.screen_cells.specs.Lines.{AreLinesOf};
 ghost use Rattle.desk_slots.specs.Errors.{OfReplay};
 ghost use Rattle.desk_slots.specs.Live.{characters_of, shown, IsLive, IsTold};
 ghost use Rattle.desk_slots.specs.Load.{image_error, IsStart, HasNoStart};
@@ -140,10 +142,11 @@ fn with_pages(
         ≡ area_bytes c (full_sectors written) ++ take (left_over written) tail.now) }
     ensures saved { IfOk result (λ live. saved_sectors live.pages ≡ full_sectors written) }
     ensures cached { IfOk result (λ live. cached_of live.pages ≡ []) }
+    ensures lines { IfOk result (λ live. (texts : ℕ → AText ℕ) → AreLinesOf texts live.lines) }
 {
     let left = written % SECTOR_BYTES;
     let pages = Pages::new(alloc, area_at(0), written - left, &tail[..left as usize])?;
-    Ok(LiveDesktop::over(desktop, pages))
+    Ok(LiveDesktop::over(alloc, desktop, pages))
 }
 
 /// Loads what a slot of this head starts from. Memory is taken for the image and for the characters that are left over,

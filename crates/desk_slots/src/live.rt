@@ -9,7 +9,9 @@ ghost use Rattle.store_layout.specs.Layout.{area_at};
 ghost use Rattle.store_layout.specs.Kept.{HasFront};
 ghost use Rattle.store_layout.specs.Meaning.{full_sectors};
 ghost use Rattle.desk_slots.specs.Errors.{OfDesktop};
-ghost use Rattle.desk_slots.specs.Live.{characters_of, shown, IsLive, IsOverPages, IsTold, StaysLive};
+ghost use Rattle.desk_slots.specs.Live.{characters_of, shown, AreTrueOver, IsLive, IsOverPages, IsTold, StaysLive};
+ghost use Rattle.piece_ring.specs.Text.{Text as AText};
+ghost use Rattle.screen_cells.specs.Lines.{AreLinesOf};
 ghost use Rattle.desk_slots.specs.Words.{Nowhere, now, IsConfined, FailsAs, No, IsReply, entries_of, shown_screen, step};
 ghost use Rattle.desk_slots.specs.Words.{StepsUnread, ListsUnread};
 
@@ -20,7 +22,7 @@ use desk_image::ByteSink;
 use event_bytes::{Event, Name};
 use event_loop::{Desktop, Entry, Reply};
 use piece_ring::Look;
-use screen_cells::Screen;
+use screen_cells::{KeptLines, Screen};
 use sector_disk::{Disk, Fault, SECTOR_BYTES};
 use std::alloc::Global;
 use store_layout::STORE_SECTORS;
@@ -35,18 +37,25 @@ use store_layout::STORE_SECTORS;
 pub struct LiveDesktop {
     desktop: Desktop,
     pages: Pages,
+    /// What is kept of the screens that were painted.
+    lines: KeptLines,
 }
 
 impl LiveDesktop {
-    /// A desktop over its characters.
-    pub fn over(desktop: Desktop, pages: Pages) -> LiveDesktop
+    /// A desktop over its characters. No line of it is kept yet. It takes no memory.
+    pub fn over(alloc: Global, desktop: Desktop, pages: Pages) -> LiveDesktop
         requires over { IsOverPages pages desktop }
         requires based { base_of pages ≡ area_at 0 }
         ensures desktop { result.desktop ≡ desktop }
         ensures pages { result.pages ≡ pages }
         ensures live { IsLive result }
+        ensures lines { (texts : ℕ → AText ℕ) → AreLinesOf texts result.lines }
     {
-        LiveDesktop { desktop, pages }
+        LiveDesktop {
+            desktop,
+            pages,
+            lines: KeptLines::new(alloc),
+        }
     }
 
     /// The characters that are in memory: those behind the ones in the area.
@@ -90,11 +99,13 @@ impl LiveDesktop {
         ensures replies { IfOk result IsReply }
         ensures refusal { (code : ℕ) → result ≡ Ok (No code) → self.new.desktop ≡ self.old.desktop }
         ensures live { OnOk result (IsLive self.new) }
-        ensures told { IsTold D.Disk disk.new self.new }
+        ensures told { OnOk result (IsTold D.Disk disk.new self.new) }
+        ensures pages { AreTrueOver D.Disk disk.new self.new.pages }
         ensures counted { saved_of self.new.pages ≡ saved_of self.old.pages }
         ensures disk { IsConfined D.size D.honest D.trail Nowhere disk.old disk.new }
         ensures faults { FailsAs Error.Fault OfDesktop result (D.failures disk.old) (D.failures disk.new) }
     {
+        self.desktop.forget_stale(event, &mut self.lines);
         Ok(step_over(alloc, &mut self.desktop, event, disk, &mut self.pages)?)
     }
 
@@ -137,7 +148,7 @@ impl LiveDesktop {
         Ok(list_over(alloc, &mut self.desktop, disk, &mut self.pages)?)
     }
 
-    /// Paints what the desktop shows.
+    /// Paints what the desktop shows. Rows whose line is kept aren't read.
     pub fn screen<D: Disk>(
         &mut self,
         alloc: Global,
@@ -153,7 +164,14 @@ impl LiveDesktop {
         ensures disk { IsConfined D.size D.honest D.trail Nowhere disk.old disk.new }
         ensures faults { FailsAs Error.Fault OfDesktop result (D.failures disk.old) (D.failures disk.new) }
     {
-        screen_over(alloc, &mut self.desktop, screen, disk, &mut self.pages)?;
+        screen_over(
+            alloc,
+            &mut self.desktop,
+            &mut self.lines,
+            screen,
+            disk,
+            &mut self.pages,
+        )?;
         Ok(())
     }
 
@@ -164,6 +182,7 @@ impl LiveDesktop {
         ensures desktop { self.new.desktop ≡ self.old.desktop }
         ensures counted { saved_of self.new.pages ≡ SECTOR_BYTES * full_sectors self.old.desktop.written }
         ensures cached { cached_of self.new.pages ≡ cached_of self.old.pages }
+        ensures lines { self.new.lines ≡ self.old.lines }
         ensures same { (c : Content) → HasFront c (full_sectors self.old.desktop.written) (characters_of c self.old)
             → characters_of c self.new ≡ characters_of c self.old }
     {

@@ -4,6 +4,8 @@ ghost use Rattle.char_pages.specs.Pages.{base_of, saved_of, saved_sectors, paged
 ghost use Rattle.sector_disk.specs.Trail.{Content};
 ghost use Rattle.desk_core.specs.Stops.{IsStop};
 ghost use Rattle.desktop_definitions.specs.Seen.{seen};
+ghost use Rattle.desktop_definitions.specs.Viewers.{text_of};
+ghost use Rattle.screen_cells.specs.Lines.{AreLinesOf};
 ghost use Rattle.piece_ring.specs.Flat.{flat};
 ghost use Rattle.piece_ring.specs.Offsets.{AreWithin};
 ghost use Rattle.readers_scanners.specs.Reading.{contents};
@@ -16,7 +18,7 @@ use char_pages::{Paged, Pages};
 use event_bytes::Event;
 use event_loop::{Desktop, Entry, Reply, Stop};
 use piece_ring::Look;
-use screen_cells::Screen;
+use screen_cells::{KeptLines, Screen};
 use sector_disk::Disk;
 use std::alloc::Global;
 use text_core::Text;
@@ -106,6 +108,7 @@ pub(crate) fn list_over<D: Disk>(
 pub(crate) fn screen_over<D: Disk>(
     alloc: Global,
     desktop: &mut Desktop,
+    lines: &mut KeptLines,
     screen: &mut Screen,
     disk: &mut D,
     pages: &mut Pages,
@@ -113,8 +116,12 @@ pub(crate) fn screen_over<D: Disk>(
     requires over { IsOverPages pages.old desktop.old }
     requires on_disk { base_of pages.old + saved_sectors pages.old ≤ D.size disk.old }
     requires told { AreTrueOver D.Disk disk.old pages.old }
-    ensures shown { OnOk result (D.honest disk.old → screen.new
-        ≡ shown_screen (seen (paged_characters (now (D.trail disk.old)).reads pages.old) desktop.old)) }
+    ensures shown { OnOk result (D.honest disk.old
+        → AreLinesOf (text_of (seen (paged_characters (now (D.trail disk.old)).reads pages.old) desktop.old)) lines.old
+        → screen.new ≡ shown_screen (seen (paged_characters (now (D.trail disk.old)).reads pages.old) desktop.old)) }
+    ensures lines { D.honest disk.old
+        → AreLinesOf (text_of (seen (paged_characters (now (D.trail disk.old)).reads pages.old) desktop.old)) lines.old
+        → AreLinesOf (text_of (seen (paged_characters (now (D.trail disk.old)).reads pages.old) desktop.old)) lines.new }
     ensures unchanged { desktop.new ≡ desktop.old }
     ensures over { IsOverPages pages.new desktop.old }
     ensures same { D.honest disk.old → paged_characters (now (D.trail disk.new)).reads pages.new
@@ -126,5 +133,5 @@ pub(crate) fn screen_over<D: Disk>(
     ensures faults { FailsAs Stop.Fault IsStop result (D.failures disk.old) (D.failures disk.new) }
 {
     let mut source = Paged::over(disk, pages);
-    desktop.screen(alloc, &mut source, screen)
+    desktop.screen(alloc, lines, &mut source, screen)
 }

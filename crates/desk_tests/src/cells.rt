@@ -5,7 +5,7 @@ ghost use Rattle.piece_ring.specs.Offsets.{AreWithin};
 
 use char_file::{CharFile, CharSource, NoMemory};
 use piece_ring::DEFAULT_LOOK;
-use screen_cells::{Cell, Mark, Screen, Shown};
+use screen_cells::{Cell, KeptLines, Mark, Screen, Shown};
 use sector_disk::Fault;
 use std::alloc::Global;
 use std::io;
@@ -64,10 +64,12 @@ impl Write for Stuck {
 }
 
 /// The screen of an empty display.
-fn painted(alloc: Global, marker: Option<(u8, u8)>) -> Result<Screen, Fault> {
+fn painted(alloc: Global, marker: Option<(u8, u8)>) -> Result<Screen, Fail> {
     let mut screen = Screen::new();
     let mut source = CharFile::new(alloc);
-    screen.paint(&Tracks::new(), &[], marker, &mut source)?;
+    let mut lines = KeptLines::new(alloc);
+    lines.prepare()?;
+    screen.paint(&Tracks::new(), &[], marker, &mut lines, &mut source)?;
     Ok(screen)
 }
 
@@ -169,6 +171,7 @@ fn screen_of_one(
     let main = text_at(rt, alloc, &source, first, second)?;
     let screen = paint_one(
         rt,
+        alloc,
         &tracks_of_one(rt, x),
         &menu,
         &main,
@@ -182,13 +185,14 @@ fn screen_of_one(
 /// Paints viewer 1 with these texts.
 fn paint_one<S: CharSource>(
     rt: &impl Abort,
+    alloc: Global,
     tracks: &Tracks,
     menu: &Text,
     main: &Text,
     frame: &Frame,
     marker: Option<(u8, u8)>,
     source: &mut S,
-) -> Result<Screen, Fault>
+) -> Result<Screen, Fail>
     requires menu { AreWithin (length (S.characters source.old)) (flat menu.now) }
     requires main { AreWithin (length (S.characters source.old)) (flat main.now) }
 {
@@ -197,10 +201,13 @@ fn paint_one<S: CharSource>(
     let shown = [Shown {
         id: ViewerId(1),
         menu,
+        menu_text: 2,
         main,
         frame,
     }];
-    screen.paint(tracks, &shown, marker, source)?;
+    let mut lines = KeptLines::new(alloc);
+    lines.prepare()?;
+    screen.paint(tracks, &shown, marker, &mut lines, source)?;
     Ok(screen)
 }
 

@@ -18,7 +18,8 @@ use Rattle.desktop_definitions.specs.declared.viewer.Viewer.{Viewer}
 use Rattle.desktop_definitions.specs.declared.viewer.Selection.{Selection}
 use Rattle.desktop_laws.specs.TableLaws.{length_seen_text}
 use Rattle.desktop_definitions.specs.Desktop.{KeptDesktop}
-use Rattle.desktop_definitions.specs.Viewers.{text_in}
+use Rattle.desktop_definitions.specs.Viewers.{text_in, text_of}
+use Rattle.screen_cells.specs.Lines.{IsNumbered}
 use Rattle.desktop_definitions.specs.Seen.{seen, seen_table}
 use Rattle.desktop_definitions.specs.Shown.{ranked, selection_in, painted, shown_screen}
 use Rattle.desktop_definitions.specs.Sound.{AllWithin, IsViewer, IsKeptWhole}
@@ -120,6 +121,41 @@ module _ (d : KeptDesktop) (whole : IsKeptWhole d) where
       subst (IsReadable n) (get_or-map shown_view shown i s (shown_view s) low)
       (all i (shown_view s) (omega (arith, low, length-map {B = KeptView} shown shown_view))) in
       record { org = here.org; menu = here.menu; main = here.main }
+
+-- ---- by number
+
+-- a view's texts are those of the numbers that it names
+record IsNamed (characters : List ℕ) (d : KeptDesktop) (v : KeptView) : Type 0 where
+  pub menu : text_of (seen characters d) v.menu_text ≡ contents characters (flat v.menu)
+  pub main : text_of (seen characters d) v.frame.text ≡ contents characters (flat v.main)
+
+all_named : (characters : List ℕ) (d : KeptDesktop)
+    → All (λ v. IsNamed characters d (kept_view d.texts v)) (views d)
+unfolding seen
+all_named characters d = All-map (λ v. IsNamed characters d (kept_view d.texts v)) (view_in d.caret d.selections)
+    d.viewers (λ i e low. record {
+      menu = text_in_seen characters d.texts (slice_index_or d.viewers i e).1.menu;
+      main = text_in_seen characters d.texts (slice_index_or d.viewers i e).1.main;
+    })
+
+-- and so are those of what the screen is handed
+all_numbered : (characters : List ℕ) (d : KeptDesktop) (shown : List Shown)
+    → map shown_view shown ≡ map (kept_view d.texts) (views d)
+    → All (IsNumbered (text_of (seen characters d)) characters) shown
+all_numbered characters d shown is = λ i s low.
+    let all : All (IsNamed characters d) (map shown_view shown) = subst (All (IsNamed characters d)) (sym is)
+    (All-map (IsNamed characters d) (kept_view d.texts) (views d) (all_named characters d)) in
+    let here : IsNamed characters d (shown_view (slice_index_or shown i s)) =
+    subst (IsNamed characters d) (get_or-map shown_view shown i s (shown_view s) low)
+    (all i (shown_view s) (omega (arith, low, length-map {B = KeptView} shown shown_view))) in
+    record { menu = here.menu; main = here.main }
+
+pub handed_numbered : (characters : List ℕ) (d : KeptDesktop) (handed : List View) (shown list : List Shown)
+    → handed ≡ views d → list ≡ shown → map shown_view shown ≡ map (kept_view d.texts) handed
+    → All (IsNumbered (text_of (seen characters d)) characters) list
+handed_numbered characters d handed shown list all same is =
+    subst (All (IsNumbered (text_of (seen characters d)) characters)) (sym same)
+    (all_numbered characters d shown (is ∙ ap (map (kept_view d.texts)) all))
 
 -- ---- as they read
 

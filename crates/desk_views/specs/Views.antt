@@ -24,9 +24,10 @@ view_in caret selections e = record {
   };
 }
 
--- a viewer with the pieces of its texts and its main frame
+-- a viewer with the pieces of its texts, the number of its menu text, and its main frame
 pub record KeptView : Type 0 where
   pub id : ℕ
+  pub menu_text : ℕ
   pub menu : List Piece
   pub main : List Piece
   pub frame : Frame
@@ -35,6 +36,7 @@ pub record KeptView : Type 0 where
 abbrev pub kept_view : Texts (List Piece) → View → KeptView
 kept_view texts v = record {
   id = v.id;
+  menu_text = v.menu;
   menu = text_in texts v.menu;
   main = text_in texts v.frame.text;
   frame = v.frame;
@@ -42,7 +44,13 @@ kept_view texts v = record {
 
 -- as it is handed to the screen
 abbrev pub shown_view : Shown → KeptView
-shown_view s = record { id = s.id.0; menu = s.menu.now; main = s.main.now; frame = s.frame.now }
+shown_view s = record {
+  id = s.id.0;
+  menu_text = s.menu_text;
+  menu = s.menu.now;
+  main = s.main.now;
+  frame = s.frame.now;
+}
 
 -- both texts of a view are there
 abbrev pub AreThere : Texts (List Piece) → View → Type 0

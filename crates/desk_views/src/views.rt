@@ -11,6 +11,8 @@ ghost use Rattle.desktop_definitions.specs.Listing.{name_in, viewer_entry, track
 ghost use Rattle.desktop_definitions.specs.Unread.{without_name};
 ghost use Rattle.desktop_definitions.specs.Shown.{selection_in, shown_screen};
 ghost use Rattle.desktop_definitions.specs.Sound.{IsOver};
+ghost use Rattle.desktop_definitions.specs.Viewers.{text_of};
+ghost use Rattle.screen_cells.specs.Lines.{AreLinesOf};
 ghost use Rattle.desk_core.specs.Kept.{kept};
 ghost use Rattle.desk_core.specs.Stops.{IsStop};
 ghost use Rattle.desk_views.specs.Views.{view_in, kept_view, shown_view, AreThere};
@@ -22,7 +24,7 @@ use desk_core::viewers::{Texts, viewer_or_none};
 use desk_core::views::{position_in, text_there};
 use desktop_definitions::{Caret, Entry, MenuName, Selection, Viewer};
 use readers_scanners::Reader;
-use screen_cells::{Screen, Shown};
+use screen_cells::{KeptLines, Screen, Shown};
 use std::alloc::Global;
 use std::vec::Vec;
 use text_core::Text;
@@ -40,23 +42,29 @@ pub struct View {
     pub frame: Frame,
 }
 
-/// Paints what the desktop shows. NoMemory where an allocation is refused. Fault: the source failed in this call,
-/// and the screen may show anything.
+/// Paints what the desktop shows; rows whose line is kept aren't read. NoMemory where an allocation is refused. Fault:
+/// the source failed in this call, and the screen may show anything.
 pub fn paint<S: CharSource>(
     desk: &Desk,
     alloc: Global,
+    lines: &mut KeptLines,
     source: &mut S,
     screen: &mut Screen,
 ) -> Result<(), Stop>
     requires { IsOver (S.characters source.old) (kept desk.now) }
     ensures shown { OnOk result (S.honest source.old
+        → AreLinesOf (text_of (seen (S.characters source.old) (kept desk.now))) lines.old
         → screen.new ≡ shown_screen (seen (S.characters source.old) (kept desk.now))) }
+    ensures lines { S.honest source.old
+        → AreLinesOf (text_of (seen (S.characters source.old) (kept desk.now))) lines.old
+        → AreLinesOf (text_of (seen (S.characters source.old) (kept desk.now))) lines.new }
     ensures reads { OnlyReads S.characters S.failures S.honest S.same_ground source.old source.new }
     ensures faults { FailsAs Stop.Fault IsStop result (S.failures source.old) (S.failures source.new) }
 {
     let views = views_of(alloc, &desk.viewers, desk.caret, &desk.selections)?;
     let shown = shown_of(alloc, &desk.texts, &views)?;
-    screen.paint(&desk.tracks, &shown, desk.marker, source)?;
+    lines.prepare()?;
+    screen.paint(&desk.tracks, &shown, desk.marker, lines, source)?;
     Ok(())
 }
 
@@ -219,6 +227,7 @@ fn shown_as<'a>(texts: &'a Texts, view: &'a View) -> Shown<'a>
     Shown {
         id: ViewerId(view.id),
         menu: text_there(texts, view.menu),
+        menu_text: view.menu,
         main: text_there(texts, view.frame.text),
         frame: &view.frame,
     }

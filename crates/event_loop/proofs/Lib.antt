@@ -2,3 +2,4 @@ pub mod StopLemmas
 pub mod GestureLemmas
 pub mod ImageRead
 pub mod UnreadEvents
+mod StaleLemmas

@@ -20,8 +20,11 @@ ghost use Rattle.desktop_definitions.specs.Shown.{shown_screen};
 ghost use Rattle.desk_image.specs.Streams.{Puts};
 ghost use Rattle.desk_image.specs.Image.{image_of, image_bytes, IsSpellable};
 ghost use Rattle.desk_core.specs.Stops.{IsStop};
+ghost use Rattle.desktop_definitions.specs.Viewers.{text_of};
+ghost use Rattle.screen_cells.specs.Lines.{AreLinesOf};
 
 use crate::events::act;
+use crate::stale::{forget, stale_of};
 use char_file::{CharSource, Fault};
 use desk_core::desk::{Desk, empty_desk};
 use desk_core::files::{entries, file_of};
@@ -32,7 +35,7 @@ use desk_imaging::imaging::put_image;
 use desk_views::{list_track, paint};
 use desktop_definitions::{Entry, Reply};
 use event_bytes::{Event, Name};
-use screen_cells::Screen;
+use screen_cells::{KeptLines, Screen};
 use std::alloc::Global;
 use std::marker::Model;
 use text_core::Text;
@@ -151,24 +154,39 @@ impl Desktop {
         Ok(entries)
     }
 
-    /// Paints what the desktop shows: its viewers, with the caret and what is selected, and the marker.
+    /// Gives up the lines of texts that the event may change. Those that are left are so of the texts after it.
+    pub fn forget_stale(&self, event: &Event, lines: &mut KeptLines)
+        ensures { (characters : List ℕ) → IsOver characters self.now
+            → AreLinesOf (text_of (seen characters self.now)) lines.old
+            → AreLinesOf (text_of (step (seen characters self.now) event.now).0) lines.new }
+    {
+        forget(lines, stale_of(&self.desk, event));
+    }
+
+    /// Paints what the desktop shows: its viewers, with the caret and what is selected, and the marker. `lines` has what
+    /// is kept of the screens before: a row whose line is kept isn't read, and the lines of the others are kept.
     ///
     /// NoMemory where an allocation is refused; Fault where a character could not be read, and the screen may then show
     /// anything. The desktop stays, whatever is returned.
     pub fn screen<S: CharSource>(
         &mut self,
         alloc: Global,
+        lines: &mut KeptLines,
         source: &mut S,
         screen: &mut Screen,
     ) -> Result<(), Stop>
         requires { IsOver (S.characters source.old) self.old }
         ensures shown { OnOk result (S.honest source.old
+            → AreLinesOf (text_of (seen (S.characters source.old) self.old)) lines.old
             → screen.new ≡ shown_screen (seen (S.characters source.old) self.old)) }
+        ensures lines { S.honest source.old
+            → AreLinesOf (text_of (seen (S.characters source.old) self.old)) lines.old
+            → AreLinesOf (text_of (seen (S.characters source.old) self.old)) lines.new }
         ensures unchanged { self.new ≡ self.old }
         ensures reads { OnlyReads S.characters S.failures S.honest S.same_ground source.old source.new }
         ensures faults { FailsAs Stop.Fault IsStop result (S.failures source.old) (S.failures source.new) }
     {
-        paint(&self.desk, alloc, source, screen)
+        paint(&self.desk, alloc, lines, source, screen)
     }
 
     /// Puts the image of the desktop, the bytes that say how it is kept, and returns how many bytes these are. The

@@ -10,6 +10,7 @@
 mod desktop;
 mod events;
 mod gestures;
+mod stale;
 
 pub use desk_core::stop::{NoMemory, Stop};
 pub use desk_image::{ByteSink, ByteSource, ImageFault};

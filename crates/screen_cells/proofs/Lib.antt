@@ -6,3 +6,4 @@ pub mod Printing
 pub mod Painting
 pub mod Strips
 pub mod Walking
+pub mod Keeping

@@ -72,9 +72,11 @@ strips_painted columns viewers marker y user system in_user in_system =
     by_track x true = in_user x ∙ ap (λ c. track_cell columns viewers User c y) (let e : x ≡ x - 0 = omega arith in e)
     by_track x false = in_system (x - SYSTEM_LEFT)
 
--- The rows from n on are painted, from the state `start` of the source on, and nothing failed since.
+-- The rows from n on are painted, from the state `start` of the source on, where what was kept was so; and nothing
+-- failed since.
 module _ {S : Type 0} (characters : S → List ℕ) (failures : S → ℕ) (honest : S → Type 0)
-    (same_ground : S → S → Type 0) (columns : Columns) (viewers : List Shown) (marker : Option (ℕ × ℕ)) where
+    (same_ground : S → S → Type 0) (told : Type 0) (columns : Columns) (viewers : List Shown)
+    (marker : Option (ℕ × ℕ)) where
   abbrev pub row_wanted : S → ℕ → List Cell
   row_wanted s y = painted_row columns (map (as_read (characters s)) viewers) marker y
 
@@ -82,7 +84,7 @@ module _ {S : Type 0} (characters : S → List ℕ) (failures : S → ℕ) (hone
     pub long : length rows ≡ ROWS
     pub reads : OnlyReads characters failures honest same_ground start now
     pub calm : failures now ≡ failures start
-    pub done : honest start → (k : ℕ) → n ≤ k → k < ROWS → get_or rows k [] ≡ row_wanted start k
+    pub done : honest start → told → (k : ℕ) → n ≤ k → k < ROWS → get_or rows k [] ≡ row_wanted start k
 
   pub none_painted : ((s : S) → same_ground s s) → (start : S) (rows : List (List Cell)) → length rows ≡ ROWS
       → ArePainted start start rows ROWS
@@ -90,35 +92,35 @@ module _ {S : Type 0} (characters : S → List ℕ) (failures : S → ℕ) (hone
     long = long;
     reads = no_read characters failures honest same_ground ground_self start;
     calm = refl;
-    done = λ h k from below. absurd (omega (arith, from, below));
+    done = λ h t k from below. absurd (omega (arith, from, below));
   }
 
   pub row_painted : ((a b c : S) → same_ground a b → same_ground b c → same_ground a c)
       → (start mid now : S) (rows : List (List Cell)) (row : List Cell) (n : ℕ) → 0 < n → n ≤ ROWS
       → ArePainted start mid rows n → OnlyReads characters failures honest same_ground mid now
-      → failures now ≡ failures mid → (honest mid → row ≡ row_wanted mid (n - 1))
+      → failures now ≡ failures mid → (honest mid → told → row ≡ row_wanted mid (n - 1))
       → ArePainted start now (set rows (n - 1) row) (n - 1)
   row_painted ground_through start mid now rows row n some inside so_far reads calm made = record {
     long = length-set rows (n - 1) row ∙ so_far.long;
     reads = read_on characters failures honest same_ground ground_through start mid now so_far.reads reads;
     calm = calm ∙ so_far.calm;
-    done = λ h k from below. elim (cases_eq k (n - 1)) [
+    done = λ h t k from below. elim (cases_eq k (n - 1)) [
       | inl here ↦
           let long : n - 1 < length rows = omega (arith, some, inside, so_far.long) in
           ap (λ i. get_or (set rows (n - 1) row) i []) here
-          ∙ get_or-set_same rows (n - 1) row [] long ∙ made (so_far.reads.still h)
+          ∙ get_or-set_same rows (n - 1) row [] long ∙ made (so_far.reads.still h) t
           ∙ (λ i. painted_row columns (map (as_read (so_far.reads.same h i)) viewers) marker (n - 1))
           ∙ ap (row_wanted start) (sym here)
       | inr other ↦ get_or-set_other rows (n - 1) k row [] other
-          ∙ so_far.done h k (omega (arith, from, other)) below
+          ∙ so_far.done h t k (omega (arith, from, other)) below
     ];
   }
 
   pub all_painted : (start now : S) (rows : List (List Cell)) (n : ℕ) → n ≤ 0 → ArePainted start now rows n
-      → honest start → rows ≡ screen_of (picture columns (map (as_read (characters start)) viewers) marker)
-  all_painted start now rows n all painted h =
+      → honest start → told → rows ≡ screen_of (picture columns (map (as_read (characters start)) viewers) marker)
+  all_painted start now rows n all painted h t =
       values_is ROWS (row_wanted start) rows [] painted.long
-      (λ k below. painted.done h k (omega (arith, all)) below)
+      (λ k below. painted.done h t k (omega (arith, all)) below)
 
 -- no viewer is seen where there is none
 seen_nowhere : (b : Bool) (y : ℕ) → viewer_at (shown no_viewers (if b then User else System)) y ≡ None

@@ -1,8 +1,8 @@
 -- What a track shows in a row is what its strip does.
 use Rattle.std.proofs.Common.{◌≡◌, ℕ, ◌+◌, ◌-◌, ◌<◌, ◌≤◌, Bool, true, false, ◌==◌, List, length, map, Option, Some}
-use Rattle.std.proofs.Common.{None, option_map, slice_get, ap, sym, ◌∙◌, arith}
-use Rattle.std.specs.Prelude.{if◌then◌else◌}
-use Rattle.std.proofs.lemmas.Option.{slice_get-map, slice_get_past}
+use Rattle.std.proofs.Common.{None, option_map, slice_get, ap, sym, subst, ◌∙◌, arith}
+use Rattle.std.specs.Prelude.{if◌then◌else◌, All}
+use Rattle.std.proofs.lemmas.Option.{slice_get-map, slice_get_past, slice_get_within, get_or_from_slice_get}
 use Rattle.std.proofs.lemmas.List.Folds.{find_at}
 use Rattle.viewer_tracks.proofs.Positions.{position_or_len_map}
 use Rattle.std.specs.List.{find, position_or_len}
@@ -51,3 +51,7 @@ module _ {X Y : Type 0} (p : Y → Bool) (f : X → Y) (xs : List X) where
   pub found_none : (i : ℕ) → i ≡ position_or_len (λ x. p (f x)) xs → length xs ≤ i → find p (map f xs) ≡ None
   found_none i is past =
       found_there ∙ ap (λ k. option_map f (slice_get xs k)) (sym is) ∙ ap (option_map f) (slice_get_past xs i past)
+
+-- what holds of all holds of the one at an index
+pub all_got : {X : Type 0} (P : X → Type 0) (xs : List X) (i : ℕ) (x : X) → slice_get xs i ≡ Some x → All P xs → P x
+all_got P xs i x there all = subst P (get_or_from_slice_get xs i x x there) (all i x (slice_get_within xs i x there))

@@ -7,6 +7,7 @@
 
 mod laws;
 mod line;
+mod lines;
 mod print;
 mod screen;
 mod sending;
@@ -14,6 +15,7 @@ mod shown;
 mod strip;
 mod walk;
 
+pub use lines::KeptLines;
 pub use laws::{all_filler_without_viewers, cells_of_a_screen};
 pub use screen::Screen;
 pub use screen_pictures::{Cell, Mark};

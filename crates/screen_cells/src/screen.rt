@@ -1,5 +1,6 @@
 //! The screen, and what is painted on it.
-ghost use Rattle.std.specs.Prelude.{◌≡◌, ◌<◌, ◌-◌, if◌then◌else◌, nat_lt, length, map, All, OnOk};
+ghost use Rattle.piece_ring.specs.Text.{Text as AText};
+ghost use Rattle.std.specs.Prelude.{◌≡◌, ◌<◌, ◌-◌, ℕ, if◌then◌else◌, nat_lt, length, map, All, OnOk};
 ghost use Rattle.sector_disk.specs.Trail.{CountsFault};
 ghost use Rattle.char_file.specs.Source.{OnlyReads};
 ghost use Rattle.screen_pictures.specs.Picture.{filler, marked, picture};
@@ -7,7 +8,9 @@ ghost use Rattle.screen_cells.specs.Shown.{IsShowable, as_read, strip_cell};
 ghost use Rattle.screen_pictures.specs.Screen.{screen_of, cell_at, column_at, values};
 ghost use Rattle.screen_cells.specs.Rows.{painted_row, strips_cell};
 ghost use Rattle.screen_cells.specs.Walks.{AreKept};
+ghost use Rattle.screen_cells.specs.Lines.{AreLinesOf, IsNumbered, AreReady};
 
+use crate::lines::KeptLines;
 use crate::shown::Shown;
 use crate::strip::{Strip, track_strip};
 use crate::walk::Walks;
@@ -70,17 +73,24 @@ impl Screen {
 
     /// Paints the viewers that the tracks show, and the marker where it stands in the display. `shown` has what each of
     /// them shows: of several with one number the first counts, those in no track are ignored, and a viewer that isn't
-    /// among them is painted as a filler. `Fault`: the source failed in this call, and the screen may show anything.
+    /// among them is painted as a filler. Rows whose line is kept aren't read; of the others the lines are kept.
+    /// `Fault`: the source failed in this call, and the screen may show anything; what is kept is so all the same.
     pub fn paint<S: CharSource>(
         &mut self,
         tracks: &Tracks,
         shown: &[Shown<'_>],
         marker: Option<(u8, u8)>,
+        lines: &mut KeptLines,
         source: &mut S,
     ) -> Result<(), Fault>
-        requires { All (IsShowable (length (S.characters source.old))) shown.now }
-        ensures painted { OnOk result (S.honest source.old
+        requires showable { All (IsShowable (length (S.characters source.old))) shown.now }
+        requires ready { AreReady lines.old }
+        ensures painted { OnOk result (S.honest source.old → (texts : ℕ → AText ℕ)
+            → All (IsNumbered texts (S.characters source.old)) shown.now → AreLinesOf texts lines.old
             → self.new ≡ screen_of (picture tracks.now (map (as_read (S.characters source.old)) shown.now) marker)) }
+        ensures lines { S.honest source.old → (texts : ℕ → AText ℕ)
+            → All (IsNumbered texts (S.characters source.old)) shown.now → AreLinesOf texts lines.old
+            → AreLinesOf texts lines.new }
         ensures reads { OnlyReads S.characters S.failures S.honest S.same_ground source.old source.new }
         ensures cause { CountsFault result (S.failures source.old) (S.failures source.new) }
     {
@@ -96,6 +106,7 @@ impl Screen {
                 shown,
                 marker,
                 &mut walks,
+                lines,
                 source,
             )?;
         }
@@ -111,8 +122,8 @@ fn cell_of(row: &Row, x: u8) -> Cell
     row[usize::from(x)]
 }
 
-/// Paints a row of the display. `walks` tells what was read for the rows above it. `Fault`: the source failed in this
-/// call.
+/// Paints a row of the display. `walks` tells what was read for the rows above it, `lines` what is kept. `Fault`: the
+/// source failed in this call.
 fn paint_row<'a, S: CharSource>(
     row: &mut Row,
     y: u8,
@@ -120,19 +131,45 @@ fn paint_row<'a, S: CharSource>(
     shown: &[Shown<'a>],
     marker: Option<(u8, u8)>,
     walks: &mut Walks<'a>,
+    lines: &mut KeptLines,
     source: &mut S,
 ) -> Result<(), Fault>
     requires row { y < ROWS }
+    requires ready { AreReady lines.old }
     requires showable { All (IsShowable (length (S.characters source.old))) shown.now }
     requires kept { AreKept (S.honest source.old) (S.characters source.old) shown.now walks.old }
-    ensures painted { OnOk result (S.honest source.old
+    ensures painted { OnOk result (S.honest source.old → (texts : ℕ → AText ℕ)
+        → All (IsNumbered texts (S.characters source.old)) shown.now → AreLinesOf texts lines.old
         → row.new ≡ painted_row tracks.now (map (as_read (S.characters source.old)) shown.now) marker y) }
+    ensures lines { S.honest source.old → (texts : ℕ → AText ℕ)
+        → All (IsNumbered texts (S.characters source.old)) shown.now → AreLinesOf texts lines.old
+        → AreLinesOf texts lines.new }
+    ensures ready { AreReady lines.new }
     ensures kept { OnOk result (AreKept (S.honest source.new) (S.characters source.new) shown.now walks.new) }
     ensures reads { OnlyReads S.characters S.failures S.honest S.same_ground source.old source.new }
     ensures cause { CountsFault result (S.failures source.old) (S.failures source.new) }
 {
-    let user = track_strip(tracks, shown, Track::User, y, &mut walks.user, source)?;
-    let system = track_strip(tracks, shown, Track::System, y, &mut walks.system, source)?;
+    let at = usize::from(y);
+    let user = track_strip(
+        tracks,
+        shown,
+        Track::User,
+        y,
+        &mut walks.user,
+        &mut lines.user[at],
+        &mut lines.caret,
+        source,
+    )?;
+    let system = track_strip(
+        tracks,
+        shown,
+        Track::System,
+        y,
+        &mut walks.system,
+        &mut lines.system[at],
+        &mut lines.caret,
+        source,
+    )?;
     put_strips(row, y, &user, &system, marker);
     Ok(())
 }

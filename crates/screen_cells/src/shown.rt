@@ -8,8 +8,9 @@ use viewer_tracks::ViewerId;
 pub struct Shown<'a> {
     /// The number by which the tracks know it.
     pub id: ViewerId,
-    /// The text whose first line is in its top row.
+    /// The text whose first line is in its top row, and its number.
     pub menu: &'a Text,
+    pub menu_text: u16,
     /// The text in the rows below.
     pub main: &'a Text,
     /// The part of the main text that is shown, its caret and its selection.

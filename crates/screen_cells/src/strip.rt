@@ -11,21 +11,24 @@ ghost use Rattle.screen_pictures.specs.Picture.{cell_with, filler, is_at, is_sel
 ghost use Rattle.screen_pictures.specs.Picture.{viewer_cell, width_of, track_cell};
 ghost use Rattle.screen_pictures.specs.Mark.{mark_of};
 ghost use Rattle.screen_cells.specs.Shown.{IsShowable, as_read, strip_cell};
+ghost use Rattle.piece_ring.specs.Text.{Text as AText};
+ghost use Rattle.screen_cells.specs.Lines.{IsSlotOf, IsCaretOf, IsNumbered};
 ghost use Rattle.screen_cells.specs.Walks.{IsWalk, IsKept};
 
+use crate::lines::{KeptCaret, Slot, caret_cell, frame_cells, menu_cells};
 use crate::shown::Shown;
 use crate::walk::{Walk, walk_of};
 use arrayvec::ArrayVec;
 use piece_ring::{DEFAULT_LOOK, Look};
 use screen_pictures::{Cell, Mark};
-use text_frames::{CharSource, Fault, Frame, Selection};
+use text_frames::{CharSource, Fault, Selection};
 use viewer_tracks::{COLUMNS, ROWS, SYSTEM_LEFT, Track, Tracks, ViewerId};
 
 /// What fills a cell of a line: a character's byte and look, and its position in the text.
-type Filled = (u8, Look, u32);
+pub(crate) type Filled = (u8, Look, u32);
 
 /// The filled cells of a line, from the left.
-type Line = ArrayVec<Filled, 50>;
+pub(crate) type Line = ArrayVec<Filled, 50>;
 
 /// What a track shows in a row.
 #[derive(Drop)]
@@ -186,24 +189,23 @@ fn menu_strip<S: CharSource>(
     width: u8,
     bottom: u8,
     y: u8,
+    slot: &mut Slot,
     source: &mut S,
 ) -> Result<Strip, Fault>
     requires fits { width ≤ 50 }
     requires showable { IsShowable (length (S.characters source.old)) shown.now }
-    ensures strip { IfOk result (λ strip. S.honest source.old → (column : ℕ) → strip_cell strip column
+    ensures strip { IfOk result (λ strip. S.honest source.old → (texts : ℕ → AText ℕ)
+        → IsNumbered texts (S.characters source.old) shown.now → IsSlotOf texts slot.old
+        → (column : ℕ) → strip_cell strip column
         ≡ viewer_cell (as_read (S.characters source.old) shown.now) width bottom (y + 1) column y) }
+    ensures slot { S.honest source.old → (texts : ℕ → AText ℕ)
+        → IsNumbered texts (S.characters source.old) shown.now → IsSlotOf texts slot.old → IsSlotOf texts slot.new }
     ensures reads { OnlyReads S.characters S.failures S.honest S.same_ground source.old source.new }
     ensures cause { CountsFault result (S.failures source.old) (S.failures source.new) }
 {
-    let frame = Frame {
-        text: 0,
-        org: 0,
-        caret: None,
-        selection: None,
-    };
     let _ = bottom;
     let _ = y;
-    let line = frame.line(shown.menu, width, 1, 0, source)?;
+    let line = menu_cells(shown, width, slot, source)?;
     Ok(Strip::Menu(line))
 }
 
@@ -215,6 +217,8 @@ fn viewer_strip<S: CharSource>(
     bottom: u8,
     top: u8,
     y: u8,
+    slot: &mut Slot,
+    caret: &mut Option<KeptCaret>,
     source: &mut S,
 ) -> Result<Strip, Fault>
     requires some { 0 < width }
@@ -223,31 +227,33 @@ fn viewer_strip<S: CharSource>(
     requires from { bottom ≤ y }
     requires before { y < top }
     requires rows { walk.old.h ≡ top - bottom - 1 }
-    requires walk { IsWalk (S.honest source.old) (S.characters source.old) (width - 1) walk.old }
-    ensures strip { IfOk result (λ strip. S.honest source.old → (column : ℕ) → strip_cell strip column
+    requires walk { IsWalk (S.honest source.old) (S.characters source.old) walk.old }
+    ensures strip { IfOk result (λ strip. S.honest source.old → (texts : ℕ → AText ℕ)
+        → IsNumbered texts (S.characters source.old) walk.old.shown → IsSlotOf texts slot.old
+        → IfSome caret.old (IsCaretOf texts) → (column : ℕ) → strip_cell strip column
         ≡ viewer_cell (as_read (S.characters source.old) walk.old.shown) width bottom top column y) }
-    ensures walk { OnOk result (IsWalk (S.honest source.new) (S.characters source.new) (width - 1) walk.new) }
+    ensures slot { S.honest source.old → (texts : ℕ → AText ℕ)
+        → IsNumbered texts (S.characters source.old) walk.old.shown → IsSlotOf texts slot.old
+        → IsSlotOf texts slot.new }
+    ensures caret { S.honest source.old → (texts : ℕ → AText ℕ)
+        → IsNumbered texts (S.characters source.old) walk.old.shown → IfSome caret.old (IsCaretOf texts)
+        → IfSome caret.new (IsCaretOf texts) }
+    ensures walk { OnOk result (IsWalk (S.honest source.new) (S.characters source.new) walk.new) }
     ensures viewer { walk.new.shown ≡ walk.old.shown }
     ensures index { walk.new.index ≡ walk.old.index }
     ensures reads { OnlyReads S.characters S.failures S.honest S.same_ground source.old source.new }
     ensures cause { CountsFault result (S.failures source.old) (S.failures source.new) }
 {
     if y + 1 == top {
-        return menu_strip(&walk.shown, width, bottom, y, source);
+        return menu_strip(&walk.shown, width, bottom, y, slot, source);
     }
     let row = top - 2 - y;
     let frame = walk.shown.frame;
-    let line = frame.read_line(
-        walk.shown.main,
-        width - 1,
-        walk.h,
-        row,
-        &mut walk.rows,
-        source,
-    )?;
+    let cell = caret_cell(&walk.shown, width - 1, walk.h, caret, source)?;
+    let line = frame_cells(walk, width - 1, row, slot, source)?;
     Ok(Strip::Frame(FrameRow {
         line,
-        caret: walk.caret,
+        caret: cell,
         selection: frame.selection,
         row,
     }))
@@ -275,24 +281,32 @@ fn filler_strip<S: CharSource>(source: &mut S) -> Result<Strip, Fault>
     Ok(Strip::Filler)
 }
 
-/// What a track shows in a row, where `kept` is the walk of the viewer that was painted last there. `Fault`: the source
-/// failed in this call.
+/// What a track shows in a row, where `kept` is the walk of the viewer that was painted last there, `slot` has the line
+/// that is kept of this row, and `caret` the caret that is kept. `Fault`: the source failed in this call.
 pub(crate) fn track_strip<'a, S: CharSource>(
     tracks: &Tracks,
     shown: &[Shown<'a>],
     track: Track,
     y: u8,
     kept: &mut Option<Walk<'a>>,
+    slot: &mut Slot,
+    caret: &mut Option<KeptCaret>,
     source: &mut S,
 ) -> Result<Strip, Fault>
     requires row { y < ROWS }
     requires showable { All (IsShowable (length (S.characters source.old))) shown.now }
-    requires kept { IfSome kept.old (IsKept (S.honest source.old) (S.characters source.old) shown.now
-        (width_of track - 1)) }
-    ensures strip { IfOk result (λ strip. S.honest source.old → (column : ℕ) → strip_cell strip column
+    requires kept { IfSome kept.old (IsKept (S.honest source.old) (S.characters source.old) shown.now) }
+    ensures strip { IfOk result (λ strip. S.honest source.old → (texts : ℕ → AText ℕ)
+        → All (IsNumbered texts (S.characters source.old)) shown.now → IsSlotOf texts slot.old
+        → IfSome caret.old (IsCaretOf texts) → (column : ℕ) → strip_cell strip column
         ≡ track_cell tracks.now (map (as_read (S.characters source.old)) shown.now) track column y) }
-    ensures kept { OnOk result (IfSome kept.new (IsKept (S.honest source.new) (S.characters source.new) shown.now
-        (width_of track - 1))) }
+    ensures slot { S.honest source.old → (texts : ℕ → AText ℕ)
+        → All (IsNumbered texts (S.characters source.old)) shown.now → IsSlotOf texts slot.old
+        → IsSlotOf texts slot.new }
+    ensures caret { S.honest source.old → (texts : ℕ → AText ℕ)
+        → All (IsNumbered texts (S.characters source.old)) shown.now → IfSome caret.old (IsCaretOf texts)
+        → IfSome caret.new (IsCaretOf texts) }
+    ensures kept { OnOk result (IfSome kept.new (IsKept (S.honest source.new) (S.characters source.new) shown.now)) }
     ensures reads { OnlyReads S.characters S.failures S.honest S.same_ground source.old source.new }
     ensures cause { CountsFault result (S.failures source.old) (S.failures source.new) }
 {
@@ -304,10 +318,18 @@ pub(crate) fn track_strip<'a, S: CharSource>(
         return filler_strip(source);
     }
     let place = tracks.place_of(viewer);
-    let width = width(track);
     let h = place.top - place.bottom - 1;
-    let mut walk = walk_of(kept.take(), shown, index, width - 1, h, source)?;
-    let strip = viewer_strip(&mut walk, width, place.bottom, place.top, y, source)?;
+    let mut walk = walk_of(kept.take(), shown, index, h, source);
+    let strip = viewer_strip(
+        &mut walk,
+        width(track),
+        place.bottom,
+        place.top,
+        y,
+        slot,
+        caret,
+        source,
+    )?;
     *kept = Some(walk);
     Ok(strip)
 }

@@ -7,9 +7,12 @@ use Rattle.desk_slots.proofs.Starting.{shown_by}
 use Rattle.desk_slots.proofs.characters.load_slot.Goals as goal
 
 pub returns-in_ok-with_pages-in-Ok-clause-told : goal.returns-in_ok-with_pages-in-Ok-clause-told
-returns-in_ok-with_pages-in-Ok-clause-told g c = λ honest.
-    subst (AreTrue (now (g.D.Disk.trail c.load_start.new.disk)).reads) (sym c.in_ok-with_pages-in-Ok.ensures.cached)
-    (none_true _)
+returns-in_ok-with_pages-in-Ok-clause-told g c = record {
+  pages = λ honest.
+      subst (AreTrue (now (g.D.Disk.trail c.load_start.new.disk)).reads) (sym c.in_ok-with_pages-in-Ok.ensures.cached)
+      (none_true _);
+  lines = λ honest. c.in_ok-with_pages-in-Ok.ensures.lines _;
+}
 
 pub returns-in_ok-with_pages-in-Ok-clause-image : goal.returns-in_ok-with_pages-in-Ok-clause-image
 returns-in_ok-with_pages-in-Ok-clause-image g c = λ honest is.

@@ -3,7 +3,7 @@ use Rattle.sector_disk.specs.Trail.{now}
 use Rattle.char_pages.specs.Cached.{AreTrue}
 use Rattle.store_layout.specs.Kept.{IsKept}
 use Rattle.desk_slots.proofs.Renewing.{shown_settled, named_settled}
-use Rattle.desk_slots.proofs.Staying.{told_stays, apart_renewal}
+use Rattle.desk_slots.proofs.Staying.{told_stays, lines_stay, apart_renewal}
 use Rattle.desk_slots.proofs.checkpoint.renew.Goals as goal
 
 pub returns-clause-renewed : goal.returns-clause-renewed
@@ -28,7 +28,12 @@ returns-clause-shown g c = λ honest.
     c.settle.ensures.same
 
 pub returns-clause-told : goal.returns-clause-told
-returns-clause-told g c = λ told honest.
-    subst (λ l. AreTrue (now (g.D.Disk.trail c.change_slot.new.disk)).reads l) (sym c.settle.ensures.cached)
+returns-clause-told g c = λ told.
+    lines_stay g.D.Disk c.args.desktop.now c.settle.new.self c.change_slot.ensures.kept
+    (λ honest. shown_settled _ _ c.args.place c.args.desktop.now c.settle.new.self c.requires.live c.requires.saved
+    (c.change_slot.ensures.kept.moments honest) (c.in_ok-change_slot.ensures.front honest) c.settle.ensures.desktop
+    c.settle.ensures.same)
+    c.settle.ensures.lines told
+    (λ honest. subst (λ l. AreTrue (now (g.D.Disk.trail c.change_slot.new.disk)).reads l) (sym c.settle.ensures.cached)
     (told_stays g.D.Disk c.args.desktop.now.pages c.change_slot.ensures.kept
-    (apart_renewal c.args.desktop.now.pages c.args.place c.requires.live.based c.requires.saved) told honest)
+    (apart_renewal c.args.desktop.now.pages c.args.place c.requires.live.based c.requires.saved) told.pages honest))

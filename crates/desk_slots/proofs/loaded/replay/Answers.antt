@@ -11,6 +11,7 @@ use Rattle.store_layout.specs.Layout.{is_open, gate, body}
 use Rattle.desk_slots.specs.Live.{shown}
 use Rattle.desk_slots.specs.Load.{IsReadTo, IsReadWhole}
 use Rattle.desk_slots.proofs.Loading.{one_read, all_read, not_read}
+use Rattle.desk_slots.proofs.Staying.{apart_nowhere, live_stays}
 use Rattle.desk_slots.proofs.loaded.replay.Goals as goal
 
 pub returns-in_err-event-clause-damaged : goal.returns-in_err-event-clause-damaged
@@ -43,6 +44,16 @@ returns-in-None-clause-whole g c = λ honest.
     (there (i.read honest)) (λ room. subst
     (λ r. is_open (r (gate c.args.slot c.loop-k.k)) ≡ false) same closed)
 
+pub returns-in-None-clause-told : goal.returns-in-None-clause-told
+returns-in-None-clause-told g c =
+    live_stays g.D.Disk c.loop-k.desktop c.read_event.ensures.kept (apart_nowhere c.loop-k.desktop.pages)
+    c.loop-k.invariant.told
+
+pub step-requires-clause-told : goal.step-requires-clause-told
+step-requires-clause-told g c =
+    live_stays g.D.Disk c.loop-k.desktop c.read_event.ensures.kept (apart_nowhere c.loop-k.desktop.pages)
+    c.loop-k.invariant.told
+
 pub loop-k-preserved : goal.loop-k-preserved
 loop-k-preserved g c =
     let i = c.loop-k.invariant in
@@ -66,7 +77,7 @@ loop-k-preserved g c =
           (ap (λ x. x.0) (c.in_ok-step-in-Some.ensures.done (c.read_event.ensures.kept.still mid))
           ∙ ap (λ (r : Content). (step (shown r c.loop-k.desktop) c.in-Some.event).0) read);
       live = c.in_ok-step-in-Some.ensures.live;
-      told = c.step.ensures.told;
+      told = c.in_ok-step-in-Some.ensures.told;
       counted = c.step.ensures.counted ∙ i.counted;
     }
 

@@ -5,7 +5,7 @@ use Rattle.sector_disk.proofs.Touching.{still_all}
 use Rattle.store_layout.specs.Layout.{head_of, slot_head}
 use Rattle.store_layout.specs.Meaning.{full_sectors}
 use Rattle.desk_slots.proofs.Recording.{kept_then, unrecorded, read_only, read_then, kept_after, head_stays}
-use Rattle.desk_slots.proofs.Staying.{shown_stays, answer_stays, told_stays, apart_record}
+use Rattle.desk_slots.proofs.Staying.{shown_stays, answer_stays, live_stays, apart_record}
 use Rattle.desk_slots.proofs.records.record.Goals as goal
 
 pub returns-in_err-reply-clause-any_moment : goal.returns-in_err-reply-clause-any_moment
@@ -49,9 +49,9 @@ returns-clause-stepped g c = λ honest.
 pub returns-clause-told : goal.returns-clause-told
 returns-clause-told g c =
     let live = c.in_ok-reply.ensures.live in
-    told_stays g.D.Disk c.step.new.self.pages c.add_record.ensures.kept
+    live_stays g.D.Disk c.step.new.self c.add_record.ensures.kept
     (apart_record c.step.new.self.pages c.args.slot c.args.k live.based c.requires.two c.requires.index)
-    c.step.ensures.told
+    c.in_ok-reply.ensures.told
 
 pub returns-clause-named : goal.returns-clause-named
 returns-clause-named g c = λ honest named.

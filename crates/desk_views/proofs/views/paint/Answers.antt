@@ -8,7 +8,9 @@ use Rattle.desktop_laws.specs.SeenLaws.{within_counted}
 use Rattle.desk_core.specs.Kept.{kept}
 use Rattle.desk_views.specs.Views.{view_in, kept_view, AreThere}
 use Rattle.desk_core.proofs.ViewLemmas.{few}
-use Rattle.desk_views.proofs.Painted.{views, all_there, all_showable, painted_seen}
+use Rattle.desktop_definitions.specs.Seen.{seen}
+use Rattle.desktop_definitions.specs.Viewers.{text_of}
+use Rattle.desk_views.proofs.Painted.{views, all_there, all_showable, handed_numbered, painted_seen}
 use Rattle.desk_views.proofs.views.paint.Goals as goal
 
 pub views_of-requires : goal.views_of-requires
@@ -21,8 +23,8 @@ shown_of-requires g c =
     ∙ (λ k. map (view_in d.caret (c.deref-2.ensures.value k)) (c.deref.ensures.value k)) in
     subst (All (AreThere d.texts)) (sym same) (all_there d c.requires.whole)
 
-pub paint-requires : goal.paint-requires
-paint-requires g c =
+pub paint-requires-clause-showable : goal.paint-requires-clause-showable
+paint-requires-clause-showable g c =
     let d = kept c.args.desk.now in
     let characters = g.S.CharSource.characters c.args.source.now in
     let same : c.deref-3.result.now ≡ views d = c.deref-3.ensures.value ∙ c.in_ok-views.ensures
@@ -33,12 +35,38 @@ paint-requires g c =
     (c.in_ok-shown.ensures ∙ ap (map (kept_view d.texts)) same))
 
 pub returns-clause-shown : goal.returns-clause-shown
-returns-clause-shown g c = λ honest.
+returns-clause-shown g c = λ honest told.
     let d = kept c.args.desk.now in
     let characters = g.S.CharSource.characters c.args.source.now in
     let same : c.deref-3.result.now ≡ views d = c.deref-3.ensures.value ∙ c.in_ok-views.ensures
     ∙ (λ k. map (view_in d.caret (c.deref-2.ensures.value k)) (c.deref.ensures.value k)) in
-    c.in_ok-paint.ensures.painted honest
+    c.in_ok-paint.ensures.painted honest (text_of (seen characters d))
+    (handed_numbered characters d c.deref-3.result.now c.in_ok-shown.shown.items _ same c.deref-4.ensures.value
+    c.in_ok-shown.ensures)
+    (c.prepare.ensures.lines (text_of (seen characters d)) told)
     ∙ ap (λ (l : List Shown). screen_of (picture d.columns (map (as_read characters) l) d.marker))
     c.deref-4.ensures.value
-    ∙ painted_seen characters d c.in_ok-shown.shown.items (c.in_ok-shown.ensures ∙ ap (map (kept_view d.texts)) same)
+    ∙ painted_seen characters d c.in_ok-shown.shown.items
+    (c.in_ok-shown.ensures ∙ ap (map (kept_view d.texts)) same)
+
+pub returns-in_err-paint-clause-lines : goal.returns-in_err-paint-clause-lines
+returns-in_err-paint-clause-lines g c = λ honest told.
+    let d = kept c.args.desk.now in
+    let characters = g.S.CharSource.characters c.args.source.now in
+    let same : c.deref-3.result.now ≡ views d = c.deref-3.ensures.value ∙ c.in_ok-views.ensures
+    ∙ (λ k. map (view_in d.caret (c.deref-2.ensures.value k)) (c.deref.ensures.value k)) in
+    c.in_err-paint.ensures.lines honest (text_of (seen characters d))
+    (handed_numbered characters d c.deref-3.result.now c.in_ok-shown.shown.items _ same c.deref-4.ensures.value
+    c.in_ok-shown.ensures)
+    (c.prepare.ensures.lines (text_of (seen characters d)) told)
+
+pub returns-clause-lines : goal.returns-clause-lines
+returns-clause-lines g c = λ honest told.
+    let d = kept c.args.desk.now in
+    let characters = g.S.CharSource.characters c.args.source.now in
+    let same : c.deref-3.result.now ≡ views d = c.deref-3.ensures.value ∙ c.in_ok-views.ensures
+    ∙ (λ k. map (view_in d.caret (c.deref-2.ensures.value k)) (c.deref.ensures.value k)) in
+    c.in_ok-paint.ensures.lines honest (text_of (seen characters d))
+    (handed_numbered characters d c.deref-3.result.now c.in_ok-shown.shown.items _ same c.deref-4.ensures.value
+    c.in_ok-shown.ensures)
+    (c.prepare.ensures.lines (text_of (seen characters d)) told)

@@ -1,31 +1,69 @@
-use Rattle.std.proofs.Common.{List, ℕ, ap, ◌∙◌, map}
+use Rattle.std.proofs.Common.{◌<◌, List, ℕ, ap, sym, subst, ◌∙◌, length, map, arith}
+use Rattle.std.proofs.lemmas.List.Elements.{All-set}
 use Rattle.viewer_tracks.specs.declared.display.Track.TheVariants.{System}
 use Rattle.screen_pictures.specs.Picture.{track_cell}
+use Rattle.screen_cells.specs.Lines.{IsSlotOf}
 use Rattle.screen_cells.specs.Shown.{as_read}
 use Rattle.screen_cells.proofs.Painting.{strips_painted}
+use Rattle.screen_cells.proofs.Keeping.{all_numbered_still}
 use Rattle.screen_cells.proofs.Walking.{kept_still}
 use Rattle.screen_cells.proofs.screen.paint_row.Goals as goal
 
 pub track_strip-requires-2-clause-kept : goal.track_strip-requires-2-clause-kept
 track_strip-requires-2-clause-kept g c =
     let reads = c.in_ok-user.ensures.reads in
-    kept_still _ _ _ _ reads.already reads.same reads.as_long _ c.args.shown.now c.args.walks.now.system
+    kept_still _ _ _ _ reads.already reads.same reads.as_long c.args.shown.now c.args.walks.now.system
     c.requires.kept.system
 
 pub returns-clause-painted : goal.returns-clause-painted
-returns-clause-painted g c = λ h.
+returns-clause-painted g c = λ h texts numbered told.
     let columns = c.args.tracks.now in
-    let viewers = map (as_read (g.S.CharSource.characters c.args.source.now)) c.args.shown.now in
+    let shown = c.args.shown.now in
+    let lines = c.args.lines.now in
+    let reads = c.in_ok-user.ensures.reads in
+    let at = c.from-at.result in
+    let low : at < length lines.user.items = omega (arith, c.from-at.ensures, c.requires.row, c.requires.ready.user) in
+    let low2 : at < length lines.system.items =
+    omega (arith, c.from-at.ensures, c.requires.row, c.requires.ready.system) in
+    let slot : IsSlotOf texts c.index_mut.result.now =
+    subst (IsSlotOf texts) (sym c.index_mut.ensures.value) (told.user at c.index_mut.result.now low) in
+    let slot2 : IsSlotOf texts c.index_mut-2.result.now =
+    subst (IsSlotOf texts) (sym c.index_mut-2.ensures.value) (told.system at c.index_mut-2.result.now low2) in
     c.put_strips.ensures
-    ∙ strips_painted columns viewers c.args.marker c.args.y c.in_ok-user.user c.in_ok-system.system
-    (c.in_ok-user.ensures.strip h)
-    (λ column. c.in_ok-system.ensures.strip (c.track_strip.ensures.reads.still h) column
-    ∙ ap (λ (read : List ℕ). track_cell columns (map (as_read read) c.args.shown.now) System column c.args.y)
-    (c.track_strip.ensures.reads.same h))
+    ∙ strips_painted columns (map (as_read (g.S.CharSource.characters c.args.source.now)) shown) c.args.marker
+    c.args.y c.in_ok-user.user c.in_ok-system.system
+    (c.in_ok-user.ensures.strip h texts numbered slot told.caret)
+    (λ column. c.in_ok-system.ensures.strip (reads.still h) texts
+    (all_numbered_still texts _ _ shown (reads.same h) numbered) slot2
+    (c.in_ok-user.ensures.caret h texts numbered told.caret) column
+    ∙ ap (λ (read : List ℕ). track_cell columns (map (as_read read) shown) System column c.args.y) (reads.same h))
+
+pub returns-clause-lines : goal.returns-clause-lines
+returns-clause-lines g c = λ h texts numbered told.
+    let shown = c.args.shown.now in
+    let lines = c.args.lines.now in
+    let reads = c.in_ok-user.ensures.reads in
+    let at = c.from-at.result in
+    let low : at < length lines.user.items = omega (arith, c.from-at.ensures, c.requires.row, c.requires.ready.user) in
+    let low2 : at < length lines.system.items =
+    omega (arith, c.from-at.ensures, c.requires.row, c.requires.ready.system) in
+    let slot : IsSlotOf texts c.index_mut.result.now =
+    subst (IsSlotOf texts) (sym c.index_mut.ensures.value) (told.user at c.index_mut.result.now low) in
+    let slot2 : IsSlotOf texts c.index_mut-2.result.now =
+    subst (IsSlotOf texts) (sym c.index_mut-2.ensures.value) (told.system at c.index_mut-2.result.now low2) in
+    let later = all_numbered_still texts _ _ shown (reads.same h) numbered in
+    record {
+      user = All-set (IsSlotOf texts) lines.user.items at c.track_strip.new.slot
+          (c.in_ok-user.ensures.slot h texts numbered slot) told.user;
+      system = All-set (IsSlotOf texts) lines.system.items at c.track_strip-2.new.slot
+          (c.in_ok-system.ensures.slot (reads.still h) texts later slot2) told.system;
+      caret = c.in_ok-system.ensures.caret (reads.still h) texts later
+          (c.in_ok-user.ensures.caret h texts numbered told.caret);
+    }
 
 pub returns-clause-kept : goal.returns-clause-kept
 returns-clause-kept g c =
     let reads = c.in_ok-system.ensures.reads in record {
-      user = kept_still _ _ _ _ reads.already reads.same reads.as_long _ c.args.shown.now _ c.in_ok-user.ensures.kept;
+      user = kept_still _ _ _ _ reads.already reads.same reads.as_long c.args.shown.now _ c.in_ok-user.ensures.kept;
       system = c.in_ok-system.ensures.kept;
     }

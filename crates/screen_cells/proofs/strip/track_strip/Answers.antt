@@ -1,22 +1,23 @@
 use Rattle.std.proofs.Common.{ap, sym, ◌∙◌, ◌==◌, map, rules}
 use Rattle.std.proofs.lemmas.Result.{IfOk-weaker}
 use Rattle.screen_pictures.specs.Picture.{Viewer, seen_cell, shown_cell, viewer_cell}
+use Rattle.screen_cells.specs.Lines.{IsNumbered}
 use Rattle.screen_cells.specs.Shown.{as_read}
-use Rattle.screen_cells.proofs.Strips.{found_first, found_none}
+use Rattle.screen_cells.proofs.Strips.{found_first, found_none, all_got}
 use Rattle.screen_cells.proofs.Walking.{kept_still}
 use Rattle.screen_cells.proofs.strip.track_strip.Goals as goal
 
 pub returns-in_default-clause-kept : goal.returns-in_default-clause-kept
 returns-in_default-clause-kept g c =
     let reads = c.filler_strip.ensures.reads in
-    let still = kept_still _ _ _ _ reads.already reads.same reads.as_long _ c.args.shown.now c.args.kept.now
+    let still = kept_still _ _ _ _ reads.already reads.same reads.as_long c.args.shown.now c.args.kept.now
     c.requires.kept in
     search rules
 
 pub returns-then-index-shown-clause-kept : goal.returns-then-index-shown-clause-kept
 returns-then-index-shown-clause-kept g c =
     let reads = c.filler_strip-then-index-shown.ensures.reads in
-    let still = kept_still _ _ _ _ reads.already reads.same reads.as_long _ c.args.shown.now c.args.kept.now
+    let still = kept_still _ _ _ _ reads.already reads.same reads.as_long c.args.shown.now c.args.kept.now
     c.requires.kept in
     search rules
 
@@ -25,7 +26,8 @@ returns-then-index-shown-clause-strip g c =
     let columns = c.args.tracks.now in
     let viewers = map (as_read (g.S.CharSource.characters c.args.source.now)) c.args.shown.now in
     let id = c.in-Some.viewer.0 in
-    IfOk-weaker c.filler_strip-then-index-shown.result _ _ (λ strip fact h column. fact column ∙ sym (
+    IfOk-weaker c.filler_strip-then-index-shown.result _ _ (λ strip fact h texts numbered line_told caret_told column.
+    fact column ∙ sym (
     ap (seen_cell columns viewers c.args.track column c.args.y) (sym c.in-Some.ensures.seen)
     ∙ ap (shown_cell columns c.args.track id column c.args.y)
     (found_none (λ (v : Viewer). v.id == id) (as_read (g.S.CharSource.characters c.args.source.now))
@@ -33,16 +35,46 @@ returns-then-index-shown-clause-strip g c =
     c.filler_strip-then-index-shown.ensures.strip
 
 pub returns-clause-strip : goal.returns-clause-strip
-returns-clause-strip g c = λ h column.
+returns-clause-strip g c = λ h texts numbered line_told caret_told column.
     let columns = c.args.tracks.now in
     let characters = g.S.CharSource.characters c.args.source.now in
     let viewers = map (as_read characters) c.args.shown.now in
-    let id = c.in-Some.viewer.0 in let walk = c.in_ok-walk.walk in let reads = c.in_ok-walk.ensures.reads in
-    c.in_ok-strip.ensures.strip (reads.still h) column
-    ∙ (λ i. viewer_cell (as_read (reads.same h i) walk.shown) (c.width-width.ensures.value i)
+    let id = c.in-Some.viewer.0 in let walk = c.walk_of-walk.result in
+    c.in_ok-strip.ensures.strip h texts
+    (all_got (IsNumbered texts characters) c.args.shown.now walk.index walk.shown c.walk_of-walk.ensures.walk.there numbered)
+    line_told caret_told column
+    ∙ (λ i. viewer_cell (as_read characters walk.shown) (c.width.ensures.value i)
     (c.place_of-place.ensures.bottom i) (c.place_of-place.ensures.top i) column c.args.y)
     ∙ sym (
     ap (seen_cell columns viewers c.args.track column c.args.y) (sym c.in-Some.ensures.seen)
     ∙ ap (shown_cell columns c.args.track id column c.args.y)
     (found_first (λ (v : Viewer). v.id == id) (as_read characters) c.args.shown.now walk.index walk.shown
-    (c.in_ok-walk.ensures.index ∙ c.index_of-index.ensures) c.in_ok-walk.ensures.walk.there))
+    (c.walk_of-walk.ensures.index ∙ c.index_of-index.ensures) c.walk_of-walk.ensures.walk.there))
+
+pub returns-in_err-strip-clause-slot : goal.returns-in_err-strip-clause-slot
+returns-in_err-strip-clause-slot g c = λ h texts numbered told.
+    let walk = c.walk_of-walk.result in
+    c.in_err-strip.ensures.slot h texts
+    (all_got (IsNumbered texts (g.S.CharSource.characters c.args.source.now)) c.args.shown.now walk.index walk.shown
+    c.walk_of-walk.ensures.walk.there numbered) told
+
+pub returns-clause-slot : goal.returns-clause-slot
+returns-clause-slot g c = λ h texts numbered told.
+    let walk = c.walk_of-walk.result in
+    c.in_ok-strip.ensures.slot h texts
+    (all_got (IsNumbered texts (g.S.CharSource.characters c.args.source.now)) c.args.shown.now walk.index walk.shown
+    c.walk_of-walk.ensures.walk.there numbered) told
+
+pub returns-in_err-strip-clause-caret : goal.returns-in_err-strip-clause-caret
+returns-in_err-strip-clause-caret g c = λ h texts numbered told.
+    let walk = c.walk_of-walk.result in
+    c.in_err-strip.ensures.caret h texts
+    (all_got (IsNumbered texts (g.S.CharSource.characters c.args.source.now)) c.args.shown.now walk.index walk.shown
+    c.walk_of-walk.ensures.walk.there numbered) told
+
+pub returns-clause-caret : goal.returns-clause-caret
+returns-clause-caret g c = λ h texts numbered told.
+    let walk = c.walk_of-walk.result in
+    c.in_ok-strip.ensures.caret h texts
+    (all_got (IsNumbered texts (g.S.CharSource.characters c.args.source.now)) c.args.shown.now walk.index walk.shown
+    c.walk_of-walk.ensures.walk.there numbered) told

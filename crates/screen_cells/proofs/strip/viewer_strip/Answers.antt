@@ -1,24 +1,37 @@
-use Rattle.std.proofs.Common.{ap, ◌∙◌, refl, ◌-◌, ◌+◌, ◌<◌, rules}
+use Rattle.std.proofs.Common.{ap, ◌∙◌, refl, List, ℕ, ◌-◌, ◌+◌, ◌<◌, rules}
+use Rattle.text_frames.specs.Row.{row_cells}
 use Rattle.screen_pictures.specs.Picture.{caret_at}
 use Rattle.screen_cells.specs.Shown.{as_read}
 use Rattle.screen_cells.proofs.Strips.{frame_shown}
+use Rattle.screen_cells.proofs.Keeping.{numbered_still}
 use Rattle.screen_cells.proofs.Walking.{walk_still}
 use Rattle.screen_cells.proofs.strip.viewer_strip.Goals as goal
 
 pub returns-then-y-top-clause-walk : goal.returns-then-y-top-clause-walk
 returns-then-y-top-clause-walk g c =
     let reads = c.menu_strip.ensures.reads in
-    let still = walk_still _ _ _ _ reads.already reads.same reads.as_long (c.args.width - 1) _ c.requires.walk in
+    let still = walk_still _ _ _ _ reads.already reads.same reads.as_long _ c.requires.walk in
     search rules
 
+pub frame_cells-requires-clause-walk : goal.frame_cells-requires-clause-walk
+frame_cells-requires-clause-walk g c =
+    let reads = c.in_ok-cell.ensures.reads in
+    walk_still _ _ _ _ reads.already reads.same reads.as_long _ c.requires.walk
+
 pub returns-clause-strip : goal.returns-clause-strip
-returns-clause-strip g c = λ h column.
+returns-clause-strip g c = λ h texts numbered line_told caret_told column.
     let walk = c.args.walk.now in
     let characters = g.S.CharSource.characters c.args.source.now in
+    let reads = c.in_ok-cell.ensures.reads in
     let under : c.args.y + 1 < c.args.top = search rules in
     frame_shown (as_read characters walk.shown) c.args.width c.args.bottom c.args.top c.args.y column
-    (c.args.top - 2 - c.args.y) c.in_ok-line.line.items walk.caret walk.shown.frame.now.selection
-    under refl (c.in_ok-line.ensures.cells.exact h)
-    (c.requires.walk.caret h ∙ ap (λ rows. caret_at (c.args.width - 1) rows (as_read characters walk.shown).main
+    (c.args.top - 2 - c.args.y) c.in_ok-line.line.items c.in_ok-cell.cell walk.shown.frame.now.selection
+    under refl
+    (c.in_ok-line.ensures.cells (reads.still h) texts (numbered_still texts _ _ walk.shown (reads.same h) numbered)
+    line_told
+    ∙ ap (λ (read : List ℕ). row_cells (c.args.width - 1) (as_read read walk.shown).main walk.shown.frame.now.org
+    (c.args.top - 2 - c.args.y)) (reads.same h))
+    (c.in_ok-cell.ensures.cell h texts numbered caret_told
+    ∙ ap (λ rows. caret_at (c.args.width - 1) rows (as_read characters walk.shown).main
     walk.shown.frame.now.org walk.shown.frame.now.caret) c.requires.rows)
     refl

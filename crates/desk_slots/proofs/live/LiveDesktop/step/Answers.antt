@@ -1,0 +1,19 @@
+use Rattle.std.proofs.Common.{ap, sym, subst}
+use Rattle.sector_disk.specs.Trail.{now}
+use Rattle.desktop_definitions.specs.Desktop.{Desktop}
+use Rattle.desktop_definitions.specs.Viewers.{text_of}
+use Rattle.screen_cells.specs.Lines.{AreLinesOf}
+use Rattle.desk_slots.specs.Live.{characters_of}
+use Rattle.desk_slots.proofs.live.LiveDesktop.step.Goals as goal
+
+pub returns-clause-told : goal.returns-clause-told
+returns-clause-told g c = record {
+  pages = c.step_over.ensures.told;
+  lines = λ honest.
+      let before = c.step_over.ensures.disk.already honest in
+      let content = (now (g.D.Disk.trail c.args.disk.now)).reads in
+      subst (λ (d : Desktop). AreLinesOf (text_of d) c.forget_stale.new.lines)
+      (sym (ap (λ x. x.0) (c.in_ok-step_over.ensures.done before)))
+      (c.forget_stale.ensures (characters_of content c.args.self.now) (c.requires.live.over content)
+      (c.requires.told.lines before));
+}

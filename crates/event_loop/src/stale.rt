@@ -1,0 +1,173 @@
+//! Which texts an event may change, and lines that are given up for it.
+ghost use Rattle.std.specs.Prelude.{◌≡◌, ◌&&◌, ℕ, List, Option, false, if◌then◌else◌};
+ghost use Rattle.piece_ring.specs.Text.{Text as AText};
+ghost use Rattle.desktop_definitions.specs.declared.area.Area.TheVariants.{Filler, Menu, Body};
+ghost use Rattle.desktop_definitions.specs.declared.viewer.Viewer.{Viewer as AViewer};
+ghost use Rattle.desktop_definitions.specs.declared.viewer.Caret.{Caret as ACaret};
+ghost use Rattle.desktop_definitions.specs.declared.viewer.Selection.{Selection as ASelection};
+ghost use Rattle.desktop_definitions.specs.Viewers.{newest};
+ghost use Rattle.desktop_definitions.specs.Gesture.{is_on_display, area_at};
+ghost use Rattle.stale_texts.specs.declared.stale.Stale.TheVariants.{Nothing};
+ghost use Rattle.stale_texts.specs.Stale.{is_stale, stale_in, stale_at_caret, stale_selected, stale_by_key};
+ghost use Rattle.stale_texts.specs.Stale.{stale_by_gesture, stale_of};
+ghost use Rattle.screen_cells.specs.Lines.{AreLinesOf};
+ghost use Rattle.desk_core.specs.Kept.{kept};
+
+use desk_core::desk::Desk;
+use desk_core::marks::are_on_display;
+use desk_core::viewers::{Viewers, viewer_or_none};
+use desk_input::places::area_at;
+use desktop_definitions::{Area, Caret, Selection};
+use event_bytes::{Event, Key, Keys};
+use screen_cells::KeptLines;
+use stale_texts::Stale;
+
+/// Which texts the event may change.
+pub fn stale_of(desk: &Desk, event: &Event) -> Stale
+    ensures { result ≡ stale_of (kept desk.now) event.now }
+{
+    match event {
+        Event::Typed(_) => stale_at_caret(&desk.viewers, desk.caret),
+        Event::Key(key) => stale_by_key(&desk.viewers, desk.caret, desk.newest(), *key),
+        Event::Mark { x: _, y: _ } => Stale::Nothing,
+        Event::Point {
+            keys,
+            x0,
+            y0,
+            x1,
+            y1,
+        } => stale_by_point(desk, *keys, (*x0, *y0), (*x1, *y1)),
+        Event::File { name: _, bytes: _ } => Stale::Nothing,
+    }
+}
+
+/// Which texts the mouse may change, whose keys went down at the cell `from` and up at `to`.
+fn stale_by_point(desk: &Desk, keys: Keys, from: (u8, u8), to: (u8, u8)) -> Stale
+    ensures { result ≡ (if is_on_display from.0 from.1 && is_on_display to.0 to.1
+        then stale_by_gesture (kept desk.now).viewers (kept desk.now).caret (newest (kept desk.now))
+        (area_at (kept desk.now) from.0 from.1) keys else Nothing) }
+{
+    if !are_on_display(from, to) {
+        return Stale::Nothing;
+    }
+    let area = area_at(desk, from.0, from.1);
+    stale_by_gesture(&desk.viewers, desk.caret, desk.newest(), area, keys)
+}
+
+/// Which texts a key of the keyboard may change.
+#[tactic(auto, unfolding(stale_texts::specs::Stale::stale_by_key))]
+fn stale_by_key(
+    viewers: &Viewers,
+    caret: Option<Caret>,
+    newest: Option<Selection>,
+    key: Key,
+) -> Stale
+    ensures { result ≡ stale_by_key viewers.now.items caret newest key }
+{
+    match key {
+        Key::Back | Key::Paste => stale_at_caret(viewers, caret),
+        Key::Cut => stale_selected(viewers, newest),
+        Key::Copy | Key::Escape => Stale::Nothing,
+    }
+}
+
+/// Which texts the keys of the mouse may change in an area.
+fn stale_by_gesture(
+    viewers: &Viewers,
+    caret: Option<Caret>,
+    newest: Option<Selection>,
+    area: Area,
+    keys: Keys,
+) -> Stale
+    ensures { result ≡ stale_by_gesture viewers.now.items caret newest area keys }
+{
+    match area {
+        Area::Filler => stale_in_filler(keys),
+        Area::Menu(_) => stale_in_menu(keys),
+        Area::Bar(_) => Stale::Nothing,
+        Area::Body(id) => stale_in_text(viewers, caret, newest, id, keys),
+    }
+}
+
+/// Which texts the keys of the mouse may change in a filler.
+#[tactic(auto, unfolding(stale_texts::specs::Stale::stale_by_gesture))]
+fn stale_in_filler(keys: Keys) -> Stale
+    ensures { (viewers : List (ℕ × AViewer)) (caret : Option ACaret) (newest : Option ASelection)
+        → result ≡ stale_by_gesture viewers caret newest Filler keys }
+{
+    match keys {
+        Keys::Middle => Stale::All,
+        _ => Stale::Nothing,
+    }
+}
+
+/// Which texts the keys of the mouse may change in the menu of a viewer.
+#[tactic(auto, unfolding(stale_texts::specs::Stale::stale_by_gesture))]
+fn stale_in_menu(keys: Keys) -> Stale
+    ensures { (viewers : List (ℕ × AViewer)) (caret : Option ACaret) (newest : Option ASelection) (v : ℕ)
+        → result ≡ stale_by_gesture viewers caret newest (Menu v) keys }
+{
+    match keys {
+        Keys::LeftMiddle | Keys::Middle => Stale::All,
+        _ => Stale::Nothing,
+    }
+}
+
+/// Which texts the keys of the mouse may change in the main text of a viewer.
+#[tactic(auto, unfolding(stale_texts::specs::Stale::stale_by_gesture))]
+fn stale_in_text(
+    viewers: &Viewers,
+    caret: Option<Caret>,
+    newest: Option<Selection>,
+    id: u8,
+    keys: Keys,
+) -> Stale
+    ensures { result ≡ stale_by_gesture viewers.now.items caret newest (Body id) keys }
+{
+    match keys {
+        Keys::Middle => Stale::All,
+        Keys::LeftMiddle | Keys::RightLeft => stale_in(viewers, id),
+        Keys::LeftRight => stale_selected(viewers, newest),
+        Keys::RightMiddle => stale_at_caret(viewers, caret),
+        _ => Stale::Nothing,
+    }
+}
+
+/// The main text of a viewer.
+fn stale_in(viewers: &Viewers, id: u8) -> Stale
+    ensures { result ≡ stale_in viewers.now.items id }
+{
+    Stale::Text(viewer_or_none(viewers, id).main)
+}
+
+/// The text in which the caret stands.
+fn stale_at_caret(viewers: &Viewers, caret: Option<Caret>) -> Stale
+    ensures { result ≡ stale_at_caret viewers.now.items caret }
+{
+    match caret {
+        None => Stale::Nothing,
+        Some(caret) => stale_in(viewers, caret.viewer),
+    }
+}
+
+/// The text of a selection.
+fn stale_selected(viewers: &Viewers, selection: Option<Selection>) -> Stale
+    ensures { result ≡ stale_selected viewers.now.items selection }
+{
+    match selection {
+        None => Stale::Nothing,
+        Some(selection) => stale_in(viewers, selection.viewer),
+    }
+}
+
+/// Gives up the lines of these texts. Those that are left are so of all texts of which the others are as before.
+pub fn forget(lines: &mut KeptLines, stale: Stale)
+    ensures { (before after : ℕ → AText ℕ) → ((n : ℕ) → is_stale stale n ≡ false → after n ≡ before n)
+        → AreLinesOf before lines.old → AreLinesOf after lines.new }
+{
+    match stale {
+        Stale::Nothing => (),
+        Stale::Text(number) => lines.forget_text(number),
+        Stale::All => lines.forget_all(),
+    }
+}

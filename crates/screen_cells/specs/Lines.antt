@@ -1,0 +1,55 @@
+-- Lines that are kept from one screen to the next, and what is true of them. Texts go by number: `texts` tells the text
+-- of each number.
+use Rattle.std.specs.Prelude.{◌≡◌, ◌≤◌, ℕ, List, length, Option, None, Some, IfSome}
+use Rattle.std.specs.List.{All}
+use Rattle.piece_ring.specs.Text.{Text}
+use Rattle.piece_ring.specs.Flat.{flat}
+use Rattle.readers_scanners.specs.Reading.{contents}
+use Rattle.text_frames.specs.Row.{row_cells}
+use Rattle.screen_pictures.specs.Picture.{caret_at}
+use Rattle.viewer_tracks.specs.declared.display.TheConstants.{ROWS}
+use Rattle.screen_cells.specs.declared.shown.Shown.{Shown}
+use Rattle.screen_cells.specs.declared.lines.LineKey.{LineKey}
+use Rattle.screen_cells.specs.declared.lines.KeptLine.{KeptLine}
+use Rattle.screen_cells.specs.declared.lines.CaretKey.{CaretKey}
+use Rattle.screen_cells.specs.declared.lines.KeptCaret.{KeptCaret}
+use Rattle.screen_cells.specs.declared.lines.KeptLines.{KeptLines}
+
+-- ---- truth
+
+-- its cells are those of its row
+abbrev pub IsLineOf : (ℕ → Text ℕ) → KeptLine → Type 0
+IsLineOf texts line = line.cells.items ≡ row_cells line.key.width (texts line.key.text) line.key.org line.key.row
+
+abbrev pub IsSlotOf : (ℕ → Text ℕ) → Option KeptLine → Type 0
+IsSlotOf texts slot = IfSome slot (IsLineOf texts)
+
+-- its cell is where the caret stands
+abbrev pub IsCaretOf : (ℕ → Text ℕ) → KeptCaret → Type 0
+IsCaretOf texts c = c.cell ≡ caret_at c.key.width c.key.rows (texts c.key.text) c.key.org (Some c.key.position)
+
+-- all that is kept is so
+pub record AreLinesOf (texts : ℕ → Text ℕ) (lines : KeptLines) : Type 0 where
+  pub user : All (IsSlotOf texts) lines.user.items
+  pub system : All (IsSlotOf texts) lines.system.items
+  pub caret : IfSome lines.caret (IsCaretOf texts)
+
+-- the texts of a viewer are those of the numbers that it names
+pub record IsNumbered (texts : ℕ → Text ℕ) (characters : List ℕ) (s : Shown) : Type 0 where
+  pub menu : texts s.menu_text ≡ contents characters (flat s.menu.now)
+  pub main : texts s.frame.now.text ≡ contents characters (flat s.main.now)
+
+-- ---- what is kept
+
+abbrev pub HasLine : LineKey → Option KeptLine → Type 0
+HasLine key None = ⊥
+HasLine key (Some line) = line.key ≡ key
+
+abbrev pub HasCaret : CaretKey → Option KeptCaret → Type 0
+HasCaret key None = ⊥
+HasCaret key (Some caret) = caret.key ≡ key
+
+-- there is a place for a line of each row of the display
+pub record AreReady (lines : KeptLines) : Type 0 where
+  pub user : ROWS ≤ length lines.user.items
+  pub system : ROWS ≤ length lines.system.items

@@ -1,0 +1,343 @@
+//! Lines that are kept from one screen to the next.
+ghost use Rattle.std.specs.Prelude.{◌≡◌, ◌==◌, ◌≤◌, ◌<◌, ℕ, List, length, All, Some, IfOk, IfSome, IfNone, OnOk, IsOk};
+ghost use Rattle.piece_ring.specs.Flat.{flat};
+ghost use Rattle.piece_ring.specs.Text.{Text as AText};
+ghost use Rattle.readers_scanners.specs.Words.{CountsFault, OnlyReads};
+ghost use Rattle.text_frames.specs.Row.{row_cells};
+ghost use Rattle.screen_pictures.specs.Picture.{caret_at};
+ghost use Rattle.screen_cells.specs.Shown.{IsShowable, as_read};
+ghost use Rattle.screen_cells.specs.Lines.{IsSlotOf, IsCaretOf, AreLinesOf, IsNumbered, HasLine, HasCaret, AreReady};
+ghost use Rattle.screen_cells.specs.Walks.{IsWalk};
+
+use crate::shown::Shown;
+use crate::strip::Line;
+use crate::walk::Walk;
+use std::alloc::{AllocError, Global};
+use std::vec::Vec;
+use text_frames::{CharSource, Fault, Frame};
+use viewer_tracks::ROWS;
+
+/// Which line it is: of the text of that number, in that row of a frame of so many columns that shows the text from
+/// `org` on.
+#[derive(Clone, Copy, Debug, PartialEq, Eq)]
+pub(crate) struct LineKey {
+    pub(crate) text: u16,
+    pub(crate) org: u32,
+    pub(crate) width: u8,
+    pub(crate) row: u8,
+}
+
+/// A line with its filled cells.
+#[derive(Drop)]
+pub(crate) struct KeptLine {
+    pub(crate) key: LineKey,
+    pub(crate) cells: Line,
+}
+
+/// Which caret it is: before that position of the text of that number, in a frame of so many columns and rows that
+/// shows the text from `org` on.
+#[derive(Clone, Copy, Debug, PartialEq, Eq)]
+pub(crate) struct CaretKey {
+    pub(crate) text: u16,
+    pub(crate) org: u32,
+    pub(crate) width: u8,
+    pub(crate) rows: u8,
+    pub(crate) position: u32,
+}
+
+/// A caret with its cell. None: it isn't shown.
+#[derive(Clone, Copy, Debug, PartialEq, Eq)]
+pub(crate) struct KeptCaret {
+    pub(crate) key: CaretKey,
+    pub(crate) cell: Option<(u8, u8)>,
+}
+
+/// The place of a kept line.
+pub(crate) type Slot = Option<KeptLine>;
+
+/// The lines that were painted last in the rows of both tracks, and where the caret stood, so that a row whose line is
+/// kept is painted without reading. Marker, selections and caret aren't in them. They hold no text: whoever changes
+/// texts says so by `forget_text` and `forget_all`.
+#[derive(Drop)]
+pub struct KeptLines {
+    pub(crate) user: Vec<Slot>,
+    pub(crate) system: Vec<Slot>,
+    pub(crate) caret: Option<KeptCaret>,
+}
+
+impl KeptLines {
+    /// No lines. It takes no memory.
+    pub fn new(alloc: Global) -> KeptLines
+        ensures { (texts : ℕ → AText ℕ) → AreLinesOf texts result }
+    {
+        KeptLines {
+            user: Vec::new(alloc),
+            system: Vec::new(alloc),
+            caret: None,
+        }
+    }
+
+    /// Makes a place for a line of each row, where there is none yet. NoMemory where an allocation is refused.
+    pub fn prepare(&mut self) -> Result<(), AllocError>
+        ensures ready { OnOk result (AreReady self.new) }
+        ensures lines { (texts : ℕ → AText ℕ) → AreLinesOf texts self.old → AreLinesOf texts self.new }
+    {
+        fill(&mut self.user)?;
+        fill(&mut self.system)?;
+        Ok(())
+    }
+
+    /// Gives up all lines.
+    pub fn forget_all(&mut self)
+        ensures { (texts : ℕ → AText ℕ) → AreLinesOf texts self.new }
+    {
+        self.user.clear();
+        self.system.clear();
+        self.caret = None;
+    }
+
+    /// Gives up the lines of the text of that number. What is left is so of all texts that are as before but for it.
+    pub fn forget_text(&mut self, number: u16)
+        ensures { (before after : ℕ → AText ℕ) → ((n : ℕ) → ¬ (n ≡ number) → after n ≡ before n)
+            → AreLinesOf before self.old → AreLinesOf after self.new }
+    {
+        forget_in(&mut self.user, number);
+        forget_in(&mut self.system, number);
+        forget_caret(&mut self.caret, number);
+    }
+}
+
+/// Makes a place for a line of each row.
+fn fill(slots: &mut Vec<Slot>) -> Result<(), AllocError>
+    ensures ready { OnOk result (ROWS ≤ length slots.new.items) }
+    ensures lines { (texts : ℕ → AText ℕ) → All (IsSlotOf texts) slots.old.items → All (IsSlotOf texts) slots.new.items }
+{
+    while slots.len() < ROWS as usize {
+        slots.push(None)?;
+    }
+    Ok(())
+}
+
+/// Gives up the lines of a text.
+fn forget_in(slots: &mut Vec<Slot>, number: u16)
+    ensures { (before after : ℕ → AText ℕ) → ((n : ℕ) → ¬ (n ≡ number) → after n ≡ before n)
+        → All (IsSlotOf before) slots.old.items → All (IsSlotOf after) slots.new.items }
+{
+    for at in 0..slots.len() {
+        forget_slot(&mut slots[at], number);
+    }
+}
+
+/// Gives up a line, where it is one of that text.
+fn forget_slot(slot: &mut Slot, number: u16)
+    ensures { (before after : ℕ → AText ℕ) → ((n : ℕ) → ¬ (n ≡ number) → after n ≡ before n)
+        → IsSlotOf before slot.old → IsSlotOf after slot.new }
+{
+    if is_of(slot, number) {
+        *slot = None;
+    }
+}
+
+/// Whether a line is kept of that text.
+fn is_of(slot: &Slot, number: u16) -> bool
+    ensures { IfSome slot.now (λ line. result ≡ (line.key.text == number)) }
+{
+    match slot {
+        None => false,
+        Some(line) => line.key.text == number,
+    }
+}
+
+/// Gives up the caret, where it is one of that text.
+fn forget_caret(caret: &mut Option<KeptCaret>, number: u16)
+    ensures { (before after : ℕ → AText ℕ) → ((n : ℕ) → ¬ (n ≡ number) → after n ≡ before n)
+        → IfSome caret.old (IsCaretOf before) → IfSome caret.new (IsCaretOf after) }
+{
+    let Some(kept) = *caret else {
+        return;
+    };
+    if kept.key.text == number {
+        *caret = None;
+    }
+}
+
+/// The same cells.
+fn copy_of(cells: &Line) -> Line
+    ensures { result.items ≡ cells.now.items }
+{
+    let mut copy = Line::new();
+    copy.try_extend_from_slice(cells.as_slice()).unwrap();
+    copy
+}
+
+/// The cells of the line that is kept, where it is the one of that key.
+fn cells_of(slot: &Slot, key: LineKey) -> Option<Line>
+    ensures none { IfNone result (¬ HasLine key slot.now) }
+    ensures some { IfSome result (λ cells. HasLine key slot.now) }
+    ensures cells { IfSome result (λ cells. IfSome slot.now (λ line. cells.items ≡ line.cells.items)) }
+{
+    match slot {
+        Some(line) if line.key == key => Some(copy_of(&line.cells)),
+        _ => None,
+    }
+}
+
+/// The cells of the first line of a viewer's menu of that width, from its line that is kept; else they are read and
+/// kept. `Fault`: the source failed in this call.
+pub(crate) fn menu_cells<S: CharSource>(
+    shown: &Shown<'_>,
+    width: u8,
+    slot: &mut Slot,
+    source: &mut S,
+) -> Result<Line, Fault>
+    requires fits { width ≤ 50 }
+    requires showable { IsShowable (length (S.characters source.old)) shown.now }
+    ensures cells { IfOk result (λ cells. S.honest source.old → (texts : ℕ → AText ℕ)
+        → IsNumbered texts (S.characters source.old) shown.now → IsSlotOf texts slot.old
+        → cells.items ≡ row_cells width (as_read (S.characters source.old) shown.now).menu 0 0) }
+    ensures slot { S.honest source.old → (texts : ℕ → AText ℕ)
+        → IsNumbered texts (S.characters source.old) shown.now → IsSlotOf texts slot.old → IsSlotOf texts slot.new }
+    ensures reads { OnlyReads S.characters S.failures S.honest S.same_ground source.old source.new }
+    ensures cause { CountsFault result (S.failures source.old) (S.failures source.new) }
+{
+    let key = LineKey {
+        text: shown.menu_text,
+        org: 0,
+        width,
+        row: 0,
+    };
+    if let Some(cells) = cells_of(slot, key) {
+        return Ok(cells);
+    }
+    let frame = Frame {
+        text: 0,
+        org: 0,
+        caret: None,
+        selection: None,
+    };
+    let cells = frame.line(shown.menu, width, 1, 0, source)?;
+    *slot = Some(KeptLine {
+        key,
+        cells: copy_of(&cells),
+    });
+    Ok(cells)
+}
+
+/// The cells of a row of a viewer's main frame of `w` columns, from its line that is kept; else they are read and kept.
+/// `Fault`: the source failed in this call.
+pub(crate) fn frame_cells<S: CharSource>(
+    walk: &mut Walk<'_>,
+    w: u8,
+    row: u8,
+    slot: &mut Slot,
+    source: &mut S,
+) -> Result<Line, Fault>
+    requires columns { w ≤ 50 }
+    requires rows { walk.old.h ≤ 31 }
+    requires row { row < walk.old.h }
+    requires walk { IsWalk (S.honest source.old) (S.characters source.old) walk.old }
+    ensures cells { IfOk result (λ cells. S.honest source.old → (texts : ℕ → AText ℕ)
+        → IsNumbered texts (S.characters source.old) walk.old.shown → IsSlotOf texts slot.old
+        → let v = as_read (S.characters source.old) walk.old.shown in
+        cells.items ≡ row_cells w v.main v.frame.org row) }
+    ensures slot { S.honest source.old → (texts : ℕ → AText ℕ)
+        → IsNumbered texts (S.characters source.old) walk.old.shown → IsSlotOf texts slot.old
+        → IsSlotOf texts slot.new }
+    ensures walk { OnOk result (IsWalk (S.honest source.new) (S.characters source.new) walk.new) }
+    ensures viewer { walk.new.shown ≡ walk.old.shown }
+    ensures index { walk.new.index ≡ walk.old.index }
+    ensures reads { OnlyReads S.characters S.failures S.honest S.same_ground source.old source.new }
+    ensures cause { CountsFault result (S.failures source.old) (S.failures source.new) }
+{
+    let frame = walk.shown.frame;
+    let key = LineKey {
+        text: frame.text,
+        org: frame.org,
+        width: w,
+        row,
+    };
+    if let Some(cells) = cells_of(slot, key) {
+        return Ok(cells);
+    }
+    let cells = frame.read_line(walk.shown.main, w, walk.h, row, &mut walk.rows, source)?;
+    *slot = Some(KeptLine {
+        key,
+        cells: copy_of(&cells),
+    });
+    Ok(cells)
+}
+
+/// The caret that is kept, where it is the one of that key.
+fn caret_kept(caret: Option<KeptCaret>, key: CaretKey) -> Option<KeptCaret>
+    ensures some { IfSome result (λ found. (caret ≡ Some found) × (found.key ≡ key)) }
+    ensures none { IfNone result (¬ HasCaret key caret) }
+{
+    match caret {
+        Some(kept) if kept.key == key => Some(kept),
+        _ => None,
+    }
+}
+
+/// The cell of a viewer's main frame of `w` columns and `h` rows at which its caret stands, if it has one that is shown;
+/// it is read where it isn't kept, and then kept. `Fault`: the source failed in this call.
+pub(crate) fn caret_cell<S: CharSource>(
+    shown: &Shown<'_>,
+    w: u8,
+    h: u8,
+    caret: &mut Option<KeptCaret>,
+    source: &mut S,
+) -> Result<Option<(u8, u8)>, Fault>
+    requires columns { w ≤ 50 }
+    requires rows { h ≤ 31 }
+    requires showable { IsShowable (length (S.characters source.old)) shown.now }
+    ensures cell { IfOk result (λ cell. S.honest source.old → (texts : ℕ → AText ℕ)
+        → IsNumbered texts (S.characters source.old) shown.now → IfSome caret.old (IsCaretOf texts)
+        → let v = as_read (S.characters source.old) shown.now in
+        cell ≡ caret_at w h v.main v.frame.org v.frame.caret) }
+    ensures caret { S.honest source.old → (texts : ℕ → AText ℕ)
+        → IsNumbered texts (S.characters source.old) shown.now → IfSome caret.old (IsCaretOf texts)
+        → IfSome caret.new (IsCaretOf texts) }
+    ensures reads { OnlyReads S.characters S.failures S.honest S.same_ground source.old source.new }
+    ensures cause { CountsFault result (S.failures source.old) (S.failures source.new) }
+{
+    let Some(position) = shown.frame.caret else {
+        return Ok(None);
+    };
+    let key = CaretKey {
+        text: shown.frame.text,
+        org: shown.frame.org,
+        width: w,
+        rows: h,
+        position,
+    };
+    if let Some(kept) = caret_kept(*caret, key) {
+        return Ok(kept.cell);
+    }
+    let cell = cell_at(shown, w, h, position, source)?;
+    *caret = Some(KeptCaret { key, cell });
+    Ok(cell)
+}
+
+/// The cell of a viewer's main frame of `w` columns and `h` rows at which a position is shown, if it is one of its text
+/// and shown. `Fault`: the source failed in this call.
+fn cell_at<S: CharSource>(
+    shown: &Shown<'_>,
+    w: u8,
+    h: u8,
+    position: u32,
+    source: &mut S,
+) -> Result<Option<(u8, u8)>, Fault>
+    requires columns { w ≤ 50 }
+    requires rows { h ≤ 31 }
+    requires showable { IsShowable (length (S.characters source.old)) shown.now }
+    ensures cell { IfOk result (λ cell. S.honest source.old
+        → let v = as_read (S.characters source.old) shown.now in
+        cell ≡ caret_at w h v.main v.frame.org (Some position)) }
+    ensures reads { OnlyReads S.characters S.failures S.honest S.same_ground source.old source.new }
+    ensures cause { CountsFault result (S.failures source.old) (S.failures source.new) }
+{
+    if position > shown.main.len() {
+        return Ok(None);
+    }
+    shown.frame.cell_of(shown.main, w, h, position, source)
+}

@@ -1,0 +1,5 @@
+use Rattle.stale_texts.specs.Kept.{others_stay}
+use Rattle.stale_texts.proofs.laws.other_texts_stay.Goals as goal
+
+pub returns : goal.returns
+returns c = others_stay

@@ -1,0 +1,5 @@
+use Rattle.stale_texts.specs.Kept.{stale_seen}
+use Rattle.stale_texts.proofs.laws.stale_whatever_is_read.Goals as goal
+
+pub returns : goal.returns
+returns c = stale_seen

@@ -1,0 +1,21 @@
+//! What holds of all desktops and events.
+ghost use Rattle.std.specs.Prelude.{◌≡◌, ℕ, false, List};
+ghost use Rattle.event_bytes.specs.declared.event.Event.{Event};
+ghost use Rattle.desktop_definitions.specs.Desktop.{Desktop, KeptDesktop};
+ghost use Rattle.desktop_definitions.specs.Seen.{seen};
+ghost use Rattle.desktop_definitions.specs.Step.{step};
+ghost use Rattle.desktop_definitions.specs.Viewers.{text_of};
+ghost use Rattle.desktop_definitions.specs.Sound.{IsSound};
+ghost use Rattle.stale_texts.specs.Stale.{is_stale, stale_of};
+
+/// An event leaves each text as it was that isn't among those that it may change, whatever the reply is.
+pub fn other_texts_stay()
+    ensures { (d : Desktop) (event : Event) (n : ℕ) → IsSound d → is_stale (stale_of d event) n ≡ false
+        → text_of (step d event).0 n ≡ text_of d n }
+{}
+
+/// Which texts an event may change doesn't rest on the characters among which a desktop is seen.
+pub fn stale_whatever_is_read()
+    ensures { (characters : List ℕ) (d : KeptDesktop) (event : Event)
+        → stale_of (seen characters d) event ≡ stale_of d event }
+{}
