@@ -15,8 +15,8 @@ mod shown;
 mod strip;
 mod walk;
 
-pub use lines::KeptLines;
 pub use laws::{all_filler_without_viewers, cells_of_a_screen};
+pub use lines::KeptLines;
 pub use screen::Screen;
 pub use screen_pictures::{Cell, Mark};
 pub use shown::Shown;

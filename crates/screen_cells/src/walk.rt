@@ -48,12 +48,7 @@ pub(crate) fn walk_of<'a, S: CharSource>(
 }
 
 /// Before the first row of a viewer's frame of `h` rows.
-fn first_walk<'a, S: CharSource>(
-    shown: &[Shown<'a>],
-    index: usize,
-    h: u8,
-    source: &S,
-) -> Walk<'a>
+fn first_walk<'a, S: CharSource>(shown: &[Shown<'a>], index: usize, h: u8, source: &S) -> Walk<'a>
     requires within { index < length shown.now }
     requires showable { All (IsShowable (length (S.characters source.now))) shown.now }
     ensures walk { IsKept (S.honest source.now) (S.characters source.now) shown.now result }
