@@ -2,14 +2,22 @@
    standard output and error, as a line into the file CALLS: `read N` for standard input, `pread SECTOR`,
    `pwrite SECTOR`, `fdatasync`, and `fsync NAME` with the last part of the path. The call named FAIL, number AT of that
    name counted from 0, isn't made, and fails with the error number ERROR (5, an input or output error, where it isn't
-   set; 4 is a signal that interrupted it). Where PART is set this call, a pread or a pwrite, doesn't fail: it moves PART
-   bytes at most. */
+   set; 4 is a signal that interrupted it). With ONWARD it and all later ones of its name fail, as on a medium that
+   stays full. Where PART is set this call, a pread or a pwrite, doesn't fail: it moves PART bytes at most. Where KILLED
+   is set it doesn't fail either: the program is killed by signal 9 in its place.
+
+   FAIL may also be a call that is no line: `open`, `flock`, `statx`, `realpath`, and `write`, on standard output. In
+   each case the file CALLS has the line `failed`, `in part` or `killed` once that came. */
 #define _GNU_SOURCE
+#include <dlfcn.h>
 #include <errno.h>
 #include <fcntl.h>
+#include <signal.h>
+#include <stdarg.h>
 #include <stdio.h>
 #include <stdlib.h>
 #include <string.h>
+#include <sys/stat.h>
 #include <sys/syscall.h>
 #include <sys/types.h>
 #include <unistd.h>
@@ -27,13 +35,19 @@ static void tell(const char *text) {
 /* Whether this call of that name is the one that the host refuses. */
 static int is_refused(const char *name, long *count) {
     const char *wanted = getenv("FAIL"), *at = getenv("AT");
-    return wanted && at && !strcmp(wanted, name) && (*count)++ == atol(at);
+    if (!wanted || !at || strcmp(wanted, name)) return 0;
+    long number = (*count)++, first = atol(at);
+    return number == first || (getenv("ONWARD") && number > first);
 }
 
 /* Whether this call of that name is the one that fails. */
 static int fails(const char *name, long *count) {
     const char *error = getenv("ERROR");
     if (!is_refused(name, count)) return 0;
+    if (getenv("KILLED")) {
+        tell("killed\n");
+        kill(getpid(), SIGKILL);
+    }
     tell("failed\n");
     errno = error ? atoi(error) : EIO;
     return 1;
@@ -48,7 +62,31 @@ static ssize_t share(const char *name, long *count, size_t size) {
     return (size_t)atol(part) < size ? atol(part) : (ssize_t)size;
 }
 
-static long reads, preads, pwrites, fdatasyncs, fsyncs;
+static long reads, writes, preads, pwrites, fdatasyncs, fsyncs, opens, flocks, statxs, realpaths;
+
+int open(const char *path, int flags, ...) {
+    va_list rest;
+    va_start(rest, flags);
+    int mode = flags & (O_CREAT | O_TMPFILE) ? va_arg(rest, int) : 0;
+    va_end(rest);
+    return fails("open", &opens) ? -1 : syscall(SYS_openat, AT_FDCWD, path, flags, mode);
+}
+
+int flock(int file, int how) { return fails("flock", &flocks) ? -1 : syscall(SYS_flock, file, how); }
+
+int statx(int folder, const char *path, int flags, unsigned mask, struct statx *found) {
+    return fails("statx", &statxs) ? -1 : syscall(SYS_statx, folder, path, flags, mask, found);
+}
+
+char *realpath(const char *path, char *resolved) {
+    static char *(*next)(const char *, char *);
+    if (!next) next = (char *(*)(const char *, char *))dlsym(RTLD_NEXT, "realpath");
+    return fails("realpath", &realpaths) || !next ? 0 : next(path, resolved);
+}
+
+ssize_t write(int file, const void *bytes, size_t size) {
+    return file == 1 && fails("write", &writes) ? -1 : syscall(SYS_write, file, bytes, size);
+}
 
 ssize_t read(int file, void *bytes, size_t size) {
     if (file == 0 && fails("read", &reads)) return -1;

@@ -17,3 +17,4 @@ while :; do
     number=$((number + 1))
 done
 [ $kept -gt 10 ] && echo 'every allocation of the ring was refused once'
+count 'allocations refused, a ring' $number

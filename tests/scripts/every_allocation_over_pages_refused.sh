@@ -27,8 +27,9 @@ END
 grep -v '^show\|^screen$\|^checkpoint$' events > posted
 looks() { printf '%s\n' list 'show B.Text' screen; }
 
-"$OBERON" format new.disk
-"$OBERON" play new.disk < begin | uniq -c | sed 's/^ *//'
+"$OBERON" format made.disk
+"$OBERON" play made.disk < begin | uniq -c | sed 's/^ *//'
+cp --sparse=always made.disk new.disk
 cp new.disk desk.disk
 "$OBERON" play desk.disk < events > whole
 cut -c1-60 whole
@@ -56,3 +57,5 @@ while :; do
 done
 [ $number -gt 90 ] && echo 'every allocation was refused once'
 [ $same -gt 2 ] && echo 'of some nothing was seen'
+count 'allocations refused, over pages' $number
+count 'allocations refused, over pages, of which nothing was seen' $same

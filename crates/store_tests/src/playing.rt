@@ -206,8 +206,9 @@ fn last_line(rt: HostRuntime) -> Result<(), Fail> {
     Ok(())
 }
 
+/// A line of more than 4,096 bytes is one malformed line, and the next one is played.
 #[test]
-fn long_lines(rt: HostRuntime) -> Result<(), Fail> {
+fn long_line(rt: HostRuntime) -> Result<(), Fail> {
     let script = script_of_long_lines(rt.alloc())?;
     for size in [1, 7, 4_096, 100_000] {
         let (_, written) = in_pieces(rt.alloc(), script.as_slice(), size, false)?;
@@ -245,7 +246,7 @@ fn ten_lines(alloc: Global, reads: u32) -> Result<(PlayEnd, Vec<u8>), Fail> {
 
 /// The most reads that give bytes are 67,108,864, or another bound where one is named.
 #[test]
-fn another_limit_of_reads(rt: HostRuntime) -> Result<(), Fail> {
+fn bounded_turns(rt: HostRuntime) -> Result<(), Fail> {
     let rows: [(u32, PlayEnd, &[u8]); 2] = [
         (8, PlayEnd::Input, b"?\n?\n?\n?\n?\n?\n?\n?\ninput\n"),
         (11, PlayEnd::Done, b"?\n?\n?\n?\n?\n?\n?\n?\n?\n?\n"),

@@ -1,0 +1,32 @@
+# The host refuses each call of a play over a file in turn. It says `fault` in place of the next answer, or nothing
+# where the answer itself couldn't be written; then the store opens and holds every answered event, and at most one
+# more.
+. "$TESTS/answered.sh"
+
+# Whether `got` and `said` are right for a play in which a call of the kind $1 was refused.
+said_right() {
+    head -n "$(answered)" whole > front
+    if [ "$1" = write ]; then
+        [ ! -s said ] && cmp -s front got
+    elif [ -s got ]; then
+        [ ! -s said ] && (cat front; echo fault) | cmp -s - got
+    else
+        [ "$(cat said)" = fault ]
+    fi
+}
+
+refused=0
+for call in open flock pread pwrite fdatasync write; do
+    number=0
+    while :; do
+        cut_off FAIL=$call AT=$number
+        status=$?
+        grep -q failed calls || break
+        said_right $call && [ $status = 4 ] || echo "$call $number refused: status $status, $(head -c 200 got said)"
+        holds "$(answered)" more || echo "$call $number refused: the store holds something else"
+        number=$((number + 1))
+    done
+    cmp got whole && [ $status = 0 ] && [ $number -gt 0 ] && echo "each $call was refused once"
+    refused=$((refused + number))
+done
+count 'calls refused, play' $refused
