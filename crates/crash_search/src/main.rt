@@ -1,7 +1,8 @@
 //! Looks for a crash that a store doesn't survive (the crate `crash_trials`). The argument is how many images at least
 //! are tried.
 //!
-//! It prints how many images were tried and `all right`, or the first that is wrong, with the seed of its round.
+//! It prints how many images were tried, at how many calls opening them was stopped, and `all right`; or the first that
+//! is wrong, with the seed of its round.
 #![tactic(auto)]
 
 use crash_trials::{Search, searched};
@@ -10,11 +11,14 @@ use std::{env, io};
 /// Tells what was found.
 fn tell(rt: &HostRuntime, search: &Search) -> io::Result<()> {
     match &search.wrong {
-        None => println!(rt; "{} images, all right", search.tried),
+        None => println!(rt;
+            "{} images, {} second stops, all right",
+            search.images, search.second_stops
+        ),
         Some(wrong) => {
             println!(rt;
                 "wrong after {} images: seed {}, {}",
-                search.tried, wrong.seed, wrong.scene
+                search.images, wrong.seed, wrong.scene
             )?;
             println!(rt; "stopped at call {}, with the fillings", wrong.stop)?;
             for (n, filling) in wrong.fillings.iter() {

@@ -1,5 +1,6 @@
 //! A store and a line that is played over it: what is stopped, and what may be shown then.
 
+use crate::reopening::Calls;
 use crate::stores::{after, shown};
 use sector_disk::MemoryDisk;
 use std::alloc::{AllocError, Global};
@@ -24,6 +25,8 @@ pub struct Scene {
     pub name: &'static str,
     pub disk: MemoryDisk,
     pub line: Vec<u8>,
+    /// Whether its journal is full, so that opening it takes long.
+    pub is_long: bool,
     pub views: Views,
 }
 
@@ -33,15 +36,26 @@ impl Scene {
         alloc: Global,
         name: &'static str,
         disk: &MemoryDisk,
-        line: Vec<u8>,
+        line: &[u8],
+        is_long: bool,
     ) -> Result<Scene, AllocError> {
         let before = shown(alloc, disk.crash(alloc, &[])?);
-        let after = shown(alloc, after(alloc, disk, &line)?);
+        let after = shown(alloc, after(alloc, disk, line)?);
         Ok(Scene {
             name,
             disk: disk.crash(alloc, &[])?,
-            line,
+            line: line.to_vec(alloc)?,
+            is_long,
             views: Views { before, after },
         })
+    }
+
+    /// At which calls opening it is stopped.
+    pub fn calls(&self) -> Calls {
+        if self.is_long {
+            Calls::few()
+        } else {
+            Calls::nearly_all()
+        }
     }
 }

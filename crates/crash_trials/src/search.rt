@@ -1,19 +1,15 @@
 //! Stops at every call of a disk, and the images that a crash may leave then.
 
-use crate::fillings::{FILLINGS, filled};
+use crate::images::{counted, drawn, image, ways};
 use crate::random::Random;
-use crate::scene::{Scene, Views};
+use crate::reopening::{Opening, opened, recovered};
+use crate::scene::Scene;
 use crate::stores::{calls_to_open, played, shown};
-use oberon_main::Store;
 use sector_disk::{Fuse, MemoryDisk};
 use std::alloc::{AllocError, Global};
 
 /// More calls than any of a store makes of its disk.
 const MOST_CALLS: u64 = 8_192;
-
-/// At how many calls opening is stopped one after another. Of the later ones, which read a long journal, it is stopped
-/// at one in eight.
-const EACH_CALL: u64 = 64;
 
 /// An image that shows what it may not.
 #[derive(Drop)]
@@ -33,10 +29,12 @@ pub struct Wrong {
 pub struct Search {
     seed: u32,
     pub(crate) random: Random,
-    /// How many images are tried at one stop.
-    most: u64,
+    /// How many images are wanted.
+    wanted: u64,
     /// How many images were tried.
-    pub tried: u64,
+    pub images: u64,
+    /// At how many calls opening was stopped after these crashes.
+    pub second_stops: u64,
     /// The first image that is wrong.
     pub wrong: Option<Wrong>,
 }
@@ -49,68 +47,28 @@ struct Stop {
     acknowledged: bool,
 }
 
-/// How many ways there are to fill so many sectors, or some number above `most`.
-fn ways(sectors: usize, most: u64) -> u64 {
-    let mut ways: u64 = 1;
-    for _ in 0..sectors.min(24) {
-        if ways <= most {
-            ways = ways.saturating_mul(FILLINGS as u64);
-        }
-    }
-    ways
-}
-
-/// The filling of each sector that a number chooses, by its digits.
-fn counted(alloc: Global, pending: &[u32], choice: u64) -> Result<Vec<(u32, u32)>, AllocError> {
-    let mut fillings = Vec::new(alloc);
-    let mut rest = choice;
-    for n in pending {
-        fillings.push((*n, (rest % FILLINGS as u64) as u32))?;
-        rest /= FILLINGS as u64;
-    }
-    Ok(fillings)
-}
-
-/// A random filling of each sector.
-fn drawn(
-    alloc: Global,
-    pending: &[u32],
-    random: &mut Random,
-) -> Result<Vec<(u32, u32)>, AllocError> {
-    let mut fillings = Vec::new(alloc);
-    for n in pending {
-        fillings.push((*n, random.below(FILLINGS)))?;
-    }
-    Ok(fillings)
-}
-
-/// What the store shows that a crash left, with these fillings of the pending sectors.
-fn shown_by(
-    alloc: Global,
-    disk: &mut MemoryDisk,
-    fillings: &[(u32, u32)],
-) -> Result<Vec<u8>, AllocError> {
-    let mut sectors = Vec::new(alloc);
-    for (n, filling) in fillings {
-        let bytes = filled(disk, *n, *filling);
-        sectors.push((*n, bytes))?;
-    }
-    Ok(shown(alloc, disk.crash(alloc, &sectors)?))
-}
-
 /// Whether an event or a checkpoint was answered.
 fn is_answer(said: &[u8]) -> bool {
     said == b"ok\n".as_slice() || said.starts_with(b"no ")
 }
 
+/// Plays the line of a scene over a disk that fails after so many calls: the disk, and whether it was answered.
+fn stopped(alloc: Global, scene: &Scene, calls: u64) -> Result<(MemoryDisk, bool), AllocError> {
+    let mut said = Vec::new(alloc);
+    let fuse = Fuse::new(scene.disk.crash(alloc, &[])?, calls);
+    let disk = played(alloc, fuse, &scene.line, &mut said).into_inner();
+    Ok((disk, is_answer(&said)))
+}
+
 impl Search {
     /// Nothing was tried yet.
-    pub(crate) fn new(most: u64) -> Search {
+    pub(crate) fn new(wanted: u64) -> Search {
         Search {
             seed: 0,
             random: Random::new(0),
-            most,
-            tried: 0,
+            wanted,
+            images: 0,
+            second_stops: 0,
             wrong: None,
         }
     }
@@ -121,18 +79,33 @@ impl Search {
         self.random = Random::new(seed);
     }
 
-    /// Tries one image.
+    /// Whether enough images were tried, or one is wrong.
+    pub(crate) fn is_done(&self) -> bool {
+        self.images >= self.wanted || self.wrong.is_some()
+    }
+
+    /// How many images are tried at one stop.
+    fn most(&self, scene: &Scene) -> u64 {
+        let most = (self.wanted / 100).max(36).min(2_000);
+        if scene.is_long { most / 6 } else { most }
+    }
+
+    /// Tries one image: opening it is stopped again and again, and what it shows in the end must be allowed.
     fn try_image(
         &mut self,
         alloc: Global,
         disk: &mut MemoryDisk,
         fillings: Vec<(u32, u32)>,
-        views: &Views,
+        scene: &Scene,
         stop: Stop,
     ) -> Result<(), AllocError> {
-        let shown = shown_by(alloc, disk, &fillings)?;
-        self.tried = self.tried.saturating_add(1);
-        if self.wrong.is_none() && !views.allow(stop.acknowledged, &shown) {
+        let left = image(alloc, disk, &fillings)?;
+        let again = recovered(alloc, left, scene.calls(), &mut self.random)?;
+        self.images = self.images.saturating_add(1);
+        self.second_stops = self.second_stops.saturating_add(again.stops);
+        let shown = shown(alloc, again.disk);
+        let is_right = again.is_told && scene.views.allow(stop.acknowledged, &shown);
+        if !is_right && self.wrong.is_none() {
             self.wrong = Some(Wrong {
                 seed: self.seed,
                 scene: stop.scene,
@@ -148,36 +121,34 @@ impl Search {
         &mut self,
         alloc: Global,
         disk: &mut MemoryDisk,
-        views: &Views,
+        scene: &Scene,
         stop: Stop,
     ) -> Result<(), AllocError> {
         let pending = disk.pending_sectors(alloc)?;
-        let ways = ways(pending.len(), self.most);
-        for choice in 0..ways.min(self.most) {
-            let fillings = if ways <= self.most {
+        let most = self.most(scene);
+        let ways = ways(pending.len(), most);
+        for choice in 0..ways.min(most) {
+            let fillings = if ways <= most {
                 counted(alloc, &pending, choice)?
             } else {
                 drawn(alloc, &pending, &mut self.random)?
             };
-            self.try_image(alloc, disk, fillings, views, stop)?;
+            self.try_image(alloc, disk, fillings, scene, stop)?;
         }
         Ok(())
     }
 
     /// Stops the line of a scene at each call of the disk.
-    pub(crate) fn try_stops(&mut self, alloc: Global, scene: &Scene) -> Result<(), AllocError> {
+    fn try_stops(&mut self, alloc: Global, scene: &Scene) -> Result<(), AllocError> {
         let opening = calls_to_open(alloc, &scene.disk)?;
         for call in 0..MOST_CALLS {
-            let mut said = Vec::new(alloc);
-            let fuse = Fuse::new(scene.disk.crash(alloc, &[])?, opening.saturating_add(call));
-            let mut disk = played(alloc, fuse, &scene.line, &mut said).into_inner();
-            let acknowledged = is_answer(&said);
+            let (mut disk, acknowledged) = stopped(alloc, scene, opening.saturating_add(call))?;
             let stop = Stop {
                 scene: scene.name,
                 call,
                 acknowledged,
             };
-            self.try_images(alloc, &mut disk, &scene.views, stop)?;
+            self.try_images(alloc, &mut disk, scene, stop)?;
             if acknowledged {
                 break;
             }
@@ -185,33 +156,37 @@ impl Search {
         Ok(())
     }
 
-    /// Stops the line of a scene once, after a random number of calls, and then opening what is there.
-    pub(crate) fn try_opening(&mut self, alloc: Global, scene: &Scene) -> Result<(), AllocError> {
+    /// Stops the line of a scene once, after a random number of calls, and then opening what is there: no crash comes
+    /// between the two, so that what was pending is it still.
+    fn try_opening(&mut self, alloc: Global, scene: &Scene) -> Result<(), AllocError> {
         let opening = calls_to_open(alloc, &scene.disk)?;
-        let stopped = opening.saturating_add(self.random.below(12) as u64);
-        let mut said = Vec::new(alloc);
-        let fuse = Fuse::new(scene.disk.crash(alloc, &[])?, stopped);
-        let mut disk = played(alloc, fuse, &scene.line, &mut said).into_inner();
-        let acknowledged = is_answer(&said);
+        let calls = opening.saturating_add(self.random.below(12) as u64);
+        let (mut disk, acknowledged) = stopped(alloc, scene, calls)?;
         for call in 0..MOST_CALLS {
-            if call >= EACH_CALL && self.random.below(8) > 0 {
+            if !scene.calls().have(call, &mut self.random) {
                 continue;
             }
-            let (next, opened) = match Store::open(alloc, Fuse::new(disk, call)) {
-                Ok(store) => (store.close().into_inner(), true),
-                Err((_, fuse)) => (fuse.into_inner(), false),
-            };
+            let (next, opening) = opened(alloc, disk, call);
             disk = next;
             let stop = Stop {
                 scene: "opening after it was stopped",
                 call,
                 acknowledged,
             };
-            self.try_images(alloc, &mut disk, &scene.views, stop)?;
-            if opened {
+            self.try_images(alloc, &mut disk, scene, stop)?;
+            if opening != Opening::Stopped {
                 break;
             }
         }
         Ok(())
+    }
+
+    /// Stops a scene, unless enough was tried.
+    pub(crate) fn try_scene(&mut self, alloc: Global, scene: &Scene) -> Result<(), AllocError> {
+        if self.is_done() {
+            return Ok(());
+        }
+        self.try_stops(alloc, scene)?;
+        self.try_opening(alloc, scene)
     }
 }

@@ -5,7 +5,8 @@ use sector_disk::{Disk, Fuse, MemoryDisk};
 use std::alloc::{AllocError, Global};
 
 /// What a store is asked that must be as it was: its files, its viewers, and its screen.
-const LOOKS: &[u8] = b"list\nshow System.Tool\nshow A.Text\nshow B.Text\nshow C.Text\nscreen\n";
+const LOOKS: &[u8] =
+    b"list\nshow System.Tool\nshow A.Text\nshow B.Text\nshow C.Text\nshow D.Text\nshow G.Text\nscreen\n";
 
 /// Opens the store on a disk and plays a script over it, or says why there is none. The disk, once the store is closed.
 pub fn played<D: Disk + Drop>(alloc: Global, disk: D, script: &[u8], said: &mut Vec<u8>) -> D {

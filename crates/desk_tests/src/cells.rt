@@ -2,11 +2,13 @@
 ghost use Rattle.std.specs.Prelude.{◌<◌, ◌≤◌, ◌+◌, ◌^◌, length, IfOk};
 ghost use Rattle.piece_ring.specs.Flat.{flat};
 ghost use Rattle.piece_ring.specs.Offsets.{AreWithin};
+ghost use Rattle.screen_cells.specs.Lines.{AreReady};
 
 use char_file::{CharFile, CharSource, NoMemory};
+use char_pages::{Paged, Pages};
 use piece_ring::DEFAULT_LOOK;
 use screen_cells::{Cell, KeptLines, Mark, Screen, Shown};
-use sector_disk::Fault;
+use sector_disk::{Disk, Fault, Fuse, MemoryDisk};
 use std::alloc::Global;
 use std::io;
 use std::io::{ErrorKind, Write};
@@ -169,30 +171,33 @@ fn screen_of_one(
     let mut source = source_of(rt, alloc, menu, main)?;
     let menu = text_at(rt, alloc, &source, 0, first)?;
     let main = text_at(rt, alloc, &source, first, second)?;
+    let mut lines = KeptLines::new(alloc);
+    lines.prepare()?;
     let screen = paint_one(
         rt,
-        alloc,
         &tracks_of_one(rt, x),
         &menu,
         &main,
         frame,
         marker,
+        &mut lines,
         &mut source,
     );
     Ok(screen?)
 }
 
-/// Paints viewer 1 with these texts.
+/// Paints viewer 1 with these texts, numbered 2 and 1, from lines that are kept.
 fn paint_one<S: CharSource>(
     rt: &impl Abort,
-    alloc: Global,
     tracks: &Tracks,
     menu: &Text,
     main: &Text,
     frame: &Frame,
     marker: Option<(u8, u8)>,
+    lines: &mut KeptLines,
     source: &mut S,
-) -> Result<Screen, Fail>
+) -> Result<Screen, Fault>
+    requires ready { AreReady lines.old }
     requires menu { AreWithin (length (S.characters source.old)) (flat menu.now) }
     requires main { AreWithin (length (S.characters source.old)) (flat main.now) }
 {
@@ -205,9 +210,7 @@ fn paint_one<S: CharSource>(
         main,
         frame,
     }];
-    let mut lines = KeptLines::new(alloc);
-    lines.prepare()?;
-    screen.paint(tracks, &shown, marker, &mut lines, source)?;
+    screen.paint(tracks, &shown, marker, lines, source)?;
     Ok(screen)
 }
 
@@ -433,5 +436,55 @@ fn flush_fault(rt: HostRuntime) -> Result<(), Fail> {
         taken: Vec::new(rt.alloc()),
     };
     assert!(rt; screen.print(&mut writer) == Err(Fault) && writer.taken.len() == CORNER_LENGTH);
+    Ok(())
+}
+
+/// What is printed of viewer 1 over a disk whose first sector has both its texts, from lines that are kept. None where a
+/// read fails.
+fn printed_over<D: Disk>(
+    rt: &impl Abort,
+    alloc: Global,
+    disk: &mut D,
+    lines: &mut KeptLines,
+) -> Result<Option<Vec<u8>>, Fail> {
+    assert!(rt; disk.sectors() > 0);
+    let mut pages = Pages::new(alloc, 0, 1024, &[])?;
+    let mut source = Paged::over(disk, &mut pages);
+    let menu = text_at(rt, alloc, &source, 0, 24)?;
+    let main = text_at(rt, alloc, &source, 24, 900)?;
+    let frame = frame_at(0, Some(60), None);
+    lines.prepare()?;
+    match paint_one(
+        rt,
+        &tracks_of_one(rt, 0),
+        &menu,
+        &main,
+        &frame,
+        None,
+        lines,
+        &mut source,
+    ) {
+        Ok(screen) => Ok(Some(text_of(alloc, &screen)?)),
+        Err(Fault) => Ok(None),
+    }
+}
+
+/// Lines that are kept are painted over a disk that refuses every read; others aren't, and those of a text that was given
+/// up aren't either.
+#[test]
+fn no_second_read(rt: HostRuntime) -> Result<(), Fail> {
+    let alloc = rt.alloc();
+    let mut disk = MemoryDisk::new(alloc, 1)?;
+    let mut lines = KeptLines::new(alloc);
+    let first = printed_over(&rt, alloc, &mut disk, &mut lines)?;
+    assert!(rt; first.is_some());
+    let mut refusing = Fuse::new(disk, 0);
+    assert!(rt; printed_over(&rt, alloc, &mut refusing, &mut lines)? == first);
+    for number in [1, 2] {
+        let mut none = KeptLines::new(alloc);
+        assert!(rt; printed_over(&rt, alloc, &mut refusing, &mut none)?.is_none());
+        lines.forget_text(number);
+        assert!(rt; printed_over(&rt, alloc, &mut refusing, &mut lines)?.is_none());
+    }
     Ok(())
 }
