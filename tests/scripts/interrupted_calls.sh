@@ -38,6 +38,7 @@ each() {
         number=$((number + 1))
     done
     echo "$1, $2: $number calls held back"
+    count 'calls interrupted or cut short, play' $number
 }
 for held in ERROR=4 PART=8; do
     each pread $held
