@@ -25,7 +25,7 @@ of fresh; clear 1; say 'no gate is open'
 of fresh; put 1 OPENGATF; say 'a gate that is almost open'
 of fresh; put 1 x 8; say 'other bytes behind an open gate'
 
-for version in 0 2 9; do
+for version in 0 3 9; do
     of fresh; put 2 "\\000\\000\\000\\$version"; say "version $version"
 done
 of fresh; put 2 '\000\000\000\000' 4; say 'epoch 0'
@@ -33,7 +33,8 @@ of fresh; put 2 '\000\100\000\001' 8; say 'more characters than can be written'
 of fresh; put 2 '\000\062\000\001' 12; say 'an image that has no room'
 of fresh; put 2 '\377\377\377\377' 12; say 'an image that is far too long'
 of fresh; clear 2; say 'a head of zeros'
-of fresh; put 2 x 16; say 'other bytes behind a head'
+of fresh; put 2 '\000\000\000\002' 16; say 'an area that there is not'
+of fresh; put 2 x 20; say 'other bytes behind a head'
 
 for length in 32 34 0; do
     of fresh; put 2 "\\$length" 15; say "image length 0$length (octal; it is 033)"

@@ -1,7 +1,7 @@
 -- What calls leave of a source of characters.
 use Rattle.std.specs.Prelude.{◌≡◌, ◌↔◌, ℕ, ◌≤◌, List, length}
 
--- the most characters that are ever written
+-- the most characters that a source holds
 abbrev pub most_characters : ℕ
 most_characters = 4194304
 
@@ -21,7 +21,7 @@ pub record OnlyReads {S : Type 0} (characters : S → List ℕ) (failures : S �
   -- it has failed no fewer times
   pub no_fewer : failures old ≤ failures new
 
--- A call that adds characters leaves the rest as it was, whatever it returned.
+-- A call that adds or exchanges characters leaves the rest as it was, whatever it returned.
 pub record KeepsGround {S : Type 0} (failures : S → ℕ) (honest : S → Type 0) (same_ground : S → S
     → Type 0) (old new : S) : Type 0 where
   -- the source is honest exactly if it was

@@ -1,7 +1,7 @@
-//! Characters that are only ever added, each at an offset of its own.
+//! Characters, each at an offset of its own, that are added one after another or exchanged all at once.
 //!
-//! Texts don't hold their characters: a piece of a text names a stretch of offsets. What stands at an offset never
-//! changes, so texts share characters, and an edit copies none (the book's chapter on texts).
+//! Texts don't hold their characters: a piece of a text names a stretch of offsets. What stands at an offset stays
+//! until all are exchanged, so texts share characters, and an edit copies none (the book's chapter on texts).
 #![tactic(auto)]
 
 mod file;

@@ -99,10 +99,14 @@ true_on below same was = record {
   is = λ entry there. was.is entry there ∙ sym (same entry.0 (below.from entry there) (below.to entry there));
 }
 
--- of more sectors they are some as well
-pub below_more : {base many more : ℕ} {cached : List (ℕ × List ℕ)} → many ≤ more → AreBelow base many cached
-    → AreBelow base more cached
-below_more le was = record {
-  from = was.from;
-  to = λ entry there. omega (arith, le, was.to entry there);
-}
+-- of more sectors they are some as well, and of others where there were none
+pub below_moved : {base many base' more : ℕ} {cached : List (ℕ × List ℕ)} → many ≤ more → (0 < many → base' ≡ base)
+    → AreBelow base many cached → AreBelow base' more cached
+below_moved {base = base} {many = many} {base' = base'} {more = more} le same was = record {
+  from = λ entry there. let here = one (was.from entry there) (was.to entry there) in
+      omega (arith, here, was.from entry there);
+  to = λ entry there. let here = one (was.from entry there) (was.to entry there) in
+      omega (arith, here, le, was.to entry there);
+} where
+  one : {n : ℕ} → base ≤ n → n < base + many → base' ≡ base
+  one low high = same (omega (arith, low, high))

@@ -56,3 +56,9 @@ pub paged_as_long : (c c' : Content) (base base' saved saved' : ℕ) (rest rest'
     → length (stored c' base' saved' ++ rest') ≡ length (stored c base saved ++ rest)
 paged_as_long c c' base base' saved saved' rest rest' same_saved same_rest = length-paged c' base' saved' rest'
     ∙ (λ i. same_saved i + length (same_rest i)) ∙ sym (length-paged c base saved rest)
+
+-- where none stands on the disk, they are those in memory
+pub paged_in_memory : (c : Content) (base saved : ℕ) (rest made : List ℕ) → saved ≡ 0 → rest ≡ made
+    → stored c base saved ++ rest ≡ made
+unfolding stored
+paged_in_memory c base saved rest made none is = ap (λ n. stored c base n ++ rest) none ∙ is

@@ -1,5 +1,5 @@
 -- What stays the same of a source over a disk and pages, and its laws.
-use Rattle.std.specs.Prelude.{◌≡◌, ℕ, List, [], ◌++◌}
+use Rattle.std.specs.Prelude.{◌≡◌, ℕ, List, [], ◌++◌, false}
 use Rattle.std.specs.Borrow.{GName}
 use Rattle.std.proofs.Common.{refl, sym, ◌∙◌, ap, append_assoc}
 use Rattle.std.proofs.lemmas.List.{append-nil}
@@ -8,20 +8,22 @@ use Rattle.sector_disk.specs.Trail.{Nowhere}
 use Rattle.sector_disk.specs.Confined.{IsConfined}
 use Rattle.sector_disk.proofs.Confinement.{stays_put, joined}
 use Rattle.char_pages.specs.declared.pages.Pages.{Pages}
-use Rattle.char_pages.specs.Pages.{base_of, saved_of, rest_of}
+use Rattle.char_pages.specs.Pages.{base_of, saved_of, rest_of, renewed_of}
 
 -- a list, and perhaps more behind it
 abbrev pub IsLonger : List ℕ → List ℕ → Type 0
 IsLonger new old = (more : List ℕ) × (new ≡ old ++ more)
 
--- Two states of a source over the same disk: nothing was written to it between them, the same characters stand on it,
--- and those in memory were only added to.
+-- Two states of a source over the same disk: nothing was written to it between them. Where no characters were exchanged
+-- since some were last said to stand on the disk, none were before either, the same ones stand on it still, and those
+-- in memory were only added to.
 pub record OnSamePages {D : Type 0} (d : Ghosts D) (old new : D) (p p' : Pages)
     (disk disk' pages pages' : GName) : Type 0 where
   pub confined : IsConfined d.size d.honest d.trail Nowhere old new
   pub same_base : base_of p' ≡ base_of p
-  pub same_saved : saved_of p' ≡ saved_of p
-  pub only_added : IsLonger (rest_of p') (rest_of p)
+  pub before : renewed_of p' ≡ false → renewed_of p ≡ false
+  pub same_saved : renewed_of p' ≡ false → saved_of p' ≡ saved_of p
+  pub only_added : renewed_of p' ≡ false → IsLonger (rest_of p') (rest_of p)
   -- the borrows are the same
   pub same_disk : disk' ≡ disk
   pub same_pages : pages' ≡ pages
@@ -42,8 +44,9 @@ module _ {D : Type 0} {d : Ghosts D} where
   pages_self {s = s} = record {
     confined = stays_put d.size d.honest d.trail Nowhere s;
     same_base = refl;
-    same_saved = refl;
-    only_added = none_more _ _ refl;
+    before = λ not. not;
+    same_saved = λ not. refl;
+    only_added = λ not. none_more _ _ refl;
     same_disk = refl;
     same_pages = refl;
   }
@@ -54,8 +57,9 @@ module _ {D : Type 0} {d : Ghosts D} where
   pages_through x y = record {
     confined = joined d.size d.honest d.trail x.confined y.confined;
     same_base = y.same_base ∙ x.same_base;
-    same_saved = y.same_saved ∙ x.same_saved;
-    only_added = more_again _ _ _ x.only_added y.only_added;
+    before = λ not. x.before (y.before not);
+    same_saved = λ not. y.same_saved not ∙ x.same_saved (y.before not);
+    only_added = λ not. more_again _ _ _ (x.only_added (y.before not)) (y.only_added not);
     same_disk = y.same_disk ∙ x.same_disk;
     same_pages = y.same_pages ∙ x.same_pages;
   }

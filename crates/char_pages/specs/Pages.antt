@@ -1,5 +1,5 @@
 -- Characters of which the first stand on a disk.
-use Rattle.std.specs.Prelude.{◌+◌, ◌*◌, ◌/◌, ℕ, List, ◌++◌, length}
+use Rattle.std.specs.Prelude.{◌+◌, ◌*◌, ◌/◌, ℕ, List, ◌++◌, length, Bool}
 use Rattle.sector_disk.specs.declared.disk.TheConstants.{SECTOR_BYTES}
 use Rattle.sector_disk.specs.Trail.{Content}
 use Rattle.sector_disk.specs.Stored.{stored}
@@ -27,6 +27,10 @@ many_of p = saved_of p + length (rest_of p)
 -- the sectors of the disk that are in memory as well, each under its number
 abbrev pub cached_of : Pages → List (ℕ × List ℕ)
 cached_of p = p.cache.entries
+
+-- whether all characters were exchanged since some were last said to stand on the disk
+abbrev pub renewed_of : Pages → Bool
+renewed_of p = p.renewed
 
 -- how many characters are in memory
 abbrev pub held_in : Pages → ℕ

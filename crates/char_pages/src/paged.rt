@@ -75,4 +75,8 @@ impl<'a, D: Disk> CharSource for Paged<'a, D> {
     fn append(&mut self, bytes: &[u8]) -> Result<u32, NoMemory> {
         self.pages.append(bytes)
     }
+
+    fn renew(&mut self, made: Vec<u8>) {
+        self.pages.renew(made);
+    }
 }

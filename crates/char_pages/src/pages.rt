@@ -1,5 +1,5 @@
 //! What is in memory of characters of which the first stand on a disk.
-ghost use Rattle.std.specs.Prelude.{◌≡◌, ◌+◌, ◌*◌, ◌/◌, ◌%◌, ◌≤◌, length, drop};
+ghost use Rattle.std.specs.Prelude.{◌≡◌, ◌+◌, ◌*◌, ◌/◌, ◌%◌, ◌≤◌, length, drop, true};
 ghost use Rattle.std.specs.NonZero.{non_zero_usize_get};
 ghost use Rattle.sector_disk.specs.declared.disk.TheConstants.{SECTOR_BYTES};
 ghost use Rattle.char_file.specs.declared.source.TheConstants.{MOST_CHARACTERS};
@@ -31,10 +31,14 @@ pub struct Pages {
 
     /// Sectors that were read from the disk.
     cache: Cache,
+
+    /// Whether all characters were exchanged since the disk was said to hold some.
+    renewed: bool,
     ghost whole: { saved % SECTOR_BYTES ≡ 0 },
     ghost few: { saved + length rest.items ≤ MOST_CHARACTERS },
     ghost room: { cache.cap ≡ CACHED_SECTORS },
     ghost below: { AreBelow base (saved / SECTOR_BYTES) cache.entries },
+    ghost anew: { renewed ≡ true → saved ≡ 0 },
 }
 
 /// How many sectors a cache takes.
@@ -58,11 +62,12 @@ fn drop_front(bytes: &mut Vec<u8>, n: usize)
 }
 
 impl Pages {
-    ghost use Rattle.std.specs.Prelude.{◌-◌, ◌<◌, ◌++◌, [], get_or, IfOk, OnOk, OnErr};
+    ghost use Rattle.std.specs.Prelude.{◌-◌, ◌<◌, ◌++◌, [], get_or, IfOk, OnOk, OnErr, false};
     ghost use Rattle.sector_disk.specs.Trail.{CountsFault, Nowhere, now};
     ghost use Rattle.sector_disk.specs.Confined.{IsConfined};
     ghost use Rattle.char_pages.specs.Cached.{AreTrue};
     ghost use Rattle.char_pages.specs.Pages.{base_of, saved_of, saved_sectors, rest_of, many_of, cached_of, held_in};
+    ghost use Rattle.char_pages.specs.Pages.{renewed_of};
     ghost use Rattle.char_pages.specs.Pages.{paged_characters};
 
     /// The first `saved` characters stand on a disk from sector `base` on, and `tail` are the others. No sector is in
@@ -74,6 +79,7 @@ impl Pages {
         ensures saved { IfOk result (λ p. saved_of p ≡ saved) }
         ensures rest { IfOk result (λ p. rest_of p ≡ tail.now) }
         ensures cached { IfOk result (λ p. cached_of p ≡ []) }
+        ensures renewed { IfOk result (λ p. renewed_of p ≡ false) }
     {
         let cache = LruCache::new(alloc, capacity())?;
         let mut rest = Vec::new(alloc);
@@ -83,6 +89,7 @@ impl Pages {
             saved,
             rest,
             cache,
+            renewed: false,
         })
     }
 
@@ -117,20 +124,34 @@ impl Pages {
         &self.rest
     }
 
-    /// The first `saved` characters stand on the disk by now: those of them that were in memory are given up. It takes
-    /// no memory.
-    pub fn settle(&mut self, saved: u32)
+    /// Whether all characters were exchanged since the pages were made, or were last said to stand on the disk. If so
+    /// none stands there.
+    pub fn renewed(&self) -> bool
+        ensures renewed { result ≡ renewed_of self.now }
+        ensures none_saved { renewed_of self.now ≡ true → saved_of self.now ≡ 0 }
+    {
+        self.renewed
+    }
+
+    /// The first `saved` characters stand on the disk by now, from sector `base` on: those of them that were in memory
+    /// are given up. It takes no memory. The sectors may only be others than before where no character stood on the
+    /// disk.
+    pub fn settle(&mut self, base: u32, saved: u32)
         requires whole { saved % SECTOR_BYTES ≡ 0 }
         requires more { saved_of self.old ≤ saved }
         requires within { saved ≤ many_of self.old }
-        ensures base { base_of self.new ≡ base_of self.old }
+        requires place { 0 < saved_of self.old → base ≡ base_of self.old }
+        ensures base { base_of self.new ≡ base }
         ensures saved { saved_of self.new ≡ saved }
         ensures rest { rest_of self.new ≡ drop (saved - saved_of self.old) (rest_of self.old) }
         ensures cached { cached_of self.new ≡ cached_of self.old }
+        ensures renewed { renewed_of self.new ≡ false }
     {
         let gone = (saved - self.saved) as usize;
         drop_front(&mut self.rest, gone);
+        self.base = base;
         self.saved = saved;
+        self.renewed = false;
     }
 
     /// The character at an offset, with the disk on which the first ones stand. `Fault`: the disk failed.
@@ -145,6 +166,7 @@ impl Pages {
         ensures base { base_of self.new ≡ base_of self.old }
         ensures counted { saved_of self.new ≡ saved_of self.old }
         ensures rest { rest_of self.new ≡ rest_of self.old }
+        ensures renewed { renewed_of self.new ≡ renewed_of self.old }
         ensures kept { IsConfined D.size D.honest D.trail Nowhere disk.old disk.new }
         ensures cause { CountsFault result (D.failures disk.old) (D.failures disk.new) }
     {
@@ -168,9 +190,26 @@ impl Pages {
         ensures base { base_of self.new ≡ base_of self.old }
         ensures counted { saved_of self.new ≡ saved_of self.old }
         ensures cached { cached_of self.new ≡ cached_of self.old }
+        ensures renewed { renewed_of self.new ≡ renewed_of self.old }
     {
         let offset = self.len();
         self.rest.extend_from_slice(bytes)?;
         Ok(offset)
+    }
+
+    /// Exchanges all characters for these, which are all in memory then. The sectors that were read are given up. It
+    /// takes no memory.
+    pub(crate) fn renew(&mut self, made: Vec<u8>)
+        requires { length made.items ≤ MOST_CHARACTERS }
+        ensures base { base_of self.new ≡ base_of self.old }
+        ensures counted { saved_of self.new ≡ 0 }
+        ensures rest { rest_of self.new ≡ made.items }
+        ensures cached { cached_of self.new ≡ [] }
+        ensures renewed { renewed_of self.new ≡ true }
+    {
+        self.cache.clear();
+        self.saved = 0;
+        self.rest = made;
+        self.renewed = true;
     }
 }

@@ -95,9 +95,10 @@ prefix_len-take test (suc n) (x ∷ xs) = by_first (prefix_len-take test n xs) (
 
 -- ---- what is called
 
-not_called : (bs : List ℕ) (p : ℕ) → command_named (word_at bs p) ≡ None → called_at bs p ≡ None
+not_called : (version : ℕ) (bs : List ℕ) (p : ℕ) → command_named version (word_at bs p) ≡ None
+    → called_at version bs p ≡ None
 unfolding called_at
-not_called bs p e = ap (option_map (λ command. (command, word_end bs p))) e
+not_called version bs p e = ap (option_map (λ command. (command, word_end bs p))) e
 
 end_within : (bs : List ℕ) (p : ℕ) → p ≤ length bs → word_end bs p ≤ length bs
 end_within bs p h = let fits = prefix_len-le-length is_name_byte (drop p bs) in let rest = length-drop p bs in
@@ -109,26 +110,29 @@ length-word bs p h =
     let end = end_within bs p h in let rest = length-drop (word_begin bs p) bs in
     length-take-le (word_end bs p - word_begin bs p) (drop (word_begin bs p) bs) (omega (arith, end, rest))
 
-no_run : (bs : List ℕ) (p : ℕ) → (run_from bs p == 0) ≡ true → called_at bs p ≡ None
-no_run bs p h = let none : word_at bs p ≡ [] = rw h refl in not_called bs p (ap command_named none ∙ no_word)
+no_run : (version : ℕ) (bs : List ℕ) (p : ℕ) → (run_from bs p == 0) ≡ true → called_at version bs p ≡ None
+no_run version bs p h =
+    let none : word_at bs p ≡ [] = rw h refl in
+    not_called version bs p (ap (command_named version) none ∙ no_word version)
 
 some_run : (bs : List ℕ) (p : ℕ) → (run_from bs p == 0) ≡ false → word_at bs p ≡ slice_range bs (word_begin bs p)
     (word_end bs p)
 some_run bs p h = rw h refl
 
 -- too long a run calls nothing
-long_run : (bs : List ℕ) (p : ℕ) → p ≤ length bs → 18 < word_end bs p - word_begin bs p → called_at bs p ≡ None
-long_run bs p h long = by_run (run_from bs p == 0) refl where
-  by_run : (b : Bool) → (run_from bs p == 0) ≡ b → called_at bs p ≡ None
-  by_run true e = no_run bs p e
+long_run : (version : ℕ) (bs : List ℕ) (p : ℕ) → p ≤ length bs → 18 < word_end bs p - word_begin bs p
+    → called_at version bs p ≡ None
+long_run version bs p h long = by_run (run_from bs p == 0) refl where
+  by_run : (b : Bool) → (run_from bs p == 0) ≡ b → called_at version bs p ≡ None
+  by_run true e = no_run version bs p e
   by_run false e =
       let size = length-word bs p h in let is : length (word_at bs p) ≡ word_end bs p - word_begin bs p = ap length
       (some_run bs p e) ∙ size in
-      not_called bs p (long_word (word_at bs p) (omega (arith, is, long)))
+      not_called version bs p (long_word version (word_at bs p) (omega (arith, is, long)))
 
 -- no run of its own at a position
-pub no_call : (bs : List ℕ) (p run : ℕ) → run ≡ run_from bs p → run ≡ 0 → None ≡ called_at bs p
-no_call bs p run is none = sym (no_run bs p (ap (λ n. n == 0) (sym is ∙ none)))
+pub no_call : (version : ℕ) (bs : List ℕ) (p run : ℕ) → run ≡ run_from bs p → run ≡ 0 → None ≡ called_at version bs p
+no_call version bs p run is none = sym (no_run version bs p (ap (λ n. n == 0) (sym is ∙ none)))
 
 is_zero : (n : ℕ) → (n == 0) ≡ true → n ≡ 0
 is_zero zero h = refl
@@ -149,7 +153,7 @@ same_call : (o : Option Command) (start end inner : ℕ) → end ≡ start + inn
 same_call None start end inner e = refl
 same_call (Some command) start end inner e = ap (λ k. Some (command, k)) e
 
-module _ (bs : List ℕ) (p start : ℕ) (is : start ≡ p - 18) (within : p ≤ length bs) where
+module _ (version : ℕ) (bs : List ℕ) (p start : ℕ) (is : start ≡ p - 18) (within : p ≤ length bs) where
   abbrev window : List ℕ
   window = take 37 (drop start bs)
 
@@ -194,7 +198,7 @@ module _ (bs : List ℕ) (p start : ℕ) (is : start ≡ p - 18) (within : p ≤
   before = begin_within window at
 
   short_call : (run_from bs p == 0) ≡ false → 0 < run_from bs p → word_end bs p - word_begin bs p ≤ 18
-      → called_at bs p ≡ further start (called_at window at)
+      → called_at version bs p ≡ further start (called_at version window at)
   unfolding called_at
   short_call e some short =
       let begin = begin_within bs p in let run = runs in let near_by = near in let reach = reaches in
@@ -209,11 +213,11 @@ module _ (bs : List ℕ) (p start : ℕ) (is : start ≡ p - 18) (within : p ≤
       some_run bs p e ∙ ((λ k. slice_range bs (first k) (end k))
       ∙ (sym (cut (word_begin window at) (word_end window at) ordered fits)
       ∙ sym (some_run window at filled))) in
-      ap (λ w. option_map (λ command. (command, word_end bs p)) (command_named w)) words
-      ∙ same_call (command_named (word_at window at)) start (word_end bs p) (word_end window at) end
+      ap (λ w. option_map (λ command. (command, word_end bs p)) (command_named version w)) words
+      ∙ same_call (command_named version (word_at window at)) start (word_end bs p) (word_end window at) end
 
   long_call : 0 < run_from bs p → 18 < word_end bs p - word_begin bs p
-      → called_at bs p ≡ further start (called_at window at)
+      → called_at version bs p ≡ further start (called_at version window at)
   long_call some long =
       let begin = begin_within bs p in let run = runs in let near_by = near in let reach = reaches in
       let low = begins in let inner = before in
@@ -229,28 +233,29 @@ module _ (bs : List ℕ) (p start : ℕ) (is : start ≡ p - 18) (within : p ≤
         begin,
         inner,
       ) in
-      long_run bs p within long ∙ sym (ap (further start) (long_run window at at_within longer))
+      long_run version bs p within long ∙ sym (ap (further start) (long_run version window at at_within longer))
 
   -- the stretch decides
-  pub called_in_window : called_at bs p ≡ further start (called_at window at)
+  pub called_in_window : called_at version bs p ≡ further start (called_at version window at)
   called_in_window = by_run (run_from bs p == 0) refl (cases_lt 18 (word_end bs p - word_begin bs p)) where
     by_run : (b : Bool) → (run_from bs p == 0) ≡ b → (18 < word_end bs p - word_begin bs p)
-        ⊎ (word_end bs p - word_begin bs p ≤ 18) → called_at bs p ≡ further start (called_at window at)
+        ⊎ (word_end bs p - word_begin bs p ≤ 18) → called_at version bs p ≡ further start (called_at version window at)
     by_run true e size =
         let none : run_from bs p ≡ 0 = is_zero (run_from bs p) e in let run = runs in
         let empty : run_from window at ≡ 0 = omega (arith, run, none) in
-        no_run bs p e ∙ sym (ap (further start) (no_run window at (ap (λ n. n == 0) empty)))
+        no_run version bs p e ∙ sym (ap (further start) (no_run version window at (ap (λ n. n == 0) empty)))
     by_run false e (inl long) = long_call (is_some (run_from bs p) e) long
     by_run false e (inr short) = short_call e (is_some (run_from bs p) e) short
 
 -- what is called in the stretch of a text is called there
-pub called_there : (characters : List ℕ) (text : Text ℕ) (p start : ℕ) (window : List ℕ) (call : Option (Command × ℕ))
+pub called_there : (version : ℕ) (characters : List ℕ) (text : Text ℕ) (p start : ℕ) (window : List ℕ)
+    (call : Option (Command × ℕ))
     → start ≡ p - 18 → p ≤ length text → window ≡ take 37 (drop start (bytes characters text))
-    → call ≡ called_at window (p - start) → further start call ≡ called_at (bytes characters text) p
-called_there characters text p start window call starts within read is =
+    → call ≡ called_at version window (p - start) → further start call ≡ called_at version (bytes characters text) p
+called_there version characters text p start window call starts within read is =
     let size = length-bytes characters text in
-    ap (further start) (is ∙ ap (λ w. called_at w (p - start)) read)
-    ∙ sym (called_in_window (bytes characters text) p start starts (omega (arith, within, size)))
+    ap (further start) (is ∙ ap (λ w. called_at version w (p - start)) read)
+    ∙ sym (called_in_window version (bytes characters text) p start starts (omega (arith, within, size)))
 
 -- ---- the word is the longest run
 

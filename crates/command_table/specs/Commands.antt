@@ -1,5 +1,5 @@
 -- The words that are commands.
-use Rattle.std.specs.Prelude.{ℕ, ◌≡◌, ◌↔◌, List, [], ◌∷◌, Option, Some, codes}
+use Rattle.std.specs.Prelude.{ℕ, ◌≡◌, ◌≤◌, ◌↔◌, ◌&&◌, nat_le, List, [], ◌∷◌, Option, Some, codes}
 use Rattle.std.specs.List.{find}
 use Rattle.std.specs.Str.{bytes_eq}
 use Rattle.command_table.specs.declared.command.Command.{Command}
@@ -9,7 +9,7 @@ use Rattle.command_table.specs.declared.command.Command.TheVariants.{SystemDirec
 use Rattle.command_table.specs.declared.command.Command.TheVariants.{SystemSetFont, SystemSetColor, SystemSetOffset}
 use Rattle.command_table.specs.declared.command.Command.TheVariants.{EditChangeFont, EditChangeColor}
 use Rattle.command_table.specs.declared.command.Command.TheVariants.{EditChangeOffset, EditStore, EditSearch}
-use Rattle.command_table.specs.declared.command.Command.TheVariants.{EditRecall}
+use Rattle.command_table.specs.declared.command.Command.TheVariants.{EditRecall, SystemCollect}
 
 -- the word that calls a command
 abbrev pub word_of : Command → List ℕ
@@ -31,6 +31,7 @@ word_of EditChangeOffset = codes "Edit.ChangeOffset"
 word_of EditStore = codes "Edit.Store"
 word_of EditSearch = codes "Edit.Search"
 word_of EditRecall = codes "Edit.Recall"
+word_of SystemCollect = codes "System.Collect"
 
 -- every command
 unfoldable pub commands : List Command
@@ -38,12 +39,20 @@ commands =
     EditOpen ∷ SystemOpen ∷ SystemOpenLog ∷ SystemClose ∷ SystemRecall ∷ SystemCopy ∷ SystemClear ∷ SystemDirectory ∷
     SystemDeleteFiles ∷
     SystemSetFont ∷ SystemSetColor ∷ SystemSetOffset ∷ EditChangeFont ∷ EditChangeColor ∷ EditChangeOffset ∷ EditStore
-    ∷ EditSearch ∷ EditRecall ∷ []
+    ∷ EditSearch ∷ EditRecall ∷ SystemCollect ∷ []
 
--- the command that a word calls
-unfoldable pub command_named : List ℕ → Option Command
-command_named word = find (λ command. bytes_eq (word_of command) word) commands
+-- the first version of the table that has the command
+abbrev pub since : Command → ℕ
+since SystemCollect = 2
+since command = 1
 
--- a word calls a command exactly where it is the command's own: so each command is found, and no two have one word
+-- the command that a word calls in a version of the table
+unfoldable pub command_named : ℕ → List ℕ → Option Command
+command_named version word =
+    find (λ command. bytes_eq (word_of command) word && nat_le (since command) version) commands
+
+-- A word calls a command exactly where it is the command's own, in the versions that have it: so each command is found,
+-- and no two have one word.
 abbrev pub OneWordEach : Type 0
-OneWordEach = (word : List ℕ) (command : Command) → (command_named word ≡ Some command) ↔ (word ≡ word_of command)
+OneWordEach = (version : ℕ) (word : List ℕ) (command : Command)
+    → (command_named version word ≡ Some command) ↔ ((word ≡ word_of command) × (since command ≤ version))

@@ -3,3 +3,4 @@ pub mod Codes
 pub mod Commands
 pub mod Deciding
 pub mod Parameters
+pub mod Versions

@@ -5,8 +5,9 @@ ghost use Rattle.readers_scanners.specs.Words.{CountsFault, OnlyReads, flat, byt
 ghost use Rattle.event_bytes.specs.Bytes.{is_name_byte};
 ghost use Rattle.command_table.specs.Call.{word_begin, called_at};
 ghost use Rattle.command_table.specs.Parameters.{IsPlace};
+ghost use Rattle.command_table.specs.Versions.{version_number};
 
-use crate::{ArrayVec, CharSource, Command, Fault, Text};
+use crate::{ArrayVec, CharSource, Command, Fault, Text, Version};
 use event_bytes::is_name_byte;
 use readers_scanners::Reader;
 
@@ -16,27 +17,28 @@ const LONGEST: u32 = 18;
 /// How many bytes are looked at: so many before the position, the one there, and so many after it.
 const LOOKED_AT: usize = 37;
 
-/// The command that is called at `pos`, and the position where its parameters begin: the longest run of letters, digits
-/// and periods that holds the character there has to be the command's word, and ends where the parameters begin. None
-/// where there is no such run, as at the end of the text, or where it is no command's word. `Fault`: the source failed
-/// in this call.
+/// The command that is called at `pos` in a version of the table, and the position where its parameters begin: the
+/// longest run of letters, digits and periods that holds the character there has to be the command's word, and ends
+/// where the parameters begin. None where there is no such run, as at the end of the text, or where it is the word of
+/// no command that the version has. `Fault`: the source failed in this call.
 ///
 /// It reads 37 characters at most, however long the run is.
 pub fn called<S: CharSource>(
+    version: Version,
     text: &Text,
     pos: u32,
     source: &mut S,
 ) -> Result<Option<(Command, u32)>, Fault>
     requires { IsPlace (length (S.characters source.old)) (flat text.now, pos) }
     ensures call { IfOk result (λ call. S.honest source.old
-        → call ≡ called_at (bytes (S.characters source.old) (flat text.now)) pos) }
+        → call ≡ called_at (version_number version) (bytes (S.characters source.old) (flat text.now)) pos) }
     ensures range { IfOk result (λ call. IfSome call (λ x. (pos < x.1) × (x.1 ≤ length (flat text.now)))) }
     ensures reads { OnlyReads S.characters S.failures S.honest S.same_ground source.old source.new }
     ensures cause { CountsFault result (S.failures source.old) (S.failures source.new) }
 {
     let start = pos.saturating_sub(LONGEST);
     let window = bytes_from(text, start, source)?;
-    match called_in(window.as_slice(), (pos - start) as usize) {
+    match called_in(version, window.as_slice(), (pos - start) as usize) {
         None => Ok(None),
         Some((command, end)) => Ok(Some((command, start + end as u32))),
     }
@@ -67,11 +69,11 @@ fn bytes_from<S: CharSource>(
     Ok(window)
 }
 
-/// The command that is called at a position of these bytes, and where its word ends.
+/// The command that is called at a position of these bytes in a version of the table, and where its word ends.
 #[tactic(auto, unfolding(crate::specs::Call::called_at))]
-fn called_in(bytes: &[u8], at: usize) -> Option<(Command, usize)>
+fn called_in(version: Version, bytes: &[u8], at: usize) -> Option<(Command, usize)>
     requires { at ≤ length bytes.now }
-    ensures call { result ≡ called_at bytes.now at }
+    ensures call { result ≡ called_at (version_number version) bytes.now at }
     ensures range { IfSome result (λ x. (at < x.1) × (x.1 ≤ length bytes.now)) }
 {
     let run = run_len(&bytes[at..]);
@@ -79,7 +81,7 @@ fn called_in(bytes: &[u8], at: usize) -> Option<(Command, usize)>
         return None;
     }
     let begin = word_begin(bytes, at);
-    let command = Command::named(&bytes[begin..at + run])?;
+    let command = Command::named(version, &bytes[begin..at + run])?;
     Some((command, at + run))
 }
 

@@ -1,6 +1,9 @@
 //! The commands and the words that call them.
 ghost use Rattle.std.specs.Prelude.{◌≡◌};
-ghost use Rattle.command_table.specs.Commands.{word_of, command_named};
+ghost use Rattle.command_table.specs.Commands.{word_of, since, command_named};
+ghost use Rattle.command_table.specs.Versions.{version_number};
+
+use crate::version::Version;
 
 /// What a middle click on a word can call.
 #[derive(Clone, Copy, Debug, PartialEq, Eq)]
@@ -41,10 +44,12 @@ pub enum Command {
     EditSearch,
     /// Inserts what was deleted last.
     EditRecall,
+    /// Gives up the characters that no text has any more.
+    SystemCollect,
 }
 
 /// The number of commands.
-const COUNT: usize = 18;
+const COUNT: usize = 19;
 
 /// Every command.
 const COMMANDS: [Command; COUNT] = [
@@ -66,17 +71,27 @@ const COMMANDS: [Command; COUNT] = [
     Command::EditStore,
     Command::EditSearch,
     Command::EditRecall,
+    Command::SystemCollect,
 ];
 
 impl Command {
-    /// The command that a word calls. None where it calls none: the whole word has to be a command's.
-    pub fn named(word: &[u8]) -> Option<Command>
-        ensures { result ≡ command_named word.now }
+    /// The command that a word calls in a version of the table. None where it calls none: the whole word has to be the
+    /// word of a command that the version has.
+    pub fn named(version: Version, word: &[u8]) -> Option<Command>
+        ensures { result ≡ command_named (version_number version) word.now }
     {
-        COMMANDS
-            .iter()
-            .copied()
-            .find(|command| command.word() == word)
+        let number = version.number();
+        COMMANDS.iter().copied().find(|command| command.word() == word && command.since() <= number)
+    }
+
+    /// The number of the first version of the table that has the command.
+    pub fn since(self) -> u32
+        ensures { result ≡ since self }
+    {
+        match self {
+            Command::SystemCollect => 2,
+            _ => 1,
+        }
     }
 
     /// The word that calls the command.
@@ -102,6 +117,7 @@ impl Command {
             Command::EditStore => b"Edit.Store",
             Command::EditSearch => b"Edit.Search",
             Command::EditRecall => b"Edit.Recall",
+            Command::SystemCollect => b"System.Collect",
         }
     }
 }

@@ -7,7 +7,7 @@ ghost use Rattle.command_table.specs.Deciding.{FirstNamesDecide, most_names};
 ghost use Rattle.command_table.specs.declared.codes.TheConstants.{NO_SELECTION, WRONG_SYMBOL, NO_VIEWER};
 ghost use Rattle.command_table.specs.declared.listing.TheConstants.{MOST_NAMES};
 
-/// Each command has a word of its own, and no other word calls it.
+/// Each command has a word of its own, and no other word calls it, nor does it in a version that hasn't the command.
 pub fn one_word_each()
     ensures { OneWordEach }
 {}

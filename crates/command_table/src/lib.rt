@@ -11,6 +11,7 @@ mod laws;
 mod listing;
 mod symbols;
 mod valuing;
+mod version;
 
 pub use arrayvec::ArrayVec;
 pub use calling::called;
@@ -23,3 +24,4 @@ pub use readers_scanners::Symbol;
 pub use symbols::{name_in, symbol_at};
 pub use text_core::Text;
 pub use valuing::params;
+pub use version::{NEWEST, Version};

@@ -3,7 +3,7 @@
 use crate::random::Random;
 use crate::scene::Scene;
 use crate::search::Search;
-use crate::stores::{after, fresh};
+use crate::stores::{after, aged, fresh};
 use sector_disk::MemoryDisk;
 use std::alloc::{AllocError, Global};
 
@@ -13,7 +13,7 @@ const JOURNAL: u32 = 256;
 /// A tool text, a text in a viewer with a selection that has a look of its own, the log, and the marker.
 const DESK: [&[u8]; 13] = [
     b"file System.Tool Edit.Open A.Text%0dSystem.Recall%0dEdit.Recall%0dSystem.OpenLog%0dEdit.ChangeColor 3%0d\
-Edit.Open D.Text%0dEdit.Search%0dfox%0d\n",
+Edit.Open D.Text%0dEdit.Search%0dfox%0dSystem.Collect%0d\n",
     b"point m 60 31 60 31\n",
     b"point m 52 30 52 30\n",
     b"point l 1 30 1 30\n",
@@ -40,7 +40,7 @@ const DOCUMENTS: [&[u8]; 4] = [
 const LINE: &[u8] = b"a fox jumps on dogs%0d";
 
 /// Events that may follow.
-const LINES: [&[u8]; 26] = [
+const LINES: [&[u8]; 28] = [
     b"type abc\n",
     b"type x%0d\n",
     b"type the quick brown fox jumps over the lazy dog, and the dog over the fox and the fox over it again%0d\n",
@@ -57,12 +57,14 @@ const LINES: [&[u8]; 26] = [
     b"point m 52 29 52 29\n",
     b"point m 52 28 52 28\n",
     b"point m 52 26 52 26\n",
-    // A document in a viewer, a word to search for, the search, and the bar.
+    // A document in a viewer, a word to search for, the search, System.Collect, and the bar.
     b"point m 52 25 52 25\n",
     b"point m 52 25 52 25\n",
     b"point r 51 23 53 23\n",
     b"point m 52 24 52 24\n",
     b"point m 52 24 52 24\n",
+    b"point m 52 22 52 22\n",
+    b"point m 52 22 52 22\n",
     b"point m 0 20 0 20\n",
     b"point m 47 31 47 31\n",
     b"file B.Text other text\n",
@@ -166,12 +168,34 @@ fn full_journal(
     search.try_scene(alloc, &scene)
 }
 
-/// One round: events and checkpoints in both directions, and a full journal in one slot or the other.
+/// Stops the event and the checkpoint that make a store of the first version one of the newest.
+fn migrations(alloc: Global, search: &mut Search, disk: &MemoryDisk) -> Result<(), AllocError> {
+    let old = aged(alloc, disk)?;
+    posts(
+        alloc,
+        search,
+        old,
+        "an event at a store of the first version",
+    )?;
+    let old = aged(alloc, disk)?;
+    checkpoint(
+        alloc,
+        search,
+        old,
+        "a checkpoint of a store of the first version",
+    )?;
+    Ok(())
+}
+
+/// One round: events and checkpoints in both directions, stores of the first version, and a full journal in one slot or
+/// the other.
 fn round(alloc: Global, search: &mut Search, is_odd: bool) -> Result<(), AllocError> {
     let mut disk = paged(alloc, &mut search.random)?;
     disk = posts(alloc, search, disk, "an event in slot 0")?;
+    migrations(alloc, search, &disk)?;
     disk = checkpoint(alloc, search, disk, "a checkpoint from slot 0 to slot 1")?;
     disk = posts(alloc, search, disk, "an event in slot 1")?;
+    migrations(alloc, search, &disk)?;
     disk = checkpoint(alloc, search, disk, "a checkpoint from slot 1 to slot 0")?;
     if is_odd {
         return full_journal(alloc, search, disk, "an event at a full journal in slot 0");

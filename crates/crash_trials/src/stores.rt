@@ -1,7 +1,7 @@
 //! Stores in memory, by the scripts that are played over them.
 
 use oberon_main::{CountedReader, CountedWriter, STORE_SECTORS, Store, play, refuse};
-use sector_disk::{Disk, Fuse, MemoryDisk};
+use sector_disk::{Disk, Fault, Fuse, MemoryDisk};
 use std::alloc::{AllocError, Global};
 
 /// What a store is asked that must be as it was: its files, its viewers, and its screen.
@@ -41,6 +41,32 @@ pub fn after(alloc: Global, disk: &MemoryDisk, script: &[u8]) -> Result<MemoryDi
     let mut said = Vec::new(alloc);
     let disk = played(alloc, disk.crash(alloc, &[])?, script, &mut said);
     disk.crash(alloc, &[])
+}
+
+/// The head of a slot as one of the first version, which has the same image and journal, where it has one of the newest
+/// and its characters stand in area 0.
+fn age_head(disk: &mut MemoryDisk, head: u32) -> Result<(), Fault> {
+    if head >= disk.sectors() {
+        return Err(Fault);
+    }
+    let mut bytes = [0; 1024];
+    disk.read(head, &mut bytes)?;
+    if bytes[3] == 2 && bytes[19] == 0 {
+        bytes[3] = 1;
+        disk.write(head, &bytes)?;
+    }
+    disk.sync()
+}
+
+/// The store as one of the first version, as far as its characters stand in area 0.
+pub fn aged(alloc: Global, disk: &MemoryDisk) -> Result<MemoryDisk, AllocError> {
+    let mut old = disk.crash(alloc, &[])?;
+    for head in [2, 4] {
+        if age_head(&mut old, head).is_err() {
+            return Err(AllocError);
+        }
+    }
+    Ok(old)
 }
 
 /// What a store shows; or why there is none.

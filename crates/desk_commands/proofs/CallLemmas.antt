@@ -10,14 +10,14 @@ use Rattle.command_table.specs.declared.command.Command.{Command}
 use Rattle.desk_commands.specs.declared.calls.ViewerCommand.{ViewerCommand}
 use Rattle.desktop_definitions.specs.declared.call.Call.{Call}
 use Rattle.desktop_definitions.specs.declared.reply.Reply.TheVariants.{No}
-use Rattle.desktop_definitions.specs.Limits.{first_version, no_command, wrong_symbol, no_viewer}
+use Rattle.desktop_definitions.specs.Limits.{no_command, wrong_symbol, no_viewer}
 use Rattle.desktop_definitions.specs.Needs.{needs, given}
 use Rattle.desktop_definitions.specs.Desktop.{Desktop, KeptDesktop}
 use Rattle.desktop_definitions.specs.Change.{bytes_of}
 use Rattle.desktop_laws.specs.LookedLaws.{font_sets_look, colour_sets_look, offset_sets_look}
 use Rattle.desktop_definitions.specs.Seen.{seen}
 use Rattle.desktop_definitions.specs.Sound.{IsOver}
-use Rattle.desktop_definitions.specs.Outcome.{codes}
+use Rattle.desktop_definitions.specs.Outcome.{reply_codes}
 use Rattle.desktop_definitions.specs.Call.{text_called, meant, number_in, value_of, name_of, number_of}
 use Rattle.desktop_definitions.specs.Commands.{command_at, commanded, called}
 use Rattle.desk_commands.specs.Calls.{done_with_name, done_with_number, done_with_viewer}
@@ -33,7 +33,7 @@ pub ruleset looks_set = (font_sets_look, colour_sets_look, offset_sets_look)
 pub refused_given : {S A : Type 0} (s : Ghosts S) (read : Desktop → Result A ℕ)
     (follow : Desktop → A → Result Desktop ℕ) (code : ℕ) (old mid : S) (d : KeptDesktop) {found : Result A ℕ}
     → Reads s old mid → IsOver (s.characters old) d
-    → OneOf codes code → found ≡ Err code → (s.honest old → found ≡ read (seen (s.characters old) d))
+    → OneOf reply_codes code → found ≡ Err code → (s.honest old → found ≡ read (seen (s.characters old) d))
     → Settles s (λ x. given (read x) (follow x)) old mid d d (No code)
 refused_given {A = A} s read follow code old mid d reads over known is exact =
     refused_after s (λ x. given (read x) (follow x)) code old mid d reads over known
@@ -97,8 +97,9 @@ abbrev pub called_by : ℕ → Bool → Desktop → Option (Command × ℕ) → 
 called_by v in_menu x found =
     needs found no_command (λ f. commanded x f.0 (record { viewer = v; in_menu = in_menu; after = f.1 }))
 
-pub called_none : (x : Desktop) (v : ℕ) (in_menu : Bool) (p : ℕ) (found : Option (Command × ℕ)) → found ≡ None
-    → found ≡ command_at first_version (bytes_of (text_called x v in_menu)) p
-    → called first_version x v in_menu p ≡ Err no_command
+pub called_none : (version : ℕ) (x : Desktop) (v : ℕ) (in_menu : Bool) (p : ℕ) (found : Option (Command × ℕ))
+    → found ≡ None
+    → found ≡ command_at version (bytes_of (text_called x v in_menu)) p
+    → called version x v in_menu p ≡ Err no_command
 unfolding called
-called_none x v in_menu p found is found_is = λ k. called_by v in_menu x ((sym found_is ∙ is) k)
+called_none version x v in_menu p found is found_is = λ k. called_by v in_menu x ((sym found_is ∙ is) k)

@@ -1,5 +1,6 @@
 pub mod OpeningLemmas
 pub mod ReadFirst
 pub mod StoredLemmas
+pub mod RewritingLemmas
 pub mod CallLemmas
 pub mod LogLemmas

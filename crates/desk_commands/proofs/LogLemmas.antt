@@ -1,7 +1,7 @@
--- What a source of characters is after some calls that add characters, where none failed, and lines of the log that
--- are made one from each file.
+-- What a source of characters is after some calls of rows, where none failed, and lines of the log that are made one
+-- from each file.
 use Rattle.std.proofs.Common.{◌≡◌, ℕ, length, map, refl, ap, subst, ◌∙◌, arith}
-use Rattle.std.proofs.Common.{List, [], ◌∷◌, ◌++◌, append_assoc}
+use Rattle.std.proofs.Common.{List, [], ◌∷◌}
 use Rattle.std.specs.Prelude.{Result, IsErrOf}
 use Rattle.sector_disk.specs.Faults.{FailsAs}
 use Rattle.char_file.specs.declared.source.CharSource.{Ghosts}
@@ -11,22 +11,16 @@ use Rattle.desktop_definitions.specs.Tables.{Files}
 use Rattle.desktop_laws.specs.TableLaws.{length_seen_text}
 use Rattle.desktop_definitions.specs.Effects.{size_line}
 use Rattle.desktop_definitions.specs.Seen.{seen_table}
-use Rattle.desktop_definitions.specs.Sound.{Grows}
 use Rattle.desktop_definitions.specs.Outcome.{IsSameSource}
 use Rattle.desk_core.specs.declared.stop.Stop.{Stop}
 use Rattle.desk_core.specs.declared.stop.Stop.TheVariants.{Fault}
 use Rattle.desk_core.specs.Stops.{IsStop}
 use Rattle.desk_core.specs.Row.{Uses}
 
--- It grew at most, and nothing failed.
-pub record HasGrown {S : Type 0} (s : Ghosts S) (old new : S) : Type 0 where
-  pub grows : s.honest old → Grows (s.characters old) (s.characters new)
+-- Nothing failed.
+pub record IsCalm {S : Type 0} (s : Ghosts S) (old new : S) : Type 0 where
   pub source : IsSameSource s.failures s.honest s.same_ground old new
   pub calm : s.failures new ≡ s.failures old
-
-grows_on : (a b c : List ℕ) → Grows a b → Grows b c → Grows a c
-grows_on a b c first next =
-    (first.0 ++ next.0, next.1 ∙ ap (λ (l : List ℕ). l ++ next.0) first.1 ∙ append_assoc a first.0 next.0)
 
 module _ {S : Type 0} (s : Ghosts S) where
   module _ (through : (a b c : S) → s.same_ground a b → s.same_ground b c → s.same_ground a c) (a b c : S) where
@@ -39,18 +33,16 @@ module _ {S : Type 0} (s : Ghosts S) where
     }
 
     -- a call more that fails or not
-    pub uses_on : {T : Type 0} (result : Result T Stop) → HasGrown s a b → Uses s result b c → Uses s result a c
+    pub uses_on : {T : Type 0} (result : Result T Stop) → IsCalm s a b → Uses s result b c → Uses s result a c
     uses_on result first next = record {
-      grows = λ h. grows_on _ _ _ (first.grows h) (next.grows (first.source.premise.1 h));
       source = same_on first.source next.source;
       faults = subst (λ (n : ℕ). FailsAs Fault IsStop result n (s.failures c)) first.calm next.faults;
     }
 
     -- and one that doesn't fail
-    pub grown_on : {T : Type 0} (result : Result T Stop) → ¬ IsErrOf result Fault → HasGrown s a b → Uses s result b c
-        → HasGrown s a c
+    pub grown_on : {T : Type 0} (result : Result T Stop) → ¬ IsErrOf result Fault → IsCalm s a b → Uses s result b c
+        → IsCalm s a c
     grown_on result never first next = record {
-      grows = (uses_on result first next).grows;
       source = (uses_on result first next).source;
       calm = next.faults.calm never ∙ first.calm;
     }

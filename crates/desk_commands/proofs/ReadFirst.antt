@@ -12,13 +12,13 @@ use Rattle.desktop_definitions.specs.Desktop.{Desktop, KeptDesktop}
 use Rattle.desktop_definitions.specs.Seen.{seen}
 use Rattle.desktop_definitions.specs.Step.{settled}
 use Rattle.desktop_definitions.specs.Sound.{IsOver}
-use Rattle.desktop_definitions.specs.Outcome.{codes}
+use Rattle.desktop_definitions.specs.Outcome.{reply_codes}
 use Rattle.desktop_laws.specs.OutcomeLaws.{refused}
 use Rattle.desk_core.specs.declared.stop.Stop.{Stop}
 use Rattle.desk_core.specs.declared.stop.Stop.TheVariants.{Fault}
 use Rattle.desk_core.specs.Stops.{IsStop}
 use Rattle.desk_core.specs.Row.{Settles, Uses}
-use Rattle.desk_core.proofs.ReadLemmas.{over_read, read_first, read_answered, read_then_grows, read_then_source}
+use Rattle.desk_core.proofs.ReadLemmas.{over_read, read_first, read_answered, read_then_source}
 
 module _ {S : Type 0} (s : Ghosts S) where
   -- what the reads leave
@@ -66,7 +66,7 @@ module _ {S : Type 0} (s : Ghosts S) where
 
   -- a refusal after the reads
   pub refused_after : (row : Desktop → Result Desktop ℕ) (code : ℕ) (old mid : S) (d : KeptDesktop) → Reads old mid
-      → IsOver (s.characters old) d → OneOf codes code
+      → IsOver (s.characters old) d → OneOf reply_codes code
       → (s.honest old → row (seen (s.characters old) d) ≡ Err code)
       → Settles s row old mid d d (No code)
   unfolding settled
@@ -84,7 +84,6 @@ module _ {S : Type 0} (s : Ghosts S) where
     pub uses_after : {T : Type 0} (old mid new : S) (result : Result T Stop) → Reads old mid
         → s.failures mid ≡ s.failures old → Uses s result mid new → Uses s result old new
     uses_after old mid new result reads calm uses = record {
-      grows = read_then_grows s.characters s.failures s.honest s.same_ground old mid new reads uses.grows;
       source = read_then_source s.characters s.failures s.honest s.same_ground ground_through old mid new reads
           uses.source;
       faults = subst (λ n. FailsAs Fault IsStop result n (s.failures new)) calm uses.faults;

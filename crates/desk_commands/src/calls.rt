@@ -7,7 +7,8 @@ ghost use Rattle.piece_ring.specs.Flat.{flat};
 ghost use Rattle.readers_scanners.specs.Symbol.{IsShaped};
 ghost use Rattle.viewer_tracks.specs.Columns.{IsPlaced};
 ghost use Rattle.command_table.specs.Parameters.{place_of, text_of, listed, first_names};
-ghost use Rattle.desktop_definitions.specs.Limits.{first_version, no_viewer};
+ghost use Rattle.desktop_definitions.specs.Limits.{no_viewer};
+ghost use Rattle.command_table.specs.Versions.{version_number};
 ghost use Rattle.desktop_definitions.specs.Needs.{needs, given};
 ghost use Rattle.desktop_definitions.specs.Call.{text_called, seen_at_marker, meant, number_in};
 ghost use Rattle.desktop_definitions.specs.Call.{value_of, name_of, number_of, names_of};
@@ -16,12 +17,13 @@ ghost use Rattle.desktop_definitions.specs.Commands.{commanded, called};
 ghost use Rattle.desktop_definitions.specs.Effects.{files_deleted};
 ghost use Rattle.desktop_definitions.specs.Seen.{seen};
 ghost use Rattle.desktop_definitions.specs.Sound.{IsKeptWhole, IsOver};
-ghost use Rattle.desktop_definitions.specs.Outcome.{codes as known_codes};
+ghost use Rattle.desktop_definitions.specs.Outcome.{reply_codes as known_codes};
 ghost use Rattle.desk_core.specs.Kept.{kept};
 ghost use Rattle.desk_core.specs.Row.{Settles, Uses};
 ghost use Rattle.desk_commands.specs.Calls.{IsCall, done_with_name, done_with_number, done_with_viewer};
 
 use crate::closings::{close_viewer, recall_viewer};
+use crate::collecting::collect;
 use crate::documents::{copy_viewer, open_document, open_file, open_log};
 use crate::log::{clear_log, log_directory};
 use crate::looks::{change_look, colour_set, font_set, offset_set, set_look};
@@ -29,7 +31,7 @@ use crate::searches::{recall_deleted, search};
 use crate::stores::{delete_files, store};
 use arrayvec::ArrayVec;
 use char_file::{CharSource, Fault};
-use command_table::{Command, MOST_NAMES, called, name_in, names, params};
+use command_table::{Command, MOST_NAMES, Version, called, name_in, names, params};
 use desk_core::desk::Desk;
 use desk_core::stop::Stop;
 use desk_core::viewers::viewer_or_none;
@@ -89,9 +91,11 @@ fn number_in(symbol: &Symbol) -> Option<i32>
     }
 }
 
-/// The word at `pos` of a viewer's menu or main text is called. Refused where it is no command's.
+/// The word at `pos` of a viewer's menu or main text is called. Refused where it is the word of no command that the
+/// version has.
 pub fn call<S: CharSource>(
     desk: &mut Desk,
+    version: Version,
     alloc: Global,
     id: u8,
     in_menu: bool,
@@ -101,11 +105,11 @@ pub fn call<S: CharSource>(
     requires placed { IsPlaced id (kept desk.old).columns }
     requires place { pos ≤ length (flat (text_called (kept desk.old) id in_menu)) }
     requires over { IsOver (S.characters source.old) (kept desk.old) }
-    ensures answered { IfOk result (Settles S.CharSource (λ d. called first_version d id in_menu pos)
+    ensures answered { IfOk result (Settles S.CharSource (λ d. called (version_number version) d id in_menu pos)
         source.old source.new (kept desk.old) (kept desk.new)) }
     ensures uses { Uses S.CharSource result source.old source.new }
 {
-    let found = called(desk.text_called(id, in_menu), pos, source)?;
+    let found = called(version, desk.text_called(id, in_menu), pos, source)?;
     let Some((command, after)) = found else {
         return Ok(Reply::No(codes::NO_COMMAND));
     };
@@ -205,6 +209,7 @@ fn do_command<S: CharSource>(
         Command::SystemClear => clear_log(desk, alloc, source),
         Command::SystemDirectory => log_directory(desk, alloc, source),
         Command::EditRecall => recall_deleted(desk, alloc, source),
+        Command::SystemCollect => collect(desk, alloc, source),
     }
 }
 

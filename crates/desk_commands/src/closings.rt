@@ -3,7 +3,7 @@ ghost use Rattle.std.specs.Prelude.{◌≡◌, IfOk, Ok, option_map};
 ghost use Rattle.viewer_tracks.specs.declared.display.Track.{Track as ATrack};
 ghost use Rattle.viewer_tracks.specs.Columns.{IsPlaced};
 ghost use Rattle.viewer_tracks.specs.Display.{left_of};
-ghost use Rattle.viewer_tracks.specs.Viewers.{number_of};
+ghost use Rattle.viewer_tracks.specs.Viewers.{id_number};
 ghost use Rattle.desktop_definitions.specs.Limits.{no_viewer};
 ghost use Rattle.desktop_definitions.specs.Needs.{needs};
 ghost use Rattle.desktop_definitions.specs.Effects.{put_away, brought_back};
@@ -31,7 +31,7 @@ fn track_from(left: u8) -> Track
 
 /// The viewer that is kept, where one is.
 fn viewer_kept(kept: Option<Kept>) -> Option<ViewerId>
-    ensures { number_of result ≡ option_map (λ k. k.viewer) kept }
+    ensures { id_number result ≡ option_map (λ k. k.viewer) kept }
 {
     kept.map(|kept| ViewerId(kept.viewer))
 }

@@ -3,9 +3,11 @@
 
 pub mod calls;
 mod closings;
+mod collecting;
 pub mod documents;
 mod log;
 mod looks;
 mod openings;
+mod rewriting;
 mod searches;
 mod stores;

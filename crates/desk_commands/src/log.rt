@@ -37,14 +37,14 @@ use text_core::Buffer;
 use viewer_tracks::ViewerId;
 
 /// A line of the log, with the carriage return that ends it.
-pub type Line = ArrayVec<u8, 64>;
+pub type LogLine = ArrayVec<u8, 64>;
 
 /// A word, a name, and a carriage return.
-fn named_line(word: &[u8], name: &Name) -> Line
+fn named_line(word: &[u8], name: &Name) -> LogLine
     requires { length word.now < 20 }
     ensures { result.items ≡ line (word.now ++ name.now) }
 {
-    let mut text = Line::new();
+    let mut text = LogLine::new();
     text.try_extend_from_slice(word).unwrap();
     text.try_extend_from_slice(name.as_bytes()).unwrap();
     text.push(b'\r');
@@ -52,12 +52,12 @@ fn named_line(word: &[u8], name: &Name) -> Line
 }
 
 /// A word, a name, a space and a number, and a carriage return.
-fn sized_line(word: &[u8], name: &Name, size: u32) -> Line
+fn sized_line(word: &[u8], name: &Name, size: u32) -> LogLine
     requires { length word.now < 20 }
     ensures { result.items ≡ line (word.now ++ (name.now ++ space ∷ decimal size)) }
 {
     let mut digits = itoa::Buffer::new();
-    let mut text = Line::new();
+    let mut text = LogLine::new();
     text.try_extend_from_slice(word).unwrap();
     text.try_extend_from_slice(name.as_bytes()).unwrap();
     text.push(b' ');
@@ -68,21 +68,21 @@ fn sized_line(word: &[u8], name: &Name, size: u32) -> Line
 }
 
 /// The line of a file that was stored.
-pub fn storing_line(name: &Name, size: u32) -> Line
+pub fn storing_line(name: &Name, size: u32) -> LogLine
     ensures { result.items ≡ storing_line name.now size }
 {
     sized_line(b"Edit.Store ", name, size)
 }
 
 /// The line of a file that was deleted.
-pub fn deleting_line(name: &Name) -> Line
+pub fn deleting_line(name: &Name) -> LogLine
     ensures { result.items ≡ deleting_line name.now }
 {
     named_line(b"System.DeleteFiles ", name)
 }
 
 /// A line for each file, by rising names. NoMemory where an allocation is refused.
-fn directory_lines(alloc: Global, files: &Files) -> Result<Vec<Line>, NoMemory>
+fn directory_lines(alloc: Global, files: &Files) -> Result<Vec<LogLine>, NoMemory>
     ensures { IfOk result (λ lines. (characters : List ℕ) → bytes_of_lines lines.items
         ≡ map (λ file. size_line file.0 (length file.1)) (seen_table characters files.now.entries)) }
 {
@@ -94,7 +94,7 @@ fn directory_lines(alloc: Global, files: &Files) -> Result<Vec<Line>, NoMemory>
 }
 
 /// How many characters lines have.
-pub fn total(lines: &[Line]) -> usize
+pub fn total(lines: &[LogLine]) -> usize
     requires { length lines.now ≤ 257 }
     ensures value { result ≡ total lines.now }
     ensures few { result < 2 ^ 16 }
@@ -174,7 +174,7 @@ fn log_len(desk: &Desk) -> u32
 pub fn log_lines<S: CharSource>(
     desk: &mut Desk,
     alloc: Global,
-    lines: &[Line],
+    lines: &[LogLine],
     source: &mut S,
 ) -> Result<(), Stop>
     requires stands { IsStanding (S.characters source.old) (kept desk.old) }

@@ -8,7 +8,7 @@ ghost use Rattle.std.specs.BTreeMap.{insert_entry};
 ghost use Rattle.piece_ring.specs.Flat.{flat};
 ghost use Rattle.piece_ring.specs.Text.{Text as AText};
 ghost use Rattle.viewer_tracks.specs.declared.display.TheConstants.{COLUMNS};
-ghost use Rattle.viewer_tracks.specs.Viewers.{number_of};
+ghost use Rattle.viewer_tracks.specs.Viewers.{id_number};
 ghost use Rattle.viewer_tracks.specs.Columns.{replaced_at, times_meant};
 ghost use Rattle.desktop_definitions.specs.Limits.{most_written, most_held};
 ghost use Rattle.desktop_definitions.specs.Tables.{lengths};
@@ -28,7 +28,7 @@ use desk_core::desk::Desk;
 use desk_core::held::{lengths, within_limits};
 use desk_core::stop::NoMemory;
 use desk_core::tables::{unused_id, unused_number};
-use desk_core::viewers::{Texts, Viewers};
+use desk_core::viewers::{Texts, ViewerTable};
 use desktop_definitions::Viewer;
 use std::alloc::Global;
 use std::collections::BTreeMap;
@@ -48,7 +48,7 @@ pub fn copy_of(alloc: Global, text: &Text) -> Result<Text, NoMemory>
 
 /// Whether a viewer is the one that goes.
 fn is_taken(gone: Option<ViewerId>, id: u8) -> bool
-    ensures { result ≡ is_taken (number_of gone) id }
+    ensures { result ≡ is_taken (id_number gone) id }
 {
     match gone {
         Some(gone) => gone.0 == id,
@@ -57,16 +57,16 @@ fn is_taken(gone: Option<ViewerId>, id: u8) -> bool
 }
 
 /// Whether a viewer but the one that goes shows the text of that number.
-fn is_still_shown(viewers: &Viewers, gone: Option<ViewerId>, number: u16) -> bool
-    ensures { result ≡ still_shown (number_of gone) viewers.now.items number }
+fn is_still_shown(viewers: &ViewerTable, gone: Option<ViewerId>, number: u16) -> bool
+    ensures { result ≡ still_shown (id_number gone) viewers.now.items number }
 {
     viewers.iter().any(|entry| !is_taken(gone, entry.0)
         && (entry.1.menu == number || entry.1.main == number))
 }
 
 /// How many characters of a text stay once a viewer is gone: all, or none where nobody else shows it.
-fn length_left(viewers: &Viewers, gone: Option<ViewerId>, number: u16, text: &Text) -> usize
-    ensures { result ≡ (if (number == 0) || still_shown (number_of gone) viewers.now.items number
+fn length_left(viewers: &ViewerTable, gone: Option<ViewerId>, number: u16, text: &Text) -> usize
+    ensures { result ≡ (if (number == 0) || still_shown (id_number gone) viewers.now.items number
         then length (flat text.now) else 0) }
 {
     if number == 0 || is_still_shown(viewers, gone, number) {
@@ -77,9 +77,9 @@ fn length_left(viewers: &Viewers, gone: Option<ViewerId>, number: u16, text: &Te
 }
 
 /// How many characters the texts have that stay once a viewer is gone.
-fn lengths_left(texts: &BTreeMap<u16, Text>, viewers: &Viewers, gone: Option<ViewerId>) -> usize
+fn lengths_left(texts: &BTreeMap<u16, Text>, viewers: &ViewerTable, gone: Option<ViewerId>) -> usize
     requires { lengths (seen_table [] texts.now.entries) ≤ most_held }
-    ensures { result ≡ kept_left (λ n. (n == 0) || still_shown (number_of gone) viewers.now.items n) texts.now.entries }
+    ensures { result ≡ kept_left (λ n. (n == 0) || still_shown (id_number gone) viewers.now.items n) texts.now.entries }
 {
     let mut sum = 0;
     for (number, text) in texts {
@@ -111,7 +111,7 @@ pub fn add_text(texts: &mut Texts, text: Text) -> Result<u16, NoMemory>
 }
 
 /// A viewer of a new id comes into the table. NoMemory where an allocation is refused.
-fn add_viewer(viewers: &mut Viewers, id: u8, viewer: Viewer) -> Result<(), NoMemory>
+fn add_viewer(viewers: &mut ViewerTable, id: u8, viewer: Viewer) -> Result<(), NoMemory>
     requires { viewer_in viewers.old.items id ≡ None }
     ensures { OnOk result (viewers.new.items ≡ insert_entry nat_cmp viewers.old.items id viewer) }
 {
@@ -124,7 +124,7 @@ fn add_viewer(viewers: &mut Viewers, id: u8, viewer: Viewer) -> Result<(), NoMem
 fn held_without(desk: &Desk, gone: Option<ViewerId>) -> usize
     requires { IsKeptWhole (kept desk.now) }
     ensures held { (characters : List ℕ)
-        → result ≡ held (dropped (without_viewer (seen characters (kept desk.now)) (number_of gone))) }
+        → result ≡ held (dropped (without_viewer (seen characters (kept desk.now)) (id_number gone))) }
     ensures few { result ≤ most_held }
 {
     let texts = lengths_left(&desk.texts, &desk.viewers, gone);

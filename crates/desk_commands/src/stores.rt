@@ -18,7 +18,7 @@ ghost use Rattle.desk_core.specs.Kept.{kept};
 ghost use Rattle.desk_core.specs.Row.{Settles, Uses};
 ghost use Rattle.desk_commands.specs.Lines.{bytes_of_lines};
 
-use crate::log::{Line, deleting_line, log_line, log_lines, storing_line, total};
+use crate::log::{LogLine, deleting_line, log_line, log_lines, storing_line, total};
 use crate::openings::copy_of;
 use char_file::{CharSource, Fault};
 use command_table::{name_in, symbol_at};
@@ -82,7 +82,7 @@ fn lengths_of(files: &Files, names: &[Name]) -> usize
 }
 
 /// A line for each name. NoMemory where an allocation is refused.
-fn deleting_lines(alloc: Global, names: &[Name]) -> Result<Vec<Line>, NoMemory>
+fn deleting_lines(alloc: Global, names: &[Name]) -> Result<Vec<LogLine>, NoMemory>
     ensures { IfOk result (λ lines. bytes_of_lines lines.items ≡ map deleting_line names.now) }
 {
     let mut lines = Vec::new(alloc);

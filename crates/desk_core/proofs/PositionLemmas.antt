@@ -14,14 +14,14 @@ use Rattle.readers_scanners.specs.Reading.{bytes, contents}
 use Rattle.viewer_tracks.specs.Columns.{placed_top, StandsAt, IsPlaced}
 use Rattle.text_frames.specs.Lines.{greatest, line_start}
 use Rattle.text_frames.specs.Cells.{row_of, column_of, comes_by, stands_by, position_at, is_inside, cell_of}
-use Rattle.desktop_definitions.specs.declared.area.Area.TheVariants.{Menu, Bar, Body}
+use Rattle.desktop_definitions.specs.declared.region.Region.TheVariants.{Menu, Bar, Body}
 use Rattle.desktop_definitions.specs.declared.viewer.Viewer.{Viewer}
 use Rattle.desktop_definitions.specs.declared.viewer.Selection.{Selection}
 use Rattle.desktop_definitions.specs.Tables.{Texts, numbered}
 use Rattle.desktop_definitions.specs.Desktop.{KeptDesktop}
-use Rattle.desktop_definitions.specs.Viewers.{no_viewer, viewer_in, viewer_or_none, text_in, rows_of, main_of}
+use Rattle.desktop_definitions.specs.Viewers.{bare_viewer, viewer_in, viewer_or_none, text_in, rows_of, main_of}
 use Rattle.desktop_definitions.specs.Change.{bytes_of}
-use Rattle.desktop_definitions.specs.Gesture.{area_at, part_of, left, frame_row, IsAreaOf}
+use Rattle.desktop_definitions.specs.Gesture.{region_at, part_of, left, frame_row, IsRegionOf}
 use Rattle.desktop_definitions.specs.Gesture.{text_column, text_row, text_position, stretch_drawn}
 use Rattle.desktop_definitions.specs.Seen.{seen, seen_table}
 use Rattle.desktop_laws.specs.SeenLaws.{within_counted}
@@ -32,19 +32,19 @@ use Rattle.desk_core.specs.Mouse.{position_in, start_of_row, start_of_share}
 
 -- ---- cells of the display
 
-pub area_seen : (characters : List ℕ) (d : KeptDesktop) (x y : ℕ) → area_at (seen characters d) x y ≡ area_at d x y
-unfolding area_at seen
-area_seen characters d x y = refl
+pub region_seen : (characters : List ℕ) (d : KeptDesktop) (x y : ℕ) → region_at (seen characters d) x y ≡ region_at d x y
+unfolding region_at seen
+region_seen characters d x y = refl
 
 stands_in : (d : KeptDesktop) (v y : ℕ) (top first : Bool) → IsPlaced v d.columns
     → (top ≡ false → frame_row d v y < rows_of d v)
-    → IsAreaOf d y (if top then Menu v else (if first then Bar v else Body v))
+    → IsRegionOf d y (if top then Menu v else (if first then Bar v else Body v))
 stands_in d v y true first placed low = placed
 stands_in d v y false true placed low = (placed, low refl)
 stands_in d v y false false placed low = (placed, low refl)
 
-pub area_stands : (d : KeptDesktop) (v x y : ℕ) → StandsAt d.columns v x y → IsAreaOf d y (part_of d x y (Some v))
-area_stands d v x y stands =
+pub region_stands : (d : KeptDesktop) (v x y : ℕ) → StandsAt d.columns v x y → IsRegionOf d y (part_of d x y (Some v))
+region_stands d v x y stands =
     stands_in d v y (y + 1 == placed_top d.columns v) (x == left d v) stands.placed
     (λ below. elim (eqb_tells (y + 1) (placed_top d.columns v)) [
       | inl here ↦ absurd (let no : true ≡ false = sym here.0 ∙ below in cc no)
@@ -79,7 +79,7 @@ never_none d v viewer whole placed is none =
 
 org_or_none : {X : Type 0} (texts : Texts (List X)) (found : Option Viewer)
     → ((x : Viewer) → found ≡ Some x → x.org ≤ length (text_in texts x.main))
-    → (unwrap_or found no_viewer).org ≤ length (text_in texts (unwrap_or found no_viewer).main)
+    → (unwrap_or found bare_viewer).org ≤ length (text_in texts (unwrap_or found bare_viewer).main)
 org_or_none texts None each = omega arith
 org_or_none texts (Some x) each = each x refl
 

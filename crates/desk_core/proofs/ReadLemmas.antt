@@ -10,7 +10,7 @@ use Rattle.desktop_definitions.specs.Desktop.{Desktop, KeptDesktop}
 use Rattle.desktop_definitions.specs.Viewers.{text_in, viewer_or_none, with_org}
 use Rattle.desktop_definitions.specs.Seen.{seen}
 use Rattle.desktop_definitions.specs.Step.{settled}
-use Rattle.desktop_definitions.specs.Sound.{IsOver, Grows}
+use Rattle.desktop_definitions.specs.Sound.{IsOver}
 use Rattle.desktop_definitions.specs.Outcome.{IsAnswered, IsSameSource}
 use Rattle.desktop_laws.specs.RowLaws.{row_answered, fewer_answered, changed_as, over_built}
 use Rattle.desktop_laws.specs.MarkLaws.{with_org_changed}
@@ -68,11 +68,6 @@ read_first F a b H G old mid new d after result so long same is answered =
 
 module _ {S : Type 0} (characters : S → List ℕ) (failures : S → ℕ) (honest : S → Type 0)
     (same_ground : S → S → Type 0) where
-  pub read_then_grows : (a b c : S) → OnlyReads characters failures honest same_ground a b
-      → (honest b → Grows (characters b) (characters c)) → honest a → Grows (characters a) (characters c)
-  read_then_grows a b c reads grows h =
-      subst (λ (l : List ℕ). Grows l (characters c)) (reads.same h) (grows (reads.still h))
-
   module _ (ground_through : (a b c : S) → same_ground a b → same_ground b c → same_ground a c) (a b c : S) where
     pub read_then_source : OnlyReads characters failures honest same_ground a b
         → IsSameSource failures honest same_ground b c → IsSameSource failures honest same_ground a c

@@ -19,7 +19,7 @@ use Rattle.desktop_definitions.specs.Looks.{AreLooks}
 use Rattle.desktop_definitions.specs.Seen.{seen}
 use Rattle.desktop_definitions.specs.Step.{settled}
 use Rattle.desktop_definitions.specs.Sound.{IsKeptWhole, IsBuilt, IsOver}
-use Rattle.desktop_definitions.specs.Outcome.{IsAnswered, codes}
+use Rattle.desktop_definitions.specs.Outcome.{IsAnswered, reply_codes}
 use Rattle.desktop_laws.specs.RowLaws.{over_built, main_kept}
 use Rattle.desktop_laws.specs.MarkLaws.{with_selection_changed}
 use Rattle.desktop_laws.specs.SearchLaws.{buffer_small, buffer_looks}
@@ -111,7 +111,7 @@ buffer_goes {old} {d} {copy} deleted v over is = record {
 -- ---- refusals
 
 pub refused_row : {H : Type 0} {old : List ℕ} {d : KeptDesktop} {row : Result Desktop ℕ} {code : ℕ} → IsOver old d
-    → OneOf codes code → row ≡ Err code → IsAnswered H old old d d (settled (seen old d) row) (No code)
+    → OneOf reply_codes code → row ≡ Err code → IsAnswered H old old d d (settled (seen old d) row) (No code)
 refused_row {H} {old} {d} {row} {code} over known is = refusal_answered H old d row code over known is
 
 -- ---- rows of a frame

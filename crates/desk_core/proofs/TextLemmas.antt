@@ -18,7 +18,7 @@ use Rattle.desktop_definitions.specs.declared.viewer.Viewer.{Viewer}
 use Rattle.desktop_definitions.specs.declared.viewer.Selection.{Selection}
 use Rattle.desktop_definitions.specs.Tables.{Texts, numbered, with_values}
 use Rattle.desktop_definitions.specs.Desktop.{Desktop, KeptDesktop}
-use Rattle.desktop_definitions.specs.Viewers.{no_viewer, viewer_in, viewer_or_none, text_in, shows, unmarked}
+use Rattle.desktop_definitions.specs.Viewers.{bare_viewer, viewer_in, viewer_or_none, text_in, shows, unmarked}
 use Rattle.desktop_definitions.specs.Viewers.{with_selection}
 use Rattle.desktop_definitions.specs.Viewers.{rows_of, with_caret}
 use Rattle.desktop_definitions.specs.Change.{followed, insertion, deletion, looks_set, caret_shown}
@@ -190,7 +190,7 @@ module _ (characters : List ℕ) (d : KeptDesktop) (v : ℕ) (built : IsBuilt (l
     (placed : IsPlaced v d.columns) where
   viewer_there : viewer_in d.viewers v ≡ Some (viewer_or_none d.viewers v)
   unfolding seen
-  viewer_there = is_there (viewer_in d.viewers v) no_viewer
+  viewer_there = is_there (viewer_in d.viewers v) bare_viewer
       (once_there (is_some (viewer_in d.viewers v)) (times_placed v d.columns)
       (times_meant v (option_map (λ k. k.viewer) d.kept)) placed ((built.shaped characters).places.once v))
 

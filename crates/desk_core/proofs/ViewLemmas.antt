@@ -6,7 +6,7 @@ use Rattle.std.specs.Option.{unwrap_or}
 use Rattle.viewer_tracks.specs.Columns.{IsPlaced}
 use Rattle.desktop_definitions.specs.Tables.{numbered}
 use Rattle.desktop_definitions.specs.Desktop.{KeptDesktop}
-use Rattle.desktop_definitions.specs.Viewers.{viewer_in, viewer_or_none, no_viewer}
+use Rattle.desktop_definitions.specs.Viewers.{viewer_in, viewer_or_none, bare_viewer}
 use Rattle.desktop_definitions.specs.Seen.{seen, seen_table}
 use Rattle.desktop_definitions.specs.Sound.{IsViewer, IsKeptWhole}
 use Rattle.desktop_laws.specs.TextLaws.{text_there}
@@ -32,7 +32,7 @@ module _ (d : KeptDesktop) (whole : IsKeptWhole d) where
       → IsViewer (seen_table [] d.texts) d.viewers v (viewer_or_none d.viewers v)
   unfolding seen
   placed_viewer v placed =
-      (whole.sound []).shaped.viewers.each v (viewer_or_none d.viewers v) (the_one (viewer_in d.viewers v) no_viewer
+      (whole.sound []).shaped.viewers.each v (viewer_or_none d.viewers v) (the_one (viewer_in d.viewers v) bare_viewer
       (placed_is v placed))
 
   pub menu_there : (v : ℕ) → IsPlaced v d.columns → IsSome (numbered d.texts (viewer_or_none d.viewers v).menu)

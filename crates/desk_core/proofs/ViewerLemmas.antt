@@ -13,9 +13,9 @@ use Rattle.std.proofs.lemmas.List.{length-set, get_or-set_same, get_or-set_other
 use Rattle.piece_ring.specs.Text.{Text}
 use Rattle.readers_scanners.specs.Reading.{bytes}
 use Rattle.text_frames.specs.declared.frame.Frame.{Frame}
-use Rattle.text_frames.specs.Rules.{with_org, cleared, changed_org, shown_org, IsFollowed, IsBrought}
+use Rattle.text_frames.specs.Rules.{frame_from, cleared, changed_org, shown_org, IsFollowed, IsBrought}
 use Rattle.desktop_definitions.specs.declared.viewer.Viewer.{Viewer}
-use Rattle.desktop_definitions.specs.Viewers.{no_viewer, viewer_in, viewer_or_none}
+use Rattle.desktop_definitions.specs.Viewers.{bare_viewer, viewer_in, viewer_or_none}
 use Rattle.desktop_laws.specs.ShapeLaws.{at_here, at_other, IsMoved, AreMoved}
 
 abbrev pub Entries : Type 0
@@ -80,7 +80,7 @@ module _ (xs : Entries) (at id : ℕ) (d : ℕ × Viewer) (low : at < length xs)
     pub org_there : (org : ℕ) → set xs at ((get_or xs at d).0, record (get_or xs at d).1 { org = org })
         ≡ set_value (is_at (nat_cmp id)) xs (record (viewer_or_none xs id) { org = org })
     org_there org = set_there (record (get_or xs at d).1 { org = org })
-        ∙ ap (λ (o : Option Viewer). set_value (is_at (nat_cmp id)) xs (record (unwrap_or o no_viewer) { org = org }))
+        ∙ ap (λ (o : Option Viewer). set_value (is_at (nat_cmp id)) xs (record (unwrap_or o bare_viewer) { org = org }))
         (sym found_there)
 
 -- the viewer of an id was found, and shows its text from elsewhere on
@@ -154,7 +154,7 @@ pub followed_org : (H : Type 0) (characters : List ℕ) (text : Text ℕ) (p mor
 followed_org H characters text p more fewer old new some is h =
     ap (λ (f : Frame). f.org) (is.exact h)
     ∙ ap (λ b. (let f : Frame = cond b old
-    (with_org (cleared old) (changed_org (bytes characters text) p more fewer old.org)) in f.org))
+    (frame_from (cleared old) (changed_org (bytes characters text) p more fewer old.org)) in f.org))
     (ne_eqb (more + fewer) 0 (λ none. omega (arith, some, none)))
 
 pub brought_org : (H : Type 0) (characters : List ℕ) (text : Text ℕ) (h p : ℕ) (old new : Frame)

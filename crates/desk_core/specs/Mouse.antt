@@ -1,4 +1,4 @@
--- What the keys of the mouse do, area by area, where what is read at the cells is known.
+-- What the keys of the mouse do, region by region, where what is read at the cells is known.
 use Rattle.std.specs.Prelude.{ℕ, ◌==◌, if◌then◌else◌, length, ◌*◌, ◌/◌, true, false, Option, Some, None, Result, Ok}
 use Rattle.event_bytes.specs.declared.keys.Keys.{Keys}
 use Rattle.event_bytes.specs.declared.keys.Keys.TheVariants.{Left, LeftMiddle, LeftRight, Middle, Right, RightLeft}
@@ -6,7 +6,6 @@ use Rattle.event_bytes.specs.declared.keys.Keys.TheVariants.{RightMiddle}
 use Rattle.text_frames.specs.Lines.{line_start}
 use Rattle.text_frames.specs.Cells.{position_at, row_of}
 use Rattle.desktop_definitions.specs.declared.viewer.Selection.{Selection}
-use Rattle.desktop_definitions.specs.Limits.{first_version}
 use Rattle.desktop_definitions.specs.Desktop.{Desktop}
 use Rattle.desktop_definitions.specs.Viewers.{viewer_of, main_of, rows_of, with_org, with_caret}
 use Rattle.desktop_definitions.specs.Change.{bytes_of}
@@ -32,17 +31,17 @@ start_of_row d v row =
 unfoldable pub start_of_share : Desktop → ℕ → ℕ → ℕ
 start_of_share d v row = line_start (bytes_of (main_of d v)) (length (main_of d v) * row / rows_of d v)
 
--- ---- what is done
+-- ---- what is done, in a version of the table of commands where a word may be called
 
 unfoldable pub done_in_filler : Desktop → Keys → ℕ → ℕ → Result Desktop ℕ
 done_in_filler d Middle x y = tool_opened d x y
 done_in_filler d keys x y = Ok d
 
-unfoldable pub done_in_menu : Desktop → Keys → ℕ → ℕ → ℕ → Result Desktop ℕ
-done_in_menu d Left v x y = Ok (resized d v y)
-done_in_menu d LeftMiddle v x y = Ok (carried d v x y)
-done_in_menu d Middle v x y = called first_version d v true (menu_position d v x)
-done_in_menu d keys v x y = Ok d
+unfoldable pub done_in_menu : ℕ → Desktop → Keys → ℕ → ℕ → ℕ → Result Desktop ℕ
+done_in_menu version d Left v x y = Ok (resized d v y)
+done_in_menu version d LeftMiddle v x y = Ok (carried d v x y)
+done_in_menu version d Middle v x y = called version d v true (menu_position d v x)
+done_in_menu version d keys v x y = Ok d
 
 unfoldable pub done_in_bar : Desktop → Keys → ℕ → ℕ → Result Desktop ℕ
 done_in_bar d Left v row = Ok (scrolled_to_row d v row)
@@ -51,12 +50,12 @@ done_in_bar d Right v row = Ok (with_org d v 0)
 done_in_bar d keys v row = Ok d
 
 -- at a position of a text
-unfoldable pub done_at : Desktop → Keys → ℕ → ℕ → Result Desktop ℕ
-done_at d Left v p = Ok (with_caret d v p)
-done_at d LeftMiddle v p = copied_to d v p
-done_at d LeftRight v p = looks_taken d v p
-done_at d Middle v p = called first_version d v false p
-done_at d keys v p = Ok d
+unfoldable pub done_at : ℕ → Desktop → Keys → ℕ → ℕ → Result Desktop ℕ
+done_at version d Left v p = Ok (with_caret d v p)
+done_at version d LeftMiddle v p = copied_to d v p
+done_at version d LeftRight v p = looks_taken d v p
+done_at version d Middle v p = called version d v false p
+done_at version d keys v p = Ok d
 
 -- with a stretch of it that was drawn
 unfoldable pub done_with : Desktop → Keys → Selection → Result Desktop ℕ

@@ -7,7 +7,6 @@ use Rattle.desktop_definitions.specs.Desktop.{Desktop, KeptDesktop}
 use Rattle.desktop_definitions.specs.Seen.{seen}
 use Rattle.desktop_definitions.specs.Step.{settled}
 use Rattle.desktop_definitions.specs.Unread.{grown}
-use Rattle.desktop_definitions.specs.Sound.{Grows}
 use Rattle.desktop_definitions.specs.Outcome.{IsAnswered, IsSameSource}
 use Rattle.desk_core.specs.declared.stop.Stop.{Stop}
 use Rattle.desk_core.specs.declared.stop.Stop.TheVariants.{Fault}
@@ -36,8 +35,6 @@ module _ {S : Type 0} (s : Ghosts S) where
 
   -- Of the source of characters, whatever is returned.
   pub record Uses {T : Type 0} (result : Result T Stop) (old new : S) : Type 0 where
-    -- an honest one has the same characters as before, and more at most
-    pub grows : s.honest old → Grows (s.characters old) (s.characters new)
     pub source : IsSameSource s.failures s.honest s.same_ground old new
     -- which errors there are, and that it failed exactly where the call says so
     pub faults : FailsAs Fault IsStop result (s.failures old) (s.failures new)

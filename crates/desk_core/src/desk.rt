@@ -13,7 +13,7 @@ ghost use Rattle.desk_core.specs.Kept.{kept};
 use crate::files::Files;
 use crate::held::lengths;
 use crate::stop::NoMemory;
-use crate::viewers::Viewers;
+use crate::viewers::ViewerTable;
 use arrayvec::ArrayVec;
 use desktop_definitions::{Caret, Kept, MOST_PATTERN, Selection};
 use piece_ring::{DEFAULT_LOOK, Look};
@@ -32,7 +32,7 @@ pub struct Desk {
     /// Texts by number, of which text 0 is the log.
     pub texts: BTreeMap<u16, Text>,
     /// Viewers by rising ids, the one that was closed last among them.
-    pub viewers: Viewers,
+    pub viewers: ViewerTable,
     /// Where they stand on the display.
     pub tracks: Tracks,
     /// The caret, if a viewer has it.
@@ -52,7 +52,7 @@ pub struct Desk {
     pub pattern: ArrayVec<u8, PATTERN>,
     /// The look in which characters are typed.
     pub look: Look,
-    /// How many characters were ever written.
+    /// How many characters count as written.
     pub written: u32,
 }
 

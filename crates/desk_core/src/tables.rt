@@ -4,13 +4,13 @@ ghost use Rattle.std.specs.List.{list_any, position_or_len};
 ghost use Rattle.std.specs.Map.{remove_entry, keys_of};
 ghost use Rattle.std.specs.Ordering.{nat_cmp};
 ghost use Rattle.std.specs.BTreeMap.{is_at};
-ghost use Rattle.viewer_tracks.specs.Viewers.{number_of};
+ghost use Rattle.viewer_tracks.specs.Viewers.{id_number};
 ghost use Rattle.desktop_definitions.specs.Viewers.{caret_outside, selections_outside, unmarked, without_viewer};
 ghost use Rattle.desktop_definitions.specs.Opening.{dropped, least_unused};
 ghost use Rattle.desk_core.specs.Kept.{kept};
 
 use crate::desk::Desk;
-use crate::viewers::Viewers;
+use crate::viewers::ViewerTable;
 use desktop_definitions::{Caret, Selection, Viewer};
 use std::collections::BTreeMap;
 use std::vec::Vec;
@@ -28,7 +28,7 @@ fn place_of(viewers: &[(u8, Viewer)], id: u8) -> usize
 }
 
 /// The viewer of that id goes from the table. Where there is none nothing changes.
-fn remove_viewer(viewers: &mut Viewers, id: u8)
+fn remove_viewer(viewers: &mut ViewerTable, id: u8)
     ensures { viewers.new.items ≡ remove_entry (is_at (nat_cmp id)) viewers.old.items }
 {
     let at = place_of(viewers.as_slice(), id);
@@ -55,7 +55,7 @@ pub fn unselect(selections: &mut Vec<Selection>, id: u8)
 }
 
 /// Whether a viewer shows the text of that number.
-pub fn is_in_sight(viewers: &Viewers, number: u16) -> bool
+pub fn is_in_sight(viewers: &ViewerTable, number: u16) -> bool
     ensures { result ≡ list_any (λ e. (e.1.menu == number) || (e.1.main == number)) viewers.now.items }
 {
     viewers
@@ -120,7 +120,7 @@ impl Desk {
 
     /// A viewer that lost its whole place goes, where there is one, and the texts that nobody shows then.
     pub fn let_go(&mut self, gone: Option<ViewerId>)
-        ensures { kept self.new ≡ dropped (without_viewer (kept self.old) (number_of gone)) }
+        ensures { kept self.new ≡ dropped (without_viewer (kept self.old) (id_number gone)) }
     {
         if let Some(gone) = gone {
             self.remove_viewer(gone.0);

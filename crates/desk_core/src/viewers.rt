@@ -26,13 +26,13 @@ use text_core::Text;
 use text_frames::Frame;
 
 /// Viewers by rising ids.
-pub type Viewers = Vec<(u8, Viewer)>;
+pub type ViewerTable = Vec<(u8, Viewer)>;
 
 /// Texts by number.
 pub type Texts = BTreeMap<u16, Text>;
 
 /// The viewer of that id. None where there is none.
-pub fn viewer_of(viewers: &Viewers, id: u8) -> Option<Viewer>
+pub fn viewer_of(viewers: &ViewerTable, id: u8) -> Option<Viewer>
     ensures { result ≡ viewer_in viewers.now.items id }
 {
     for (number, viewer) in viewers {
@@ -44,7 +44,7 @@ pub fn viewer_of(viewers: &Viewers, id: u8) -> Option<Viewer>
 }
 
 /// The viewer of that id shows its main text from that position on. Where there is no such viewer nothing changes.
-pub fn set_org(viewers: &mut Viewers, id: u8, org: u32)
+pub fn set_org(viewers: &mut ViewerTable, id: u8, org: u32)
     ensures { viewers.new.items ≡ set_value (is_at (nat_cmp id)) viewers.old.items
         (record (viewer_or_none viewers.old.items id) { org = org }) }
 {
@@ -57,7 +57,7 @@ pub fn set_org(viewers: &mut Viewers, id: u8, org: u32)
 }
 
 /// The viewer of that id, and where there is none one of no texts.
-pub fn viewer_or_none(viewers: &Viewers, id: u8) -> Viewer
+pub fn viewer_or_none(viewers: &ViewerTable, id: u8) -> Viewer
     ensures { result ≡ viewer_or_none viewers.now.items id }
 {
     match viewer_of(viewers, id) {
@@ -71,14 +71,14 @@ pub fn viewer_or_none(viewers: &Viewers, id: u8) -> Viewer
 }
 
 /// Whether the viewer of that id shows the text of a number as its main one.
-fn shows(viewers: &Viewers, number: u16, id: u8) -> bool
+fn shows(viewers: &ViewerTable, number: u16, id: u8) -> bool
     ensures { result ≡ ((viewer_or_none viewers.now.items id).main == number) }
 {
     viewer_or_none(viewers, id).main == number
 }
 
 /// The caret, unless it stands in a viewer that shows the text of that number.
-pub fn caret_outside(viewers: &Viewers, number: u16, caret: Option<Caret>) -> Option<Caret>
+pub fn caret_outside(viewers: &ViewerTable, number: u16, caret: Option<Caret>) -> Option<Caret>
     ensures { result ≡ caret_outside (λ v. (viewer_or_none viewers.now.items v).main == number) caret }
 {
     match caret {
@@ -94,7 +94,7 @@ pub fn caret_outside(viewers: &Viewers, number: u16, caret: Option<Caret>) -> Op
 }
 
 /// No selection stands in a viewer any more that shows the text of that number.
-pub fn unselect(viewers: &Viewers, number: u16, selections: &mut Vec<Selection>)
+pub fn unselect(viewers: &ViewerTable, number: u16, selections: &mut Vec<Selection>)
     ensures { selections.new.items
         ≡ selections_outside (λ v. (viewer_or_none viewers.now.items v).main == number) selections.old.items }
 {
@@ -205,7 +205,7 @@ fn follow<S: CharSource>(
 
 /// The change rule at all viewers. `Fault`: the source failed in this call.
 fn follow_all<S: CharSource>(
-    viewers: &mut Viewers,
+    viewers: &mut ViewerTable,
     text: &Text,
     number: u16,
     pos: u32,
@@ -234,7 +234,7 @@ fn follow_all<S: CharSource>(
 /// The same for the text of that number, as it is after the change.
 pub fn follow_text<S: CharSource>(
     texts: &Texts,
-    viewers: &mut Viewers,
+    viewers: &mut ViewerTable,
     number: u16,
     pos: u32,
     more: u32,
@@ -266,7 +266,7 @@ pub fn follow_text<S: CharSource>(
 /// this call.
 pub fn org_in<S: CharSource>(
     texts: &Texts,
-    viewers: &Viewers,
+    viewers: &ViewerTable,
     id: u8,
     rows: u8,
     pos: u32,

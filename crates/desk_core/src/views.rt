@@ -3,7 +3,7 @@ ghost use Rattle.std.specs.Prelude.{◌≡◌, IsSome};
 ghost use Rattle.viewer_tracks.specs.Columns.{IsPlaced};
 ghost use Rattle.desktop_definitions.specs.Tables.{numbered};
 ghost use Rattle.desktop_definitions.specs.Viewers.{text_in};
-ghost use Rattle.desktop_definitions.specs.Shown.{position_in};
+ghost use Rattle.desktop_definitions.specs.Shown.{caret_position};
 ghost use Rattle.desk_core.specs.Kept.{kept};
 ghost use Rattle.desktop_definitions.specs.Call.{text_called};
 ghost use Rattle.desktop_definitions.specs.Sound.{IsKeptWhole};
@@ -28,7 +28,7 @@ pub fn text_there(texts: &Texts, number: u16) -> &Text
 
 /// The position of the caret, where it stands in that viewer.
 pub fn position_in(id: u8, caret: Option<Caret>) -> Option<u32>
-    ensures { result ≡ position_in id caret }
+    ensures { result ≡ caret_position id caret }
 {
     match caret {
         None => None,

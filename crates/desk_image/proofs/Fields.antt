@@ -5,7 +5,7 @@ use Rattle.std.specs.Prelude.{IsTrue, nat_eq, ℤ, pos, negsuc, ◌-ℤ◌, int_
 use Rattle.std.proofs.lemmas.Bool.{ltb-true, lt-ltb, cases_lt, eqb-true}
 use Rattle.std.proofs.lemmas.Bool.Decides.{nat_tests}
 use Rattle.std.proofs.lemmas.Int.{ints}
-use Rattle.event_bytes.specs.Parts.{byte, word, counted, byte_at, word_at, Takes, IsPart}
+use Rattle.event_bytes.specs.Parts.{byte, word, counted, byte_at, pair_at, Takes, IsPart}
 use Rattle.event_bytes.proofs.PartLaws.{given, some_is, bind_some, test_some, whole, field, last, only, recast}
 use Rattle.event_bytes.proofs.PartLaws.{byte_part, word_part, counted_part}
 use Rattle.piece_ring.specs.declared.piece.Look.{Look}
@@ -35,8 +35,8 @@ long_part = record { takes = from; again = back }
   where
     from : (bytes : List ℕ) (x : ℕ) (rest : List ℕ) → long_at bytes ≡ Some (x, rest) → Takes long InLong bytes x rest
     from bytes x rest e =
-        let (high, high_is, e1) = bind_some (word_at bytes) _ _ e in
-        let (low, low_is, e2) = bind_some (word_at high.1) _ _ e1 in
+        let (high, high_is, e1) = bind_some (pair_at bytes) _ _ e in
+        let (low, low_is, e2) = bind_some (pair_at high.1) _ _ e1 in
         let first = word_part.takes bytes high.0 high.1 high_is in
         let second = word_part.takes high.1 low.0 low.1 low_is in
         let here : Takes long InLong bytes (high.0 * 65536 + low.0) low.1 = record {

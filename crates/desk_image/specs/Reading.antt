@@ -2,7 +2,7 @@
 use Rattle.std.specs.Prelude.{ℕ, zero, suc, ◌+◌, ◌-◌, ◌*◌, Bool, ◌&&◌, ◌==◌, if◌then◌else◌, nat_le}
 use Rattle.std.specs.Prelude.{nat_lt, List, [], ◌∷◌}
 use Rattle.std.specs.Prelude.{length, Option, Some, None, ℤ, pos, ◌-ℤ◌}
-use Rattle.event_bytes.specs.Parts.{Reader, ◌>>=◌, when, byte_at, word_at, counted_at}
+use Rattle.event_bytes.specs.Parts.{Reader, ◌>>=◌, when, byte_at, pair_at, counted_at}
 use Rattle.event_bytes.specs.Reading.{name_at}
 use Rattle.piece_ring.specs.declared.piece.Look.{Look}
 use Rattle.piece_ring.specs.declared.piece.Piece.{Piece}
@@ -39,8 +39,8 @@ optional_at read bytes = do
 
 unfoldable pub long_at : Reader ℕ
 long_at bytes = do
-  high ← word_at bytes
-  low ← word_at high.1
+  high ← pair_at bytes
+  low ← pair_at high.1
   Some (high.0 * 65536 + low.0, low.1)
 
 -- ---- looks and pieces
@@ -93,11 +93,11 @@ keyed_at read test written room bytes = do
     Some ((key.0, pieces.0), pieces.1)) else None
 
 abbrev pub text_at : ℕ → ℕ × ℕ → Reader (ℕ × List Piece)
-text_at written s bytes = keyed_at word_at (nat_le s.0) written s.1 bytes
+text_at written s bytes = keyed_at pair_at (nat_le s.0) written s.1 bytes
 
 unfoldable pub texts_at : ℕ → ℕ → Reader (Texts (List Piece))
 texts_at written room bytes = do
-  count ← word_at bytes
+  count ← pair_at bytes
   times (text_at written) after_text count.0 (0, room) count.1
 
 abbrev pub file_at : ℕ → Option (List ℕ) × ℕ → Reader (List ℕ × List Piece)
@@ -105,7 +105,7 @@ file_at written s bytes = keyed_at name_at (follows s.0) written s.1 bytes
 
 unfoldable pub files_at : ℕ → ℕ → Reader (Files (List Piece))
 files_at written room bytes = do
-  count ← word_at bytes
+  count ← pair_at bytes
   if nat_le count.0 most_files then times (file_at written) after_file count.0 (None, room) count.1 else None
 
 -- ---- viewers
@@ -121,8 +121,8 @@ abbrev pub viewer_at : ℕ → Reader ViewerPicture
 viewer_at least bytes = do
   id ← byte_at bytes
   if nat_le least id.0 then (do
-    menu ← word_at id.1
-    main ← word_at menu.1
+    menu ← pair_at id.1
+    main ← pair_at menu.1
     org ← long_at main.1
     caret ← optional_at long_at org.1
     selection ← optional_at ranked_at caret.1

@@ -6,7 +6,7 @@ ghost use Rattle.std.specs.Prelude.{◌≡◌, ◌+◌, ◌-◌, ◌<◌, ◌≤
 ghost use Rattle.std.specs.Prelude.{int_le};
 ghost use Rattle.viewer_tracks.specs.declared.display.TheConstants.{ROWS as rows};
 ghost use Rattle.event_bytes.specs.Bytes.{is_name};
-ghost use Rattle.event_bytes.specs.Parts.{byte_at, word_at, bytes_at};
+ghost use Rattle.event_bytes.specs.Parts.{byte_at, pair_at, bytes_at};
 ghost use Rattle.event_bytes.specs.Reading.{name_at};
 ghost use Rattle.desktop_definitions.specs.Limits.{least_offset, greatest_offset};
 ghost use Rattle.desktop_definitions.specs.Looks.{IsLook};
@@ -62,9 +62,9 @@ fn byte_from<S: ByteSource>(source: &mut S) -> Result<u8, ImageFault>
 }
 
 /// A number of two bytes.
-#[tactic(auto, unfolding(event_bytes::specs::Parts::word_at))]
+#[tactic(auto, unfolding(event_bytes::specs::Parts::pair_at))]
 fn word_from<S: ByteSource>(source: &mut S) -> Result<u16, ImageFault>
-    ensures reads { Reads S.ByteSource (λ number. number) result word_at source.old source.new }
+    ensures reads { Reads S.ByteSource (λ number. number) result pair_at source.old source.new }
 {
     let high = byte_from(source)?;
     let low = byte_from(source)?;

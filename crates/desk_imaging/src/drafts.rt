@@ -8,7 +8,7 @@ ghost use Rattle.desk_imaging.specs.Images.{viewers_of, caret_of, selected_at, s
 ghost use Rattle.desk_imaging.specs.Images.{times_tracked};
 
 use desk_core::stop::NoMemory;
-use desk_core::viewers::Viewers;
+use desk_core::viewers::ViewerTable;
 use desk_image::{Stretch, ViewerPicture};
 use desktop_definitions::{Caret, Selection};
 use std::alloc::Global;
@@ -16,7 +16,7 @@ use std::vec::Vec;
 use viewer_tracks::{Track, Tracks, ViewerId};
 
 /// The viewers by their ids.
-pub fn viewers_of(alloc: Global, pictures: &[ViewerPicture]) -> Result<Viewers, NoMemory>
+pub fn viewers_of(alloc: Global, pictures: &[ViewerPicture]) -> Result<ViewerTable, NoMemory>
     ensures { IfOk result (λ viewers. viewers.items ≡ viewers_of pictures.now) }
 {
     let mut viewers = Vec::new(alloc);

@@ -10,7 +10,7 @@ ghost use Rattle.desk_imaging.specs.Images.{viewers_of, caret_of, selections_of,
 use crate::drafts::{caret_of, selections_of, tracks_of, viewers_of};
 use crate::parts::{are_pictured, are_placed, are_selections, are_texts, is_caret};
 use desk_core::desk::Desk;
-use desk_core::viewers::Viewers;
+use desk_core::viewers::ViewerTable;
 use desk_image::{ImageFault, Picture};
 use desktop_definitions::{Caret, MOST_WRITTEN, Selection};
 use std::alloc::Global;
@@ -21,7 +21,7 @@ use std::vec::Vec;
 fn is_desktop(
     picture: &Picture,
     written: u32,
-    viewers: &Viewers,
+    viewers: &ViewerTable,
     caret: Option<Caret>,
     selections: &[Selection],
 ) -> bool
@@ -48,7 +48,7 @@ fn is_desktop(
 fn desk_of(
     picture: Picture,
     written: u32,
-    viewers: Viewers,
+    viewers: ViewerTable,
     caret: Option<Caret>,
     selections: Vec<Selection>,
 ) -> Desk

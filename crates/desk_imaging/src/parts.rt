@@ -12,7 +12,7 @@ ghost use Rattle.desk_imaging.specs.Images.{same_position, same_ranked, is_pictu
 
 use crate::imaging::ranked_in;
 use desk_core::tables::{has_id, is_in_sight};
-use desk_core::viewers::{Texts, Viewers, viewer_or_none};
+use desk_core::viewers::{Texts, ViewerTable, viewer_or_none};
 use desk_core::views::position_in;
 use desk_image::{Ranked, Stretch, ViewerPicture};
 use desktop_definitions::{Caret, Kept, Selection, Viewer};
@@ -37,7 +37,7 @@ fn leaves_menu(entry: (u8, Viewer), other: (u8, Viewer)) -> bool
 }
 
 /// Whether all viewers do.
-fn all_leave_menu(viewers: &Viewers, entry: (u8, Viewer)) -> bool
+fn all_leave_menu(viewers: &ViewerTable, entry: (u8, Viewer)) -> bool
     ensures { result ≡ list_all (leaves_menu entry) viewers.now.items }
 {
     viewers.iter().all(|other| leaves_menu(entry, *other))
@@ -45,7 +45,7 @@ fn all_leave_menu(viewers: &Viewers, entry: (u8, Viewer)) -> bool
 
 /// Whether both texts of a viewer are there, and its menu is its own.
 #[tactic(auto, unfolding(crate::specs::Images::is_framed))]
-fn is_framed(texts: &Texts, viewers: &Viewers, entry: (u8, Viewer)) -> bool
+fn is_framed(texts: &Texts, viewers: &ViewerTable, entry: (u8, Viewer)) -> bool
     ensures { result ≡ is_framed texts.now.entries viewers.now.items entry }
 {
     let viewer = entry.1;
@@ -57,7 +57,7 @@ fn is_framed(texts: &Texts, viewers: &Viewers, entry: (u8, Viewer)) -> bool
 }
 
 /// Whether that holds of all viewers.
-fn are_framed(texts: &Texts, viewers: &Viewers) -> bool
+fn are_framed(texts: &Texts, viewers: &ViewerTable) -> bool
     ensures { result ≡ list_all (is_framed texts.now.entries viewers.now.items) viewers.now.items }
 {
     viewers
@@ -66,7 +66,7 @@ fn are_framed(texts: &Texts, viewers: &Viewers) -> bool
 }
 
 /// Whether each text is the log or shown by a viewer.
-fn are_in_use(texts: &Texts, viewers: &Viewers) -> bool
+fn are_in_use(texts: &Texts, viewers: &ViewerTable) -> bool
     ensures { result ≡ list_all (is_in_use viewers.now.items) (keys_of texts.now.entries) }
 {
     for number in texts.keys() {
@@ -79,7 +79,7 @@ fn are_in_use(texts: &Texts, viewers: &Viewers) -> bool
 
 /// Whether the texts are just those of the viewers, and the log.
 #[tactic(auto, unfolding(crate::specs::Images::are_texts))]
-pub fn are_texts(texts: &Texts, viewers: &Viewers) -> bool
+pub fn are_texts(texts: &Texts, viewers: &ViewerTable) -> bool
     ensures { result ≡ are_texts texts.now.entries viewers.now.items }
 {
     texts.contains_key(&0) && are_framed(texts, viewers) && are_in_use(texts, viewers)
@@ -113,7 +113,7 @@ fn times_kept(kept: Option<Kept>, id: u8) -> usize
 }
 
 /// Whether all of a track are viewers.
-fn are_known(viewers: &Viewers, stretches: &[Stretch]) -> bool
+fn are_known(viewers: &ViewerTable, stretches: &[Stretch]) -> bool
     ensures { result ≡ list_all (λ e. has_id viewers.now.items e.viewer) (map entry_of stretches.now) }
 {
     stretches
@@ -122,7 +122,7 @@ fn are_known(viewers: &Viewers, stretches: &[Stretch]) -> bool
 }
 
 /// Whether the kept one is a viewer, where there is one.
-fn is_kept_known(viewers: &Viewers, kept: Option<Kept>) -> bool
+fn is_kept_known(viewers: &ViewerTable, kept: Option<Kept>) -> bool
     ensures { result ≡ is_kept_known viewers.now.items kept }
 {
     match kept {
@@ -142,7 +142,12 @@ fn stands_once(user: &[Stretch], system: &[Stretch], kept: Option<Kept>, id: u8)
 }
 
 /// Whether each viewer does.
-fn stand_once(user: &[Stretch], system: &[Stretch], kept: Option<Kept>, viewers: &Viewers) -> bool
+fn stand_once(
+    user: &[Stretch],
+    system: &[Stretch],
+    kept: Option<Kept>,
+    viewers: &ViewerTable,
+) -> bool
     requires user { length user.now < 2 ^ 8 }
     requires system { length system.now < 2 ^ 8 }
     ensures { result ≡ list_all (stands_once (map entry_of user.now) (map entry_of system.now) kept) viewers.now.items }
@@ -158,7 +163,7 @@ pub fn are_placed(
     user: &[Stretch],
     system: &[Stretch],
     kept: Option<Kept>,
-    viewers: &Viewers,
+    viewers: &ViewerTable,
 ) -> bool
     requires user { length user.now < 2 ^ 8 }
     requires system { length system.now < 2 ^ 8 }
@@ -180,7 +185,7 @@ fn is_tracked(user: &[Stretch], system: &[Stretch], id: u8) -> bool
 }
 
 /// How many characters the main text of a viewer has.
-fn main_size(texts: &Texts, viewers: &Viewers, id: u8) -> u32
+fn main_size(texts: &Texts, viewers: &ViewerTable, id: u8) -> u32
     ensures { result ≡ main_size texts.now.entries viewers.now.items id }
 {
     size_of(texts, viewer_or_none(viewers, id).main)
@@ -190,7 +195,7 @@ fn main_size(texts: &Texts, viewers: &Viewers, id: u8) -> u32
 #[tactic(auto, unfolding(crate::specs::Images::is_caret))]
 pub fn is_caret(
     texts: &Texts,
-    viewers: &Viewers,
+    viewers: &ViewerTable,
     user: &[Stretch],
     system: &[Stretch],
     caret: Option<Caret>,
@@ -211,7 +216,7 @@ pub fn is_caret(
 #[tactic(auto, unfolding(crate::specs::Images::is_selection))]
 fn is_selection(
     texts: &Texts,
-    viewers: &Viewers,
+    viewers: &ViewerTable,
     user: &[Stretch],
     system: &[Stretch],
     selection: Selection,
@@ -227,7 +232,7 @@ fn is_selection(
 /// Whether all selections have.
 pub fn are_selections(
     texts: &Texts,
-    viewers: &Viewers,
+    viewers: &ViewerTable,
     user: &[Stretch],
     system: &[Stretch],
     selections: &[Selection],

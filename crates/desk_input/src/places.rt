@@ -8,10 +8,10 @@ ghost use Rattle.viewer_tracks.specs.declared.display.Track.{Track as ATrack};
 ghost use Rattle.viewer_tracks.specs.Display.{left_of};
 ghost use Rattle.viewer_tracks.specs.Columns.{IsPlaced};
 ghost use Rattle.screen_pictures.specs.Picture.{width_of};
-ghost use Rattle.desktop_definitions.specs.declared.area.Area.TheVariants.{Menu, Bar, Body};
+ghost use Rattle.desktop_definitions.specs.declared.region.Region.TheVariants.{Menu, Bar, Body};
 ghost use Rattle.desktop_definitions.specs.Viewers.{text_in, viewer_or_none, rows_of};
-ghost use Rattle.desktop_definitions.specs.Gesture.{area_at, frame_row, width, menu_column, text_column, text_row};
-ghost use Rattle.desktop_definitions.specs.Gesture.{text_position, stretch_drawn, menu_position, IsAreaOf};
+ghost use Rattle.desktop_definitions.specs.Gesture.{region_at, frame_row, width, menu_column, text_column, text_row};
+ghost use Rattle.desktop_definitions.specs.Gesture.{text_position, stretch_drawn, menu_position, IsRegionOf};
 ghost use Rattle.desktop_definitions.specs.Call.{text_called};
 ghost use Rattle.desktop_definitions.specs.Seen.{seen};
 ghost use Rattle.desktop_definitions.specs.Sound.{IsOver};
@@ -21,21 +21,21 @@ ghost use Rattle.desk_core.specs.Mouse.{position_in};
 use char_file::{CharSource, Fault};
 use desk_core::desk::Desk;
 use desk_core::viewers::viewer_or_none;
-use desktop_definitions::{Area, Selection};
+use desktop_definitions::{Region, Selection};
 use text_frames::Frame;
 use viewer_tracks::{COLUMNS, Place, SYSTEM_LEFT, ViewerId};
 
 /// The part of a viewer in which a cell of its place lies.
-fn part_of(id: u8, place: Place, x: u8, y: u8) -> Area
+fn part_of(id: u8, place: Place, x: u8, y: u8) -> Region
     requires { y < ROWS }
     ensures { result ≡ (if y + 1 == place.top then Menu id else (if x == place.x then Bar id else Body id)) }
 {
     if y + 1 == place.top {
-        Area::Menu(id)
+        Region::Menu(id)
     } else if x == place.x {
-        Area::Bar(id)
+        Region::Bar(id)
     } else {
-        Area::Body(id)
+        Region::Body(id)
     }
 }
 
@@ -64,14 +64,14 @@ fn stretch(id: u8, p: u32, q: u32, len: u32) -> Selection
 }
 
 /// Where a cell of the display lies.
-pub fn area_at(desk: &Desk, x: u8, y: u8) -> Area
+pub fn region_under(desk: &Desk, x: u8, y: u8) -> Region
     requires column { x < COLUMNS }
     requires row { y < ROWS }
-    ensures area { result ≡ area_at (kept desk.now) x y }
-    ensures stands { IsAreaOf (kept desk.now) y result }
+    ensures region { result ≡ region_at (kept desk.now) x y }
+    ensures stands { IsRegionOf (kept desk.now) y result }
 {
     match desk.tracks.at(x, y) {
-        None => Area::Filler,
+        None => Region::Filler,
         Some(viewer) => {
             let place = desk.tracks.place_of(viewer);
             part_of(viewer.0, place, x, y)

@@ -1,2 +1,4 @@
+pub mod Due
 pub mod Storing
 pub mod Passing
+mod Between

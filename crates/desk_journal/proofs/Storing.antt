@@ -1,5 +1,8 @@
 -- What a store knows of its disk between two calls, and how it is after them. `d` is what is known of a disk.
-use Rattle.std.proofs.Common.{◌≡◌, ◌+◌, ◌/◌, ◌<◌, ◌≤◌, ℕ, inl, sym, ◌∙◌, ap, subst, arith}
+use Rattle.std.proofs.Common.{◌≡◌, ◌+◌, ◌/◌, ◌<◌, ◌≤◌, ℕ, inl, refl, sym, ◌∙◌, ap, subst, arith, true, false}
+use Rattle.command_table.specs.declared.version.Version.{Version}
+use Rattle.command_table.specs.declared.version.Version.TheVariants.{V1, V2}
+use Rattle.command_table.specs.Versions.{version_number}
 use Rattle.sector_disk.specs.declared.disk.Disk.{Ghosts}
 use Rattle.sector_disk.specs.Confined.{IsConfined}
 use Rattle.sector_disk.specs.Trail.{Content, now, LeavesOnly, Nowhere}
@@ -7,33 +10,40 @@ use Rattle.sector_disk.proofs.Touching.{weakened, chained, still_all}
 use Rattle.event_bytes.specs.declared.event.Event.{Event}
 use Rattle.desktop_definitions.specs.Step.{step}
 use Rattle.sector_disk.specs.declared.disk.TheConstants.{SECTOR_BYTES}
-use Rattle.store_layout.specs.declared.layout.TheConstants.{JOURNAL_EVENTS, SLOTS, STORE_SECTORS}
-use Rattle.store_layout.specs.Kept.{IsKept}
+use Rattle.store_layout.specs.declared.layout.TheConstants.{FIRST_LAYOUT, JOURNAL_EVENTS, LAYOUT, SLOTS}
+use Rattle.store_layout.specs.declared.layout.TheConstants.{STORE_SECTORS}
+use Rattle.store_layout.specs.Kept.{IsKept, Spares, chosen_area}
+use Rattle.char_pages.specs.Pages.{renewed_of, saved_sectors}
 use Rattle.store_layout.specs.Layout.{head}
 use Rattle.store_layout.specs.Meaning.{Means, MeansEither, full_sectors}
-use Rattle.char_pages.specs.Pages.{saved_sectors}
 use Rattle.desk_slots.specs.declared.live.LiveDesktop.{LiveDesktop}
-use Rattle.desk_slots.specs.declared.place.Place.{Place}
-use Rattle.desk_slots.specs.Written.{IsBeside}
+use Rattle.desk_slots.specs.declared.place.SlotPlace.{SlotPlace}
+use Rattle.desk_slots.specs.Written.{GoesOn, IsBeside}
 use Rattle.desk_journal.specs.Checkpointing.{LeavesDesktop, IsRenewed}
 use Rattle.desk_slots.specs.Device.{IsSameDevice}
-use Rattle.desk_slots.specs.Live.{shown, IsLive, IsNamed, IsTold, StaysLive}
+use Rattle.desk_slots.specs.Live.{seen_live, IsLive, IsNamed, IsTold, StaysLive}
 use Rattle.desk_journal.specs.Posting.{LeavesEither, IsStarved}
 use Rattle.desk_journal.specs.View.{StoreView}
 use Rattle.desk_slots.proofs.Settling.{kept_on}
 
+-- a version is one that there is
+pub known : (version : Version) → (FIRST_LAYOUT ≤ version_number version) × (version_number version ≤ LAYOUT)
+known V1 = (omega arith, omega arith)
+known V2 = (omega arith, omega arith)
+
 -- what a store knows of its disk: room, and where it is honest what stands there
-abbrev Knows : {D : Type 0} → Ghosts D → D → ℕ → ℕ → ℕ → LiveDesktop → Type 0
-Knows d disk slot epoch events live = (slot < SLOTS) × (events ≤ JOURNAL_EVENTS) × (STORE_SECTORS ≤ d.size disk)
+abbrev Knows : {D : Type 0} → Ghosts D → D → ℕ → ℕ → ℕ → ℕ → LiveDesktop → Type 0
+Knows d disk slot version epoch events live = (slot < SLOTS) × (events ≤ JOURNAL_EVENTS) × (STORE_SECTORS ≤ d.size disk)
     × IsLive live × IsTold d disk live
-    × (d.honest disk → IsKept (d.size disk) (d.trail disk) slot epoch events (shown (now (d.trail disk)).reads live)
+    × (d.honest disk → IsKept (d.size disk) (d.trail disk) slot version epoch events
+    (seen_live (now (d.trail disk)).reads live)
     × IsNamed (now (d.trail disk)).reads slot live)
 
 -- a look
-pub looked_at : {D : Type 0} (d : Ghosts D) (slot epoch events : ℕ) (old new : D) (live live' : LiveDesktop)
+pub looked_at : {D : Type 0} (d : Ghosts D) (slot version epoch events : ℕ) (old new : D) (live live' : LiveDesktop)
     → IsConfined d.size d.honest d.trail Nowhere old new → StaysLive d old new live live'
-    → Knows d old slot epoch events live → Knows d new slot epoch events live'
-looked_at d slot epoch events old new live live' run stays was = (
+    → Knows d old slot version epoch events live → Knows d new slot version epoch events live'
+looked_at d slot version epoch events old new live live' run stays was = (
   was.0,
   was.1,
   omega (arith, was.2, run.as_large),
@@ -42,31 +52,58 @@ looked_at d slot epoch events old new live live' run stays was = (
   λ honest.
       let before = run.already honest in
       let touches = run.moments before in
-      let desktop = shown (now (d.trail old)).reads live in (
-        subst (λ desktop. IsKept (d.size new) (d.trail new) slot epoch events desktop)
+      let desktop = seen_live (now (d.trail old)).reads live in (
+        subst (λ desktop. IsKept (d.size new) (d.trail new) slot version epoch events desktop)
             (sym (stays.shown_same before))
-            (subst (λ n. IsKept n (d.trail new) slot epoch events desktop) (sym run.as_large)
-            (kept_on (d.size old) (d.trail old) (d.trail new) slot epoch events desktop (was.5 before).0 touches)),
-        ap (λ (c : Content). full_sectors (head c slot).written) (still_all (d.trail old) (d.trail new) touches)
-            ∙ (was.5 before).1 ∙ sym (ap (λ n. n / SECTOR_BYTES) stays.place_same),
+            (subst (λ n. IsKept n (d.trail new) slot version epoch events desktop) (sym run.as_large)
+            (kept_on (d.size old) (d.trail old) (d.trail new) slot version epoch events desktop (was.5 before).0
+            touches)),
+        record {
+          area_is = ap (λ (c : Content). (head c slot).area) (still_all (d.trail old) (d.trail new) touches)
+              ∙ (was.5 before).1.area_is ∙ sym stays.area_same;
+          named = λ not. ap (λ (c : Content). full_sectors (head c slot).written)
+              (still_all (d.trail old) (d.trail new) touches)
+              ∙ (was.5 before).1.named (stays.renewed_before not)
+              ∙ sym (ap (λ n. n / SECTOR_BYTES) (stays.place_same not));
+        },
       ),
 )
 
+-- what a checkpoint writes isn't named by the head of the slot in use
+spared : (c : Content) (slot : ℕ) (live : LiveDesktop) (place : SlotPlace) → IsLive live → IsNamed c slot live
+    → GoesOn place live → Spares (head c slot) place.area place.saved
+spared c slot live place is named goes here = (elim (renewed_of live.pages) as
+    (λ b. renewed_of live.pages ≡ b → chosen_area b live.area ≡ live.area → full_sectors (head c slot).written
+    ≤ place.saved) [
+      | true ↦ λ anew other. absurd (omega (arith, other, is.low))
+      | false ↦ λ not same. omega (arith, named.named not, goes.saved_is)
+    ]) refl (sym goes.area_is ∙ sym here ∙ named.area_is)
+
+-- where a checkpoint of it goes
+pub goes_by : {place : SlotPlace} {live : LiveDesktop} → place.area ≡ chosen_area (renewed_of live.pages) live.area
+    → place.saved ≡ saved_sectors live.pages → GoesOn place live
+goes_by area saved = record { area_is = area; saved_is = saved }
+
 -- a checkpoint that is done: the disk shows the desktop by the other slot
-pub renewed_kept : {D : Type 0} (d : Ghosts D) (slot epoch events : ℕ) (old new : D) (live live' : LiveDesktop)
-    (place : Place) → Knows d old slot epoch events live → IsSameDevice d old new → slot + place.slot ≡ 1
-    → epoch + 1 ≡ place.epoch → place.saved ≡ saved_sectors live.pages
-    → (d.honest old → (from number count : ℕ) → IsBeside place (d.size old) (d.trail old) from number count
-    (shown (now (d.trail old)).reads live)
-    → IsKept (d.size old) (d.trail new) place.slot place.epoch 0 (shown (now (d.trail new)).reads live'))
+pub renewed_kept : {D : Type 0} (d : Ghosts D) (slot version epoch events : ℕ) (old new : D) (live live' : LiveDesktop)
+    (place : SlotPlace) → Knows d old slot version epoch events live → IsSameDevice d old new → slot + place.slot ≡ 1
+    → epoch + 1 ≡ place.epoch → GoesOn place live
+    → (d.honest old → (from by number count : ℕ)
+    → IsBeside place (d.size old) (d.trail old) from by number count (seen_live (now (d.trail old)).reads live)
+    → IsKept (d.size old) (d.trail new) place.slot LAYOUT place.epoch 0 (seen_live (now (d.trail new)).reads live'))
     → d.honest new
-    → IsKept (d.size new) (d.trail new) place.slot place.epoch 0 (shown (now (d.trail new)).reads live')
-renewed_kept d slot epoch events old new live live' place was device two next saved renewed honest =
+    → IsKept (d.size new) (d.trail new) place.slot LAYOUT place.epoch 0 (seen_live (now (d.trail new)).reads live')
+renewed_kept d slot version epoch events old new live live' place was device two next goes renewed honest =
     let before = device.already honest in
     let stood = was.5 before in
-    subst (λ n. IsKept n (d.trail new) place.slot place.epoch 0 (shown (now (d.trail new)).reads live'))
-    (sym device.as_large) (renewed before slot epoch events
-    (record { two = two; next = next; kept = stood.0; named = stood.1 ∙ sym saved }))
+    subst (λ n. IsKept n (d.trail new) place.slot LAYOUT place.epoch 0 (seen_live (now (d.trail new)).reads live'))
+    (sym device.as_large) (renewed before slot version epoch events
+    (record {
+      two = two;
+      next = next;
+      kept = stood.0;
+      spares = spared (now (d.trail old)).reads slot live place was.3 stood.1 goes;
+    }))
 
 -- a checkpoint, and then the rest of a post
 module _ {D : Type 0} (d : Ghosts D) (event : Event) (old mid new : StoreView D) (first : LeavesDesktop d old mid)

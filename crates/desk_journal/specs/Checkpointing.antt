@@ -3,6 +3,7 @@ use Rattle.std.specs.Prelude.{◌≡◌, ◌+◌, Result, OnOk, IsErrOf, false}
 use Rattle.sector_disk.specs.declared.disk.Disk.{Ghosts}
 use Rattle.sector_disk.specs.Trail.{LeavesOnly}
 use Rattle.sector_disk.specs.Faults.{FailsAs}
+use Rattle.store_layout.specs.declared.layout.TheConstants.{LAYOUT}
 use Rattle.store_layout.specs.Meaning.{Means}
 use Rattle.desk_slots.specs.declared.error.Error.{Error}
 use Rattle.desk_slots.specs.declared.error.Error.TheVariants.{Fault, Worn}
@@ -17,10 +18,11 @@ module _ {D : Type 0} (d : Ghosts D) where
   LeavesDesktop old new = old.must_reopen ≡ false → d.honest old.disk
       → LeavesOnly (d.trail old.disk) (d.trail new.disk) (Means (d.size old.disk) old.desktop)
 
-  -- Ok: the desktop stands in the other slot, which is in use now, with an empty journal
+  -- Ok: the desktop stands in the other slot, which is in use now, in the newest version and with an empty journal
   pub record IsRenewed (old new : StoreView D) : Type 0 where
     pub desktop : d.honest old.disk → new.desktop ≡ old.desktop
     pub kept : new.kept ≡ old.kept
+    pub layout : new.layout ≡ LAYOUT
     pub epoch : new.epoch ≡ old.epoch + 1
     pub events : new.events ≡ 0
     -- from now on a crash leaves that

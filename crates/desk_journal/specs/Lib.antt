@@ -6,3 +6,4 @@ pub mod Opening
 pub mod Posting
 pub mod Checkpointing
 pub mod Looking
+pub mod Migrating

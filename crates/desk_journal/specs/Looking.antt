@@ -13,6 +13,7 @@ pub record OnlyLooks {D T : Type 0} (d : Ghosts D) (result : Result T Error) (ol
   -- what the store shows stays, and over every disk what it keeps
   pub desktop : d.honest old.disk → new.desktop ≡ old.desktop
   pub kept : new.kept ≡ old.kept
+  pub layout : new.layout ≡ old.layout
   pub epoch : new.epoch ≡ old.epoch
   pub events : new.events ≡ old.events
   pub usable : new.must_reopen ≡ old.must_reopen

@@ -1,5 +1,5 @@
 -- What a post promises, outcome by outcome. `d` is what is known of a disk.
-use Rattle.std.specs.Prelude.{◌≡◌, ◌<◌, ◌≤◌, ◌+◌, ℕ, true, false, Result, IfOk, IsErrOf}
+use Rattle.std.specs.Prelude.{◌≡◌, ◌⊎◌, ◌<◌, ◌≤◌, ◌+◌, ℕ, true, false, Result, IfOk, IsErrOf}
 use Rattle.sector_disk.specs.declared.disk.Disk.{Ghosts}
 use Rattle.sector_disk.specs.Trail.{LeavesOnly}
 use Rattle.sector_disk.specs.Faults.{FailsAs}
@@ -11,7 +11,7 @@ use Rattle.desktop_definitions.specs.Step.{step}
 use Rattle.desktop_definitions.specs.Unread.{StepsUnread}
 use Rattle.desk_slots.specs.declared.error.Error.{Error}
 use Rattle.desk_slots.specs.declared.error.Error.TheVariants.{NoMemory, Fault, MustReopen, Worn}
-use Rattle.store_layout.specs.declared.layout.TheConstants.{JOURNAL_EVENTS, LAST_EPOCH}
+use Rattle.store_layout.specs.declared.layout.TheConstants.{JOURNAL_EVENTS, LAST_EPOCH, LAYOUT}
 use Rattle.desk_slots.specs.Device.{IsSameDevice, StaysWithin}
 use Rattle.desk_slots.specs.Errors.{OfPost}
 use Rattle.store_layout.specs.Meaning.{Means, MeansEither}
@@ -31,9 +31,18 @@ IsBroken new = new.must_reopen ≡ true
 abbrev pub IsLast : {D : Type 0} → StoreView D → Type 0
 IsLast store = (store.must_reopen ≡ false) × (store.epoch ≡ LAST_EPOCH)
 
+-- a checkpoint is due before the next event: the journal has room for no more, or the slot in use has another version
+-- than the newest
+abbrev pub Needs : {D : Type 0} → StoreView D → Type 0
+Needs store = (JOURNAL_EVENTS ≤ store.events) ⊎ ¬ (store.layout ≡ LAYOUT)
+
+-- the journal has room, and the slot in use has the newest version
+abbrev pub HasRoom : {D : Type 0} → StoreView D → Type 0
+HasRoom store = (store.events < JOURNAL_EVENTS) × (store.layout ≡ LAYOUT)
+
 -- Worn: a checkpoint is due, and the epoch is the last one
 abbrev pub IsWorn : {D : Type 0} → Result Reply Error → StoreView D → StoreView D → Type 0
-IsWorn answer old new = TurnsAway (IsErrOf answer Worn) (IsLast old × (JOURNAL_EVENTS ≤ old.events)) old new
+IsWorn answer old new = TurnsAway (IsErrOf answer Worn) (IsLast old × Needs old) old new
 
 -- MustReopen: after NoMemory or Fault of an earlier post, or Fault of an earlier checkpoint
 abbrev pub IsUnusable : {D T : Type 0} → Result T Error → StoreView D → StoreView D → Type 0
@@ -52,15 +61,17 @@ module _ {D : Type 0} (d : Ghosts D) where
     pub stepped : d.honest old.disk → (new.desktop, reply) ≡ step old.desktop event
     -- from now on a crash leaves that desktop
     pub durable : IsDurable d new
-    -- the journal has one event more, or, where it was full, is a new one with this event
-    pub more : old.events < JOURNAL_EVENTS → (new.epoch ≡ old.epoch) × (new.events ≡ old.events + 1)
-    pub anew : JOURNAL_EVENTS ≤ old.events → (new.epoch ≡ old.epoch + 1) × (new.events ≡ 1)
+    -- the journal has one event more, or, where a checkpoint was due, is a new one with this event
+    pub more : HasRoom old → (new.epoch ≡ old.epoch) × (new.events ≡ old.events + 1)
+    pub anew : Needs old → (new.epoch ≡ old.epoch + 1) × (new.events ≡ 1)
+    -- and is one of the newest version
+    pub layout : new.layout ≡ LAYOUT
     pub usable : new.must_reopen ≡ false
     -- over every disk: the reply is one that there is, and a refusal leaves the desktop as it is kept
     pub known : IsReply reply
     pub refusal : (code : ℕ) → reply ≡ No code → new.kept ≡ old.kept
     -- and where the event reads no character, both are those of its step, whatever characters there are
-    pub unread : StepsUnread old.kept new.kept event reply
+    pub unread : StepsUnread LAYOUT old.kept new.kept event reply
 
   -- NoMemory: the event is in no image, and the store must be opened again
   pub record IsStarved (old new : StoreView D) : Type 0 where

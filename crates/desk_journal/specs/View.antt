@@ -12,7 +12,8 @@ pub record StoreView (D : Type 0) : Type 0 where
   pub desktop : Desktop
   -- the same as it is kept, each character by its offset, which is known of every disk
   pub kept : KeptDesktop
-  -- the epoch of the slot in use, and how many events its journal has
+  -- the version and the epoch of the slot in use, and how many events its journal has
+  pub layout : ℕ
   pub epoch : ℕ
   pub events : ℕ
   -- a call has failed in the middle of its work: only closing the store and opening it again helps
@@ -21,4 +22,5 @@ pub record StoreView (D : Type 0) : Type 0 where
 -- a crash now leaves what the store shows
 abbrev pub IsDurable : {D : Type 0} → Ghosts D → StoreView D → Type 0
 IsDurable d store = d.honest store.disk
-    → Leaves (now (d.trail store.disk)) (Shows (d.size store.disk) store.epoch store.events store.desktop)
+    → Leaves (now (d.trail store.disk)) (Shows (d.size store.disk) store.layout store.epoch store.events
+    store.desktop)

@@ -2,14 +2,15 @@
 //!
 //! What the sectors mean, `store_layout` says (in words: docs/STORE.md), and `desk_slots` reads and writes them. Each
 //! event that is posted goes into the journal of the slot in use before it is acknowledged: first its body and a closed
-//! gate after it, then, after a sync, its gate is opened, and a sync follows. When the journal is full the desktop goes
-//! whole into the other slot (`checkpoint`). A crash leaves a gate closed or open and nothing in between, so what the
-//! disk means is at each moment the desktop before the event or the one after it. What follows of many calls, one after
-//! another, `store_runs` says.
+//! gate after it, then, after a sync, its gate is opened, and a sync follows. When the journal is full, or the store is
+//! of an older version, the desktop first goes whole into the other slot (`checkpoint`). A crash leaves a gate closed
+//! or open and nothing in between, so what the disk means is at each moment the desktop before the event or the one
+//! after it. What follows of many calls, one after another, `store_runs` says.
 #![tactic(auto)]
 
 mod store;
 
+pub use command_table::{NEWEST, Version};
 pub use desk_slots::Error;
 pub use store::{Info, Store};
 pub use store_layout::{JOURNAL_EVENTS, STORE_SECTORS, finding_law, footprint_law, showing_law};

@@ -3,21 +3,25 @@
 //! A clause sees a store as a `StoreView`. What each call promises is said in words, one for an outcome, of
 //! `specs/Opening.antt`, `specs/Posting.antt`, `specs/Checkpointing.antt` and `specs/Looking.antt`.
 ghost use Rattle.std.specs.Prelude.{◌≡◌, ◌<◌, ◌≤◌, ◌↔◌, true, false, Ok, Err, None, IfOk, IfErr, OnOk, IsErrOf};
-ghost use Rattle.std.specs.Prelude.{option_map};
+ghost use Rattle.std.specs.Prelude.{option_map, IsTrue};
 ghost use Rattle.desktop_definitions.specs.Desktop.{empty_desktop, file_of};
 ghost use Rattle.desk_slots.specs.Device.{IsOnlyRead, IsSameDevice, StaysWithin, disk_after, outcome};
 ghost use Rattle.desk_slots.specs.Errors.{OfFormat, OfOpen, OfPost, OfLook, OfCheckpoint};
 ghost use Rattle.desk_journal.specs.Looking.{OnlyLooks};
 ghost use Rattle.store_layout.specs.Meaning.{Shows};
+ghost use Rattle.store_layout.specs.declared.layout.TheConstants.{FIRST_LAYOUT};
 ghost use Rattle.desk_journal.specs.Checkpointing.{LeavesDesktop, IsRenewed};
 ghost use Rattle.desk_journal.specs.Opening.{IsOpened, IsNoStore};
 ghost use Rattle.desk_journal.specs.Posting.{LeavesEither, IsAcknowledged, IsStarved, IsBroken, IsLast, IsWorn};
-ghost use Rattle.desk_journal.specs.Posting.{IsUnusable, TurnsAway};
+ghost use Rattle.desk_journal.specs.Posting.{HasRoom, IsUnusable, Needs, TurnsAway};
+ghost use Rattle.desk_journal.specs.Migrating.{ChecksFirst};
+ghost use Rattle.command_table.specs.Versions.{version_number};
 ghost use Rattle.desk_journal.specs.View.{IsDurable};
 ghost use Rattle.desk_slots.specs.Words.{Leaves, Nowhere, now, IsConfined, FailsAs, entries_of};
 ghost use Rattle.desk_slots.specs.Words.{ListsUnread, shown_screen};
 
-use desk_slots::{Error, LiveDesktop, Place, lay_out, load, record, renew};
+use command_table::{NEWEST, Version};
+use desk_slots::{Error, LiveDesktop, SlotPlace, lay_out, load, record, renew};
 use desktop_definitions::{Entry, Reply};
 use event_bytes::{Event, Name};
 use piece_ring::Look;
@@ -27,8 +31,8 @@ use std::alloc::Global;
 use std::marker::Model;
 use store_layout::{JOURNAL_EVENTS, LAST_EPOCH, LAYOUT, STORE_SECTORS};
 
-/// What a store says of itself: the version of its layout, the epoch of the slot in use, the number of events in its
-/// journal, and the number of characters ever written.
+/// What a store says of itself: the version of the slot in use and its epoch, the number of events in its journal, and
+/// how many characters count as written.
 #[derive(Clone, Copy, Debug, PartialEq, Eq)]
 pub struct Info {
     pub layout: u32,
@@ -37,8 +41,8 @@ pub struct Info {
     pub written: u32,
 }
 
-/// A desktop on a disk. The characters that fill sectors of the disk's area stay there, but for 64 sectors that were read
-/// last; the others are in memory.
+/// A desktop on a disk. The characters that fill sectors of an area of the disk stay there, but for 64 sectors that
+/// were read last; the others are in memory.
 ///
 /// After `NoMemory` or `Fault` of a post, or `Fault` of a checkpoint, the store isn't used again: each call but `close`
 /// returns `MustReopen`, and what is on the disk is found by opening it.
@@ -46,8 +50,9 @@ pub struct Info {
 pub struct Store<D: Disk> {
     disk: D,
     desktop: LiveDesktop,
-    /// The slot in use, and its epoch.
+    /// The slot in use, its version and its epoch.
     slot: u32,
+    version: Version,
     epoch: u32,
     /// How many events its journal has.
     events: u32,
@@ -57,17 +62,19 @@ pub struct Store<D: Disk> {
 impl<D: Disk> Model for Store<D> {
     ghost use Rattle.std.specs.Prelude.{◌≡◌, ◌<◌, ◌≤◌, false};
     ghost use Rattle.sector_disk.specs.Trail.{now};
+    ghost use Rattle.command_table.specs.Versions.{version_number};
     ghost use Rattle.store_layout.specs.declared.layout.TheConstants.{JOURNAL_EVENTS, SLOTS, STORE_SECTORS};
     ghost use Rattle.store_layout.specs.Kept.{IsKept};
-    ghost use Rattle.desk_slots.specs.Live.{shown, IsLive, IsNamed, IsTold};
+    ghost use Rattle.desk_slots.specs.Live.{seen_live, IsLive, IsNamed, IsTold};
     ghost use Rattle.desk_journal.specs.View.{StoreView};
 
     ghost Value = { StoreView D };
 
     ghost view = { λ s. record {
       disk = s.disk;
-      desktop = shown (now (D.Disk.trail s.disk)).reads s.desktop;
+      desktop = seen_live (now (D.Disk.trail s.disk)).reads s.desktop;
       kept = s.desktop.desktop;
+      layout = version_number s.version;
       epoch = s.epoch;
       events = s.events;
       must_reopen = s.must_reopen;
@@ -76,19 +83,35 @@ impl<D: Disk> Model for Store<D> {
     ghost invariant = { λ s. s.must_reopen ≡ false → (s.slot < SLOTS) × (s.events ≤ JOURNAL_EVENTS)
         × (STORE_SECTORS ≤ D.Disk.size s.disk) × IsLive s.desktop × IsTold D.Disk s.disk s.desktop
         × (D.Disk.honest s.disk
-        → IsKept (D.Disk.size s.disk) (D.Disk.trail s.disk) s.slot s.epoch s.events
-        (shown (now (D.Disk.trail s.disk)).reads s.desktop)
+        → IsKept (D.Disk.size s.disk) (D.Disk.trail s.disk) s.slot (version_number s.version) s.epoch s.events
+        (seen_live (now (D.Disk.trail s.disk)).reads s.desktop)
         × IsNamed (now (D.Disk.trail s.disk)).reads s.slot s.desktop) };
 }
 
 impl<D: Disk> Store<D> {
-    /// Makes the disk a store of the empty desktop. It takes no memory, and hands the disk back.
+    /// Makes the disk a store of the empty desktop, in the newest version. It takes no memory, and hands the disk back.
     ///
     /// Errors, each with the disk: `TooSmall` where it has fewer sectors than a store needs, and then it is untouched;
     /// `Fault`, after which it may be no store.
     pub fn format(disk: D) -> Result<D, (Error, D)>
         ensures empty { IfOk result (λ new. D.honest disk
-            → Leaves (now (D.trail new)) (Shows (D.size new) 1 0 empty_desktop)) }
+            → Leaves (now (D.trail new)) (Shows (D.size new) LAYOUT 1 0 empty_desktop)) }
+        ensures small { IsErrOf (outcome result) Error.TooSmall ↔ (D.size disk < STORE_SECTORS) }
+        ensures untouched { IfErr result (λ e. e.0 ≡ Error.TooSmall → e.1 ≡ disk) }
+        ensures within { StaysWithin D.Disk disk (disk_after (λ new. new) result) }
+        ensures faults { FailsAs Error.Fault OfFormat (outcome result) (D.failures disk) (D.failures (disk_after
+            (λ new. new) result)) }
+    {
+        Store::format_as(disk, NEWEST)
+    }
+
+    /// Makes the disk a store of the empty desktop, in that version. It takes no memory, and hands the disk back.
+    ///
+    /// Errors, each with the disk: `TooSmall` where it has fewer sectors than a store needs, and then it is untouched;
+    /// `Fault`, after which it may be no store.
+    pub fn format_as(disk: D, version: Version) -> Result<D, (Error, D)>
+        ensures empty { IfOk result (λ new. D.honest disk
+            → Leaves (now (D.trail new)) (Shows (D.size new) (version_number version) 1 0 empty_desktop)) }
         ensures small { IsErrOf (outcome result) Error.TooSmall ↔ (D.size disk < STORE_SECTORS) }
         ensures untouched { IfErr result (λ e. e.0 ≡ Error.TooSmall → e.1 ≡ disk) }
         ensures within { StaysWithin D.Disk disk (disk_after (λ new. new) result) }
@@ -99,7 +122,7 @@ impl<D: Disk> Store<D> {
         if disk.sectors() < STORE_SECTORS {
             return Err((Error::TooSmall, disk));
         }
-        match lay_out(&mut disk) {
+        match lay_out(&mut disk, version.number()) {
             Ok(()) => Ok(disk),
             Err(Fault) => Err((Error::Fault, disk)),
         }
@@ -129,6 +152,7 @@ impl<D: Disk> Store<D> {
                 disk,
                 desktop: loaded.desktop,
                 slot: loaded.slot,
+                version: loaded.version,
                 epoch: loaded.epoch,
                 events: loaded.events,
                 must_reopen: false,
@@ -137,10 +161,11 @@ impl<D: Disk> Store<D> {
         }
     }
 
-    /// Takes one event: does it, and puts it into the journal. Where the journal is full a checkpoint comes first. At
-    /// `Ok` the event is acknowledged, whatever the reply.
+    /// Takes one event: does it, with the commands of the newest version, and puts it into the journal. Where the
+    /// journal is full, or the slot in use has an older version, a checkpoint comes first. At `Ok` the event is
+    /// acknowledged, whatever the reply.
     ///
-    /// Errors: `MustReopen` after an earlier `NoMemory` or `Fault`; `Worn` where the journal is full and the epoch is
+    /// Errors: `MustReopen` after an earlier `NoMemory` or `Fault`; `Worn` where a checkpoint is due and the epoch is
     /// the last one; `NoMemory`, and the event is on the disk in no image; `Fault`, and it may be there or not. The
     /// first two change nothing; after the last two the store must be opened again.
     pub fn post(&mut self, alloc: Global, event: &Event) -> Result<Reply, Error>
@@ -153,16 +178,26 @@ impl<D: Disk> Store<D> {
         ensures faults { FailsAs Error.Fault OfPost result (D.failures self.old.disk) (D.failures self.new.disk) }
         ensures device { IsSameDevice D.Disk self.old.disk self.new.disk }
         ensures within { StaysWithin D.Disk self.old.disk self.new.disk }
+        ensures first { self.old.must_reopen ≡ false → Needs self.old
+            → ChecksFirst D.Disk event.now result self.old self.new }
     {
-        if self.events >= JOURNAL_EVENTS {
+        if self.needs() {
             self.checkpoint()?;
         }
         self.put(alloc, event)
     }
 
-    /// The rest of a post: the journal has room.
+    /// Whether a checkpoint is due before the next event: the journal is full, or the slot in use has an older version.
+    fn needs(&self) -> bool
+        ensures due { IsTrue result ↔ Needs self.now }
+        ensures room { result ≡ false → HasRoom self.now }
+    {
+        self.events >= JOURNAL_EVENTS || self.version.number() != LAYOUT
+    }
+
+    /// The rest of a post: the journal has room, and the slot in use has the newest version.
     fn put(&mut self, alloc: Global, event: &Event) -> Result<Reply, Error>
-        requires { self.old.must_reopen ≡ false → self.old.events < JOURNAL_EVENTS }
+        requires { self.old.must_reopen ≡ false → HasRoom self.old }
         ensures any_moment { LeavesEither D.Disk event.now self.old self.new }
         ensures ok { IfOk result (λ reply. IsAcknowledged D.Disk event.now reply self.old self.new) }
         ensures memory { IsErrOf result Error.NoMemory → IsStarved D.Disk self.old self.new }
@@ -189,8 +224,8 @@ impl<D: Disk> Store<D> {
         Ok(reply)
     }
 
-    /// Puts the desktop whole into the slot that isn't in use, and makes that the slot in use, with an empty journal.
-    /// It takes no memory. At each moment a crash leaves the same desktop.
+    /// Puts the desktop whole into the slot that isn't in use, in the newest version, and makes that the slot in use,
+    /// with an empty journal. It takes no memory. At each moment a crash leaves the same desktop.
     ///
     /// Errors: `MustReopen` after an earlier `NoMemory` or `Fault`; `Worn` where the epoch is the last one. These
     /// change nothing. `Fault`, after which the store must be opened again.
@@ -210,14 +245,16 @@ impl<D: Disk> Store<D> {
         if self.epoch == LAST_EPOCH {
             return Err(Error::Worn);
         }
-        let place = Place {
+        let place = SlotPlace {
             slot: 1 - self.slot,
             epoch: self.epoch + 1,
+            area: self.desktop.next_area(),
             saved: self.desktop.saved(),
         };
         self.must_reopen = true;
         renew(&mut self.disk, &mut self.desktop, place)?;
         self.slot = place.slot;
+        self.version = NEWEST;
         self.epoch = place.epoch;
         self.events = 0;
         self.must_reopen = false;
@@ -275,20 +312,21 @@ impl<D: Disk> Store<D> {
         ensures value { self.now.must_reopen ≡ false
             → result ≡ Ok
             (record {
-              layout = 1;
+              layout = self.now.layout;
               epoch = self.now.epoch;
               events = self.now.events;
               written = self.now.desktop.written;
             }) }
         ensures reopen { self.now.must_reopen ≡ true → result ≡ Err Error.MustReopen }
         ensures few { self.now.must_reopen ≡ false → self.now.events ≤ JOURNAL_EVENTS }
+        ensures known { (FIRST_LAYOUT ≤ self.now.layout) × (self.now.layout ≤ LAYOUT) }
         ensures durable { self.now.must_reopen ≡ false → IsDurable D.Disk self.now }
     {
         if self.must_reopen {
             return Err(Error::MustReopen);
         }
         Ok(Info {
-            layout: LAYOUT,
+            layout: self.version.number(),
             epoch: self.epoch,
             events: self.events,
             written: self.desktop.written(),
@@ -303,6 +341,7 @@ impl<D: Disk> Store<D> {
             disk,
             desktop: _,
             slot: _,
+            version: _,
             epoch: _,
             events: _,
             must_reopen: _,

@@ -26,7 +26,7 @@ use Rattle.desk_sitting.specs.Sittings.{Desk, PressesAreSteps, accepted, accepte
 use Rattle.desk_sitting.specs.Sittings.{click_at, posts}
 use Rattle.desk_session.specs.declared.ending.Ending.{Ending}
 use Rattle.desk_session.specs.declared.ending.Ending.TheVariants.{Left, Closed, Input, Output, Fault, Memory}
-use Rattle.desk_session.specs.Serving.{Place, IsLookedAt, Turns, IsRun, Broke, Stops, Ends, seen}
+use Rattle.desk_session.specs.Serving.{TurnState, IsLookedAt, Turns, IsRun, Broke, Stops, Ends, seen}
 use Rattle.desk_session.specs.Serving.{none as no_turn, one_more as one_more_turn}
 use Rattle.desk_session.specs.Serving.{left, closed, unheard, unseen, faulty, starved, faulty_press, starved_press}
 use Rattle.desk_session.specs.Serving.{stopped, too_long}
@@ -326,7 +326,7 @@ module _ {D : Type 0} (d : Ghosts D) where
 
     -- ---- turns
 
-    turn_goes : (events : List Event) (old new : Place D) → Turns d events old new → d.honest old.store.disk
+    turn_goes : (events : List Event) (old new : TurnState D) → Turns d events old new → d.honest old.store.disk
         → IsDurable d old.store → GoesBy d events old.store new.store
     turn_goes events old new turn honest durable =
         let looks : IsLookedAt d old.store turn.mid = turn.frame.looked in
@@ -335,7 +335,7 @@ module _ {D : Type 0} (d : Ghosts D) where
         subst (λ es. GoesBy d es old.store new.store) (sym turn.are)
         (goes_on [] _ old.store turn.mid new.store (goes_by_look old.store turn.mid looks honest durable) done.goes)
 
-    run_goes : {old : Place D} {count : ℕ} {events : List Event} {new : Place D} → IsRun d old count events new
+    run_goes : {old : TurnState D} {count : ℕ} {events : List Event} {new : TurnState D} → IsRun d old count events new
         → d.honest old.store.disk → IsDurable d old.store → GoesBy d events old.store new.store
     run_goes {old = old} no_turn honest durable = goes_nowhere old.store honest durable
     run_goes {old = old} {new = new} (one_more_turn {events = events} {more = more} {mid = mid} run turn stays) honest
@@ -364,7 +364,7 @@ module _ {D : Type 0} (d : Ghosts D) where
     behind_frame events begun old mid new looks honest durable rest =
         survives_on [] events begun old mid new (goes_by_look old mid looks honest durable) rest
 
-    faulty_survives : (events begun : List Event) (old new : Place D) → Broke d DiskFault events begun old new
+    faulty_survives : (events begun : List Event) (old new : TurnState D) → Broke d DiskFault events begun old new
         → d.honest old.store.disk → IsDurable d old.store → SurvivesEnd d Fault events begun old.store new.store
     faulty_survives events begun old new broke honest durable =
         let looks : IsLookedAt d old.store broke.mid = broke.frame.looked in
@@ -380,7 +380,7 @@ module _ {D : Type 0} (d : Ghosts D) where
           goes_by = λ wrong _. absurd (wrong refl);
         }
 
-    starved_survives : (events begun : List Event) (old new : Place D) → Broke d NoMemory events begun old new
+    starved_survives : (events begun : List Event) (old new : TurnState D) → Broke d NoMemory events begun old new
         → d.honest old.store.disk → IsDurable d old.store → SurvivesEnd d Memory events [] old.store new.store
     starved_survives events begun old new broke honest durable =
         let looks : IsLookedAt d old.store broke.mid = broke.frame.looked in
@@ -395,7 +395,8 @@ module _ {D : Type 0} (d : Ghosts D) where
         }
 
     -- in the turn in which the sitting ends
-    stop_survives : {end : Ending} {events begun : List Event} {old new : Place D} → Stops d end events begun old new
+    stop_survives : {end : Ending} {events begun : List Event} {old new : TurnState D}
+        → Stops d end events begun old new
         → d.honest old.store.disk → IsDurable d old.store → SurvivesEnd d end events begun old.store new.store
     stop_survives (left {events = events} {old = old} {new = new} turn leaves) honest durable =
         well_ended Left events old.store new.store (turn_goes events old new turn honest durable)
@@ -424,7 +425,7 @@ module _ {D : Type 0} (d : Ghosts D) where
       goes_by = λ no_fault no_want. goes_on events more old mid new goes (rest.goes_by no_fault no_want);
     }
 
-    end_survives : {end : Ending} {turns : ℕ} {more begun : List Event} {mid new : Place D}
+    end_survives : {end : Ending} {turns : ℕ} {more begun : List Event} {mid new : TurnState D}
         → Ends d end turns more begun mid new → d.honest mid.store.disk → IsDurable d mid.store
         → SurvivesEnd d end more begun mid.store new.store
     end_survives (stopped stops) honest durable = stop_survives stops honest durable

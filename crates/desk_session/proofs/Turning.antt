@@ -26,7 +26,7 @@ use Rattle.desk_session.specs.declared.ending.Ending.{Ending}
 use Rattle.desk_session.specs.declared.ending.Ending.TheVariants.{Left, Closed, Input, Output, Fault, Memory}
 use Rattle.desk_session.specs.Endings.{end_of, end_of_keyboard}
 use Rattle.desk_session.specs.Frames.{IsPainted, IsShown, IsUnshown, after_frame, behind_it, known_by}
-use Rattle.desk_session.specs.Serving.{Place, IsBrought, IsLookedAt, IsHeard, IsDeaf, Broke}
+use Rattle.desk_session.specs.Serving.{TurnState, IsBrought, IsLookedAt, IsHeard, IsDeaf, Broke}
 use Rattle.desk_session.specs.Serving.{HasTurned, HasStopped, TakesTurn, CountsEnding, IsUsableAt, screen_of, seen}
 use Rattle.desk_session.specs.Serving.{left, closed}
 use Rattle.desk_session.specs.Serving.{unheard, unseen, faulty, starved, faulty_press, starved_press}
@@ -40,9 +40,10 @@ module _ {D : Type 0} (d : Ghosts D) where
   still_durable old new read same durable honest c image =
       let before = read.device.already honest in
       let was = durable before c (at_last (read.unwritten before) c image) in
-      let all : (n : ℕ) (s : Session) → d.size old.disk ≡ n → session_of old ≡ s → Shows n s.epoch s.events s.desktop c
-      = λ n s large is. subst (λ (k : ℕ). Shows k s.epoch s.events s.desktop c) large
-      (subst (λ (t : Session). Shows (d.size old.disk) t.epoch t.events t.desktop c) is was) in
+      let all : (n : ℕ) (s : Session) → d.size old.disk ≡ n → session_of old ≡ s
+      → Shows n s.layout s.epoch s.events s.desktop c
+      = λ n s large is. subst (λ (k : ℕ). Shows k s.layout s.epoch s.events s.desktop c) large
+      (subst (λ (t : Session). Shows (d.size old.disk) t.layout t.epoch t.events t.desktop c) is was) in
       all (d.size new.disk) (session_of new) (sym read.device.as_large) (sym same)
 
   -- a look
@@ -106,7 +107,7 @@ module _ {D : Type 0} (d : Ghosts D) where
   }
 
   -- a turn in which the sitting ends
-  ended : {T : Type 0} (result : Result T Ending) (end : Ending) (old new : Place D) → result ≡ Err end
+  ended : {T : Type 0} (result : Result T Ending) (end : Ending) (old new : TurnState D) → result ≡ Err end
       → (d.honest old.store.disk → IsDurable d old.store → HasStopped d end old new) → IsUsableAt end new.store
       → CountsEnding end (d.failures old.store.disk) (d.failures new.store.disk)
       → IsSameDevice d old.store.disk new.store.disk → TakesTurn d result old new
@@ -121,7 +122,7 @@ module _ {D : Type 0} (d : Ghosts D) where
   })
 
   -- the frame isn't shown
-  unshown_stops : (end : Ending) (old new : Place D) → IsLookedAt d old.store new.store → new.heard ≡ old.heard
+  unshown_stops : (end : Ending) (old new : TurnState D) → IsLookedAt d old.store new.store → new.heard ≡ old.heard
       → IsUnshown end old.sitting (screen_of old.store) old.known old.held new.held → HasStopped d end old new
   unshown_stops Left old new looks heard why = absurd why
   unshown_stops Closed old new looks heard why = absurd why
@@ -131,7 +132,7 @@ module _ {D : Type 0} (d : Ghosts D) where
   unshown_stops Memory old new looks heard why =
       ([], [], starved (record { looked = looks; held = why; heard = heard }))
 
-  pub unshown_ends : {T : Type 0} {old new : Place D} (result : Result T Ending) (end : Ending) → result ≡ Err end
+  pub unshown_ends : {T : Type 0} {old new : TurnState D} (result : Result T Ending) (end : Ending) → result ≡ Err end
       → (d.honest old.store.disk → IsDurable d old.store → IsLookedAt d old.store new.store)
       → (d.honest old.store.disk → IsUnshown end old.sitting (screen_of old.store) old.known old.held new.held)
       → new.heard ≡ old.heard → new.store.must_reopen ≡ false
@@ -141,11 +142,12 @@ module _ {D : Type 0} (d : Ghosts D) where
       (λ honest durable. unshown_stops end old new (looks honest durable) heard (why honest)) (λ _ _. usable)
 
   -- nothing is heard
-  deaf_stops : (why : KeyboardEnd) (old new : Place D) → IsDeaf d old new → HasStopped d (end_of_keyboard why) old new
+  deaf_stops : (why : KeyboardEnd) (old new : TurnState D) → IsDeaf d old new
+      → HasStopped d (end_of_keyboard why) old new
   deaf_stops keyboard.Closed old new deaf = ([], [], closed deaf)
   deaf_stops keyboard.Fault old new deaf = ([], [], unheard deaf)
 
-  pub deaf_ends : {T : Type 0} {old new : Place D} (result : Result T Ending) (why : KeyboardEnd)
+  pub deaf_ends : {T : Type 0} {old new : TurnState D} (result : Result T Ending) (why : KeyboardEnd)
       → result ≡ Err (end_of_keyboard why)
       → (d.honest old.store.disk → IsDurable d old.store → IsLookedAt d old.store new.store)
       → (d.honest old.store.disk
@@ -162,7 +164,7 @@ module _ {D : Type 0} (d : Ghosts D) where
       })) (λ _ _. usable) (calm_keyboard why (d.failures old.store.disk) (d.failures new.store.disk) calm)
 
   -- a frame is shown, after which the store and the sitting are these, and this is heard
-  module _ {old new : Place D} (mid : StoreView D) (s : Sitting) (hearing : List Heard)
+  module _ {old new : TurnState D} (mid : StoreView D) (s : Sitting) (hearing : List Heard)
       (looks : d.honest old.store.disk → IsDurable d old.store → IsLookedAt d old.store mid)
       (sees : d.honest old.store.disk → s ≡ seen old)
       (shown : d.honest old.store.disk
@@ -224,7 +226,7 @@ module _ {D : Type 0} (d : Ghosts D) where
         (counts_presses error (d.failures old.store.disk) (d.failures mid.disk) (d.failures new.store.disk) calm faults)
 
   -- the person leaves
-  pub left_stops : {old new : Place D} → HasTurned d old new → new.sitting.leaves ≡ true → HasStopped d Left old new
+  pub left_stops : {old new : TurnState D} → HasTurned d old new → new.sitting.leaves ≡ true → HasStopped d Left old new
   left_stops turn leaves = (turn.0, [], left turn.1 leaves)
 
 -- what is heard is what the keyboard told

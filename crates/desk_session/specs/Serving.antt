@@ -25,7 +25,7 @@ use Rattle.desk_session.specs.Frames.{IsShown, IsCutShort}
 
 -- where a sitting stands between two turns: the parser, the sitting, the store, all that was heard so far, what is
 -- known of the terminal, and what the writer holds
-pub record Place (D : Type 0) : Type 0 where
+pub record TurnState (D : Type 0) : Type 0 where
   pub parser : Parser
   pub sitting : Sitting
   pub store : StoreView D
@@ -38,11 +38,11 @@ abbrev pub screen_of : {D : Type 0} → StoreView D → List (List Cell)
 screen_of store = shown_screen store.desktop
 
 -- the sitting after the frame was shown
-abbrev pub seen : {D : Type 0} → Place D → Sitting
+abbrev pub seen : {D : Type 0} → TurnState D → Sitting
 seen p = looked (screen_of p.store) p.sitting
 
 abbrev pub place_of : {D : Type 0} → Parser → Sitting → StoreView D → List Heard → List (List Face)
-    → Option (List ℕ) → Place D
+    → Option (List ℕ) → TurnState D
 place_of parser sitting store heard known held = record {
   parser = parser;
   sitting = sitting;
@@ -53,7 +53,7 @@ place_of parser sitting store heard known held = record {
 }
 
 -- nothing was heard yet, and nothing is known of the terminal
-abbrev pub first_place : {D : Type 0} → ℕ → Saying → StoreView D → List Heard → Option (List ℕ) → Place D
+abbrev pub first_place : {D : Type 0} → ℕ → Saying → StoreView D → List Heard → Option (List ℕ) → TurnState D
 first_place height greeting store heard held = place_of at_rest (new_sitting height greeting) store heard [] held
 
 -- the keyboard was asked for the text of a host file, where one is wanted
@@ -88,14 +88,14 @@ module _ {D : Type 0} (d : Ghosts D) where
   -- ---- a turn
 
   -- The terminal shows the desktop, and then this is heard.
-  pub record IsHeard (hearing : List Heard) (old : Place D) (mid : StoreView D) (new : Place D) : Type 0 where
+  pub record IsHeard (hearing : List Heard) (old : TurnState D) (mid : StoreView D) (new : TurnState D) : Type 0 where
     pub looked : IsLookedAt old.store mid
     pub shown : IsShown old.sitting (screen_of old.store) old.known new.known old.held new.held
     pub heard : new.heard ≡ old.heard ++ hearing
 
   -- Then what is pressed by it is done, of which these events are accepted, and the keyboard is asked for the text of a
   -- host file where one is wanted.
-  pub record Turns (events : List Event) (old new : Place D) : Type 0 where
+  pub record Turns (events : List Event) (old new : TurnState D) : Type 0 where
     pub hearing : List Heard
     pub mid : StoreView D
     pub frame : IsHeard hearing old mid new
@@ -106,32 +106,32 @@ module _ {D : Type 0} (d : Ghosts D) where
     pub brings : IsBrought sitting new.sitting
 
   -- so many turns, one after another, in which these events are accepted, and after none of which the person has left
-  pub data IsRun (first : Place D) : ℕ → List Event → Place D → Type 0 where
+  pub data IsRun (first : TurnState D) : ℕ → List Event → TurnState D → Type 0 where
     none : IsRun first 0 [] first
-    one_more : {count : ℕ} {events more : List Event} {mid new : Place D} → IsRun first count events mid
+    one_more : {count : ℕ} {events more : List Event} {mid new : TurnState D} → IsRun first count events mid
         → Turns more mid new → new.sitting.leaves ≡ false → IsRun first (count + 1) (events ++ more) new
 
   -- ---- how it ends
 
   -- nothing is heard after the frame
-  abbrev pub IsDeaf : Place D → Place D → Type 0
+  abbrev pub IsDeaf : TurnState D → TurnState D → Type 0
   IsDeaf old new = IsHeard [] old new.store new
 
   -- the output takes a front of what has the terminal show the frame
-  pub record IsUnseen (old new : Place D) : Type 0 where
+  pub record IsUnseen (old new : TurnState D) : Type 0 where
     pub looked : IsLookedAt old.store new.store
     pub cut : IsCutShort old.sitting (screen_of old.store) old.known old.held new.held
     pub heard : new.heard ≡ old.heard
 
   -- the screen can't be worked out
-  pub record IsBlind (old new : Place D) : Type 0 where
+  pub record IsBlind (old new : TurnState D) : Type 0 where
     pub looked : IsLookedAt old.store new.store
     pub held : new.held ≡ old.held
     pub heard : new.heard ≡ old.heard
 
   -- A press fails. These events are accepted of the presses before it, and this one, if any, was to be its own. What is
   -- pressed after it isn't done.
-  pub record Broke (error : Error) (events begun : List Event) (old new : Place D) : Type 0 where
+  pub record Broke (error : Error) (events begun : List Event) (old new : TurnState D) : Type 0 where
     pub hearing : List Heard
     pub mid : StoreView D
     pub frame : IsHeard hearing old mid new
@@ -141,34 +141,34 @@ module _ {D : Type 0} (d : Ghosts D) where
 
   -- A sitting ends in a turn, in which these events are accepted. One more is begun where the disk fails in a press: it
   -- isn't acknowledged, and may be in an image or not. For want of memory it is in none.
-  pub data Stops : Ending → List Event → List Event → Place D → Place D → Type 0 where
-    left : {events : List Event} {old new : Place D} → Turns events old new → new.sitting.leaves ≡ true
+  pub data Stops : Ending → List Event → List Event → TurnState D → TurnState D → Type 0 where
+    left : {events : List Event} {old new : TurnState D} → Turns events old new → new.sitting.leaves ≡ true
         → Stops Left events [] old new
-    closed : {old new : Place D} → IsDeaf old new → Stops Closed [] [] old new
-    unheard : {old new : Place D} → IsDeaf old new → Stops Input [] [] old new
-    unseen : {old new : Place D} → IsUnseen old new → Stops Output [] [] old new
-    faulty : {old new : Place D} → IsBlind old new → Stops Fault [] [] old new
-    starved : {old new : Place D} → IsBlind old new → Stops Memory [] [] old new
-    faulty_press : {events begun : List Event} {old new : Place D} → Broke DiskFault events begun old new
+    closed : {old new : TurnState D} → IsDeaf old new → Stops Closed [] [] old new
+    unheard : {old new : TurnState D} → IsDeaf old new → Stops Input [] [] old new
+    unseen : {old new : TurnState D} → IsUnseen old new → Stops Output [] [] old new
+    faulty : {old new : TurnState D} → IsBlind old new → Stops Fault [] [] old new
+    starved : {old new : TurnState D} → IsBlind old new → Stops Memory [] [] old new
+    faulty_press : {events begun : List Event} {old new : TurnState D} → Broke DiskFault events begun old new
         → Stops Fault events begun old new
-    starved_press : {events begun : List Event} {old new : Place D} → Broke NoMemory events begun old new
+    starved_press : {events begun : List Event} {old new : TurnState D} → Broke NoMemory events begun old new
         → Stops Memory events [] old new
 
   -- some events are accepted in a turn, and in the one in which it ends
-  abbrev pub HasTurned : Place D → Place D → Type 0
+  abbrev pub HasTurned : TurnState D → TurnState D → Type 0
   HasTurned old new = (events : List Event) × Turns events old new
 
-  abbrev pub HasStopped : Ending → Place D → Place D → Type 0
+  abbrev pub HasStopped : Ending → TurnState D → TurnState D → Type 0
   HasStopped end old new = (events : List Event) × (begun : List Event) × Stops end events begun old new
 
   -- It ends so after so many turns, or because there were as many as there may be.
-  pub data Ends : Ending → ℕ → List Event → List Event → Place D → Place D → Type 0 where
-    stopped : {end : Ending} {count : ℕ} {events begun : List Event} {old new : Place D}
+  pub data Ends : Ending → ℕ → List Event → List Event → TurnState D → TurnState D → Type 0 where
+    stopped : {end : Ending} {count : ℕ} {events begun : List Event} {old new : TurnState D}
         → Stops end events begun old new → Ends end count events begun old new
-    too_long : {place : Place D} → Ends Input MOST_TURNS [] [] place place
+    too_long : {place : TurnState D} → Ends Input MOST_TURNS [] [] place place
 
   -- All that a turn promises that returns this.
-  pub record TakesTurn {T : Type 0} (result : Result T Ending) (old new : Place D) : Type 0 where
+  pub record TakesTurn {T : Type 0} (result : Result T Ending) (old new : TurnState D) : Type 0 where
     pub goes_on : OnOk result (d.honest old.store.disk → IsDurable d old.store → HasTurned old new)
     pub stays : OnOk result (new.sitting.leaves ≡ false)
     pub stops : IfErr result (λ end. d.honest old.store.disk → IsDurable d old.store → HasStopped end old new)

@@ -12,7 +12,7 @@ use Rattle.desk_journal.specs.View.{StoreView, IsDurable}
 use Rattle.terminal_presses.specs.declared.press.Heard.{Heard}
 use Rattle.desk_session.specs.declared.ending.Ending.{Ending}
 use Rattle.desk_session.specs.declared.ending.Ending.TheVariants.{Fault, Memory}
-use Rattle.desk_session.specs.Serving.{Place, IsHeard, IsRun, Ends}
+use Rattle.desk_session.specs.Serving.{TurnState, IsHeard, IsRun, Ends}
 
 -- The content means the desktop after some of these events, the first of them and none left out, and among them every
 -- event that was acknowledged.
@@ -50,18 +50,18 @@ module _ {D : Type 0} (d : Ghosts D) where
 
   -- Turns: the store goes on by the events that are accepted in them, and so each further place is such a place.
   abbrev pub TurnsSurvive : Type 0
-  TurnsSurvive = (count : ℕ) (events : List Event) (old new : Place D) → IsRun d old count events new
+  TurnsSurvive = (count : ℕ) (events : List Event) (old new : TurnState D) → IsRun d old count events new
       → d.honest old.store.disk → IsDurable d old.store → GoesBy events old.store new.store
 
   -- A frame: until the first press after it is done a crash leaves the desktop that is shown.
   abbrev pub FramesSurvive : Type 0
-  FramesSurvive = (hearing : List Heard) (old new : Place D) (mid : StoreView D) → IsHeard d hearing old mid new
+  FramesSurvive = (hearing : List Heard) (old new : TurnState D) (mid : StoreView D) → IsHeard d hearing old mid new
       → d.honest old.store.disk → IsDurable d old.store
       → LeavesOnly (d.trail old.store.disk) (d.trail mid.disk) (Means (d.size old.store.disk) old.store.desktop)
 
   -- The rest of the sitting: a crash leaves the desktop that is shown at the place, after a prefix of the events that
   -- are accepted from then on.
   abbrev pub EndsSurvive : Type 0
-  EndsSurvive = (end : Ending) (count turns : ℕ) (events more begun : List Event) (old mid new : Place D)
+  EndsSurvive = (end : Ending) (count turns : ℕ) (events more begun : List Event) (old mid new : TurnState D)
       → IsRun d old count events mid → Ends d end turns more begun mid new
       → d.honest old.store.disk → IsDurable d old.store → SurvivesEnd end (events ++ more) begun old.store new.store

@@ -10,7 +10,7 @@ use Rattle.desktop_definitions.specs.Desktop.{Desktop}
 use Rattle.desktop_definitions.specs.Shown.{shown_screen}
 use Rattle.desktop_definitions.specs.Step.{step, steps}
 use Rattle.store_layout.specs.Bits.{true_or_false}
-use Rattle.desk_journal.specs.Session.{Session, is_full, is_worn, renewed, stepped, taken}
+use Rattle.desk_journal.specs.Session.{Session, is_due, is_worn, renewed, stepped, taken}
 use Rattle.terminal_presses.specs.declared.press.Press.{Press}
 use Rattle.terminal_presses.specs.declared.action.Action.{Action}
 use Rattle.terminal_presses.specs.declared.action.Action.TheVariants as action
@@ -34,12 +34,12 @@ either_way s false = refl
 taken_steps : (s : Session) (event : Event)
     → (taken s event).desktop ≡ steps s.desktop (if is_worn s then [] else event ∷ [])
 taken_steps s event =
-    let next = stepped (if is_full s then renewed s else s) event in
+    let next = stepped (if is_due s then renewed s else s) event in
     elim (true_or_false (is_worn s)) [
       | inl worn ↦ ap (λ (t : Session). t.desktop) (cond-true (is_worn s) s next worn)
           ∙ sym (ap (steps s.desktop) (cond-true (is_worn s) [] (event ∷ []) worn))
       | inr room ↦ ap (λ (t : Session). t.desktop) (cond-false (is_worn s) s next room)
-          ∙ ap (λ d. (step d event).0) (either_way s (is_full s))
+          ∙ ap (λ d. (step d event).0) (either_way s (is_due s))
           ∙ sym (ap (steps s.desktop) (cond-false (is_worn s) [] (event ∷ []) room))
     ]
 

@@ -138,7 +138,7 @@ module _ {D : Type 0} (d : Ghosts D) where
                 desk = ap (λ t. desk_of t new) is
                     ∙ replied_desk event (desk_of s old) reply (session_of new) room
                     (ap (λ (p : Desktop × Reply). p.1) one) (is_taken (session_of old) (session_of new) event room
-                    desktop acknowledged.more acknowledged.anew);
+                    desktop acknowledged.more acknowledged.anew acknowledged.layout);
                 any_moment = moments_to new.desktop desktop honest;
                 durable = acknowledged.durable;
                 device = device;
@@ -204,7 +204,7 @@ module _ {D : Type 0} (d : Ghosts D) where
   module _ {A : Type 0} {result : Result A Error} {old mid : StoreView D} (looks : OnlyLooks d result old mid) where
     same_session : d.honest old.disk → session_of mid ≡ session_of old
     same_session honest =
-        session_parts (session_of mid) (session_of old) (looks.desktop honest) looks.epoch looks.events
+        session_parts (session_of mid) (session_of old) (looks.desktop honest) looks.layout looks.epoch looks.events
 
     module _ (honest : d.honest old.disk) (durable : IsDurable d old) where
       -- each image means what it meant before
@@ -213,8 +213,9 @@ module _ {D : Type 0} (d : Ghosts D) where
 
       still_durable : IsDurable d mid
       still_durable = λ same c image.
-          subst (λ (s : Session). Shows (d.size mid.disk) s.epoch s.events s.desktop c) (sym (same_session honest))
-          (subst (λ size. Shows size old.epoch old.events old.desktop c) (sym looks.disk.device.as_large)
+          subst (λ (s : Session). Shows (d.size mid.disk) s.layout s.epoch s.events s.desktop c)
+          (sym (same_session honest))
+          (subst (λ size. Shows size old.layout old.epoch old.events old.desktop c) (sym looks.disk.device.as_large)
           (durable honest c (at_last (looks.disk.unwritten honest) c image)))
 
       -- what a crash leaves from then on it leaves from before the look on

@@ -18,7 +18,7 @@ reasons =
     codes "refused (3): a parameter is missing or of another kind" ∷
     codes "refused (4): the word is no command's" ∷
     codes "refused (5): there is no such file, or it is named twice" ∷
-    codes "refused (6): no room for more characters" ∷
+    codes "refused (6): no room for more characters; System.Collect may make some" ∷
     codes "refused (7): no viewer is at the marker, or none is kept" ∷
     codes "refused (8): there are 256 files" ∷
     codes "refused (9): the cell lies outside the display" ∷

@@ -15,5 +15,5 @@ mod window;
 
 pub use doing::do_presses;
 pub use laws::presses_are_steps;
-pub use saying::{Line, Saying};
+pub use saying::{Saying, SayingLine};
 pub use sitting::Sitting;

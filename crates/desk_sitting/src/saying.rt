@@ -31,7 +31,7 @@ const REASONS: [&[u8]; 14] = [
     b"refused (3): a parameter is missing or of another kind",
     b"refused (4): the word is no command's",
     b"refused (5): there is no such file, or it is named twice",
-    b"refused (6): no room for more characters",
+    b"refused (6): no room for more characters; System.Collect may make some",
     b"refused (7): no viewer is at the marker, or none is kept",
     b"refused (8): there are 256 files",
     b"refused (9): the cell lies outside the display",
@@ -102,11 +102,11 @@ impl Saying {
 }
 
 /// The line below a screen, of 80 characters at most.
-pub type Line = ArrayVec<u8, 80>;
+pub type SayingLine = ArrayVec<u8, 80>;
 
 /// The text of the line below: a name that is asked for goes before all else, then the next click.
 #[tactic(auto, unfolding(crate::specs::Sayings::line_of))]
-pub(crate) fn line_of(asked: Option<&[u8]>, armed: Option<Click>, saying: Saying) -> Line
+pub(crate) fn line_of(asked: Option<&[u8]>, armed: Option<Click>, saying: Saying) -> SayingLine
     ensures { result.items ≡ line_of (option_map (λ name. name.now) asked.entry) armed saying }
 {
     if let Some(name) = asked {
@@ -119,7 +119,7 @@ pub(crate) fn line_of(asked: Option<&[u8]>, armed: Option<Click>, saying: Saying
 }
 
 /// A name of a host file as far as it is typed, of which the end is seen.
-fn question(name: &[u8]) -> Line
+fn question(name: &[u8]) -> SayingLine
     ensures { result.items ≡ question name.now }
 {
     let mut text = line(b"Type which file? ");
@@ -129,11 +129,11 @@ fn question(name: &[u8]) -> Line
 }
 
 /// Words of 80 characters at most.
-fn line(words: &[u8]) -> Line
+fn line(words: &[u8]) -> SayingLine
     requires { length words.now ≤ 80 }
     ensures { result.items ≡ words.now }
 {
-    let mut text = Line::new();
+    let mut text = SayingLine::new();
     text.try_extend_from_slice(words).unwrap();
     text
 }

@@ -6,7 +6,7 @@ ghost use Rattle.desk_sitting.specs.Sittings.{acted, after_press, brought, click
 ghost use Rattle.desk_sitting.specs.Sittings.{refused, replied};
 
 use crate::aim::{aimed, caret_of};
-use crate::saying::{Line, Saying, line_of};
+use crate::saying::{Saying, SayingLine, line_of};
 use crate::window::{fitted, followed, height_told, moved};
 use desk_journal::{Error, Store};
 use desktop_definitions::Reply;
@@ -59,7 +59,7 @@ impl Sitting {
     }
 
     /// The line below the screen, of 80 characters at most.
-    pub fn line(&self) -> Line
+    pub fn line(&self) -> SayingLine
         ensures { result.items ≡ line_of self.now.hand.asked self.now.hand.armed self.now.saying }
     {
         line_of(self.hand.asked(), self.hand.armed(), self.saying)

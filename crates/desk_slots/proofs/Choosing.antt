@@ -94,3 +94,21 @@ pub found_used : (c : Content) (first second : Option Head) (chosen : ℕ × Hea
 found_used c first second chosen in_first in_second is =
     let used = chosen_used c first second chosen in_first in_second is in
     (used.0, heads_good c first second in_first in_second, used.1)
+
+-- of two heads that are good, where there are, the chosen one is good
+either_good : (first second : Head) (chosen : ℕ × Head) (newer : Bool) → IsGoodHead first → IsGoodHead second
+    → Some chosen ≡ (if newer then Some (1, second) else Some (0, first)) → IsGoodHead chosen.1
+either_good first second chosen true in_first in_second is =
+    let same : chosen ≡ (1, second) = cc is in subst (λ (x : ℕ × Head). IsGoodHead x.1) (sym same) in_second
+either_good first second chosen false in_first in_second is =
+    let same : chosen ≡ (0, first) = cc is in subst (λ (x : ℕ × Head). IsGoodHead x.1) (sym same) in_first
+
+pub chosen_good : (first second : Option Head) (chosen : ℕ × Head) → IfSome first IsGoodHead
+    → IfSome second IsGoodHead → IsChosen first second (Some chosen) → IsGoodHead chosen.1
+chosen_good None None chosen in_first in_second is = absurd cc
+chosen_good (Some first) None chosen in_first in_second is =
+    let same : chosen ≡ (0, first) = cc is in subst (λ (x : ℕ × Head). IsGoodHead x.1) (sym same) in_first
+chosen_good None (Some second) chosen in_first in_second is =
+    let same : chosen ≡ (1, second) = cc is in subst (λ (x : ℕ × Head). IsGoodHead x.1) (sym same) in_second
+chosen_good (Some first) (Some second) chosen in_first in_second is =
+    either_good first second chosen (nat_lt first.epoch second.epoch) in_first in_second is

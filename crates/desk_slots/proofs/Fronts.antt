@@ -13,7 +13,7 @@ use Rattle.char_pages.specs.Pages.{base_of, saved_of, saved_sectors, rest_of, pa
 use Rattle.char_pages.proofs.Paging.{length-paged}
 use Rattle.desktop_definitions.specs.Desktop.{KeptDesktop}
 use Rattle.store_layout.specs.declared.layout.TheConstants.{AREA_SECTORS, IMAGE_SECTORS, SLOTS}
-use Rattle.store_layout.specs.Layout.{area_at, image_at}
+use Rattle.store_layout.specs.Layout.{area_start, area_at, image_at}
 use Rattle.store_layout.specs.Meaning.{full_sectors, left_over}
 use Rattle.store_layout.specs.Kept.{HasFront}
 use Rattle.store_layout.specs.StandingLaws.{has_front_stays}
@@ -27,15 +27,15 @@ pub placed : (m m' : Moment) (place n : ℕ) (bytes : List ℕ) → place ≡ n 
 placed m m' place n bytes is wrote = subst (λ k. m' ≡ written m k bytes) is wrote
 
 -- a sector of the characters is written after those that stand
-front_more : (m m' : Moment) (n : ℕ) (sector characters : List ℕ) → m' ≡ written m (area_at n) sector
+front_more : (m m' : Moment) (area n : ℕ) (sector characters : List ℕ) → m' ≡ written m (area_at area n) sector
     → SECTOR_BYTES * (n + 1) ≤ length characters → sector ≡ take SECTOR_BYTES (drop (SECTOR_BYTES * n) characters)
-    → HasFront m.reads n characters → HasFront m'.reads (n + 1) characters
-front_more m m' n sector characters is_written room is was =
-    sector_more m'.reads (area_at 0) n sector
-    (ap (λ s. s.reads (area_at n)) is_written ∙ reads_here m (area_at n) sector) wide
-    ∙ ap (λ l. l ++ sector) (stored_same m.reads m'.reads (area_at 0) (SECTOR_BYTES * n)
-    (λ k low. ap (λ s. s.reads (area_at k)) is_written
-    ∙ reads_elsewhere m (area_at n) (area_at k) sector (omega (arith, low))) ∙ was)
+    → HasFront m.reads area n characters → HasFront m'.reads area (n + 1) characters
+front_more m m' area n sector characters is_written room is was =
+    sector_more m'.reads (area_start area) n sector
+    (ap (λ s. s.reads (area_at area n)) is_written ∙ reads_here m (area_at area n) sector) wide
+    ∙ ap (λ l. l ++ sector) (stored_same m.reads m'.reads (area_start area) (SECTOR_BYTES * n)
+    (λ k low. ap (λ s. s.reads (area_at area k)) is_written
+    ∙ reads_elsewhere m (area_at area n) (area_at area k) sector (omega (arith, low))) ∙ was)
     ∙ ap (λ l. take (SECTOR_BYTES * n) characters ++ l) is ∙ sym (take-add (SECTOR_BYTES * n) SECTOR_BYTES characters)
     ∙ ap (λ i. take i characters) (omega arith)
   where
@@ -44,12 +44,12 @@ front_more m m' n sector characters is_written room is was =
         (omega (arith, room, length-drop (SECTOR_BYTES * n) characters))
 
 -- the same where the front was written before and sector i of the rest is written now
-pub rest_more : (m m' : Moment) (saved i : ℕ) (sector front rest : List ℕ)
-    → m' ≡ written m (area_at (saved + i)) sector → SECTOR_BYTES * (i + 1) ≤ length rest
+pub rest_more : (m m' : Moment) (area saved i : ℕ) (sector front rest : List ℕ)
+    → m' ≡ written m (area_at area (saved + i)) sector → SECTOR_BYTES * (i + 1) ≤ length rest
     → sector ≡ take SECTOR_BYTES (drop (SECTOR_BYTES * i) rest) → length front ≡ SECTOR_BYTES * saved
-    → HasFront m.reads (saved + i) (front ++ rest) → HasFront m'.reads (saved + i + 1) (front ++ rest)
-rest_more m m' saved i sector front rest is_written room is long was =
-    front_more m m' (saved + i) sector (front ++ rest) is_written
+    → HasFront m.reads area (saved + i) (front ++ rest) → HasFront m'.reads area (saved + i + 1) (front ++ rest)
+rest_more m m' area saved i sector front rest is_written room is long was =
+    front_more m m' area (saved + i) sector (front ++ rest) is_written
     (omega (arith, long, room, length-append front rest))
     (is ∙ ap (take SECTOR_BYTES) (sym (drop-append-add front rest (SECTOR_BYTES * i)))
     ∙ ap (λ n. take SECTOR_BYTES (drop n (front ++ rest))) (omega (arith, long))) was
@@ -71,19 +71,20 @@ module _ (c : Content) (p : Pages) (rest : List ℕ) (rest_is : rest ≡ rest_of
   long = length-paged c p.base p.saved p.rest.items ∙ ap (λ l. saved_of p + length l) (sym rest_is)
 
   -- the rest of the characters is written, and then the image of a slot
-  pub filled : (mid c' : Content) (saved slot : ℕ) → base_of p ≡ area_at 0 → saved ≡ saved_sectors p → slot < SLOTS
-      → ((front : List ℕ) → length front ≡ SECTOR_BYTES * saved → HasFront c saved (front ++ rest)
-      → HasFront mid (saved + length rest / SECTOR_BYTES) (front ++ rest))
+  pub filled : (mid c' : Content) (area saved slot : ℕ) → (0 < saved_of p → base_of p ≡ area_start area)
+      → saved ≡ saved_sectors p → slot < SLOTS
+      → ((front : List ℕ) → length front ≡ SECTOR_BYTES * saved → HasFront c area saved (front ++ rest)
+      → HasFront mid area (saved + length rest / SECTOR_BYTES) (front ++ rest))
       → ((n : ℕ) → ¬ InRange (image_at slot) IMAGE_SECTORS n → c' n ≡ mid n)
-      → HasFront c' (full_sectors (length (paged_characters c p))) (paged_characters c p)
-  filled mid c' saved slot based saved_is low fills outside =
-      has_front_stays mid c' (full_sectors (length (paged_characters c p))) (paged_characters c p)
-      (λ k few. outside (area_at k) (λ within. omega (arith, within.1, low)))
-      (subst (λ n. HasFront mid n (paged_characters c p)) count
-      (subst (λ l. HasFront mid (saved + length rest / SECTOR_BYTES) (stored c p.base p.saved ++ l)) rest_is
+      → HasFront c' area (full_sectors (length (paged_characters c p))) (paged_characters c p)
+  filled mid c' area saved slot based saved_is low fills outside =
+      has_front_stays mid c' area (full_sectors (length (paged_characters c p))) (paged_characters c p)
+      (λ k few. outside (area_at area k) (λ within. omega (arith, within.1, low)))
+      (subst (λ n. HasFront mid area n (paged_characters c p)) count
+      (subst (λ l. HasFront mid area (saved + length rest / SECTOR_BYTES) (stored c p.base p.saved ++ l)) rest_is
       (fills (stored c p.base p.saved) (length-stored c p.base p.saved ∙ sym whole)
-      (subst (λ l. HasFront c saved (stored c p.base p.saved ++ l)) (sym rest_is)
-      (has_front c p saved based whole)))))
+      (subst (λ l. HasFront c area saved (stored c p.base p.saved ++ l)) (sym rest_is)
+      (has_front c p area saved based whole)))))
     where
       whole : SECTOR_BYTES * saved ≡ saved_of p
       whole = omega (arith, saved_is, p.whole)

@@ -15,10 +15,10 @@ use Rattle.sector_disk.specs.declared.disk.TheConstants.{SECTOR_BYTES}
 use Rattle.desk_image.specs.Image.{IsSpellable, Spells}
 use Rattle.desk_image.specs.Laws.{EmptyLaw, empty_bytes}
 use Rattle.store_layout.specs.declared.head.Head.{Head}
-use Rattle.store_layout.specs.declared.layout.TheConstants.{LABEL, LAYOUT, STORE_SECTORS}
+use Rattle.store_layout.specs.declared.layout.TheConstants.{FIRST_LAYOUT, LABEL, LAYOUT, STORE_SECTORS}
 use Rattle.store_layout.specs.Bits.{clash}
-use Rattle.store_layout.specs.Layout.{is_label, is_open, slot_gate, slot_head, gate, image_at, area_at, head, head_of}
-use Rattle.store_layout.specs.Layout.{IsGoodHead}
+use Rattle.store_layout.specs.Layout.{is_label, is_open, slot_gate, slot_head, gate, image_at, area_start, area_at}
+use Rattle.store_layout.specs.Layout.{head, head_of, IsGoodHead}
 use Rattle.store_layout.specs.Meaning.{Makes, full_sectors}
 use Rattle.store_layout.specs.Kept.{IsNewSlot, IsKept}
 use Rattle.store_layout.specs.StandingLaws.{image_stays}
@@ -59,14 +59,21 @@ empty_spelled law = record { count = refl; whole = empty_whole; parts = empty_pa
 abbrev first_extent : ℕ
 first_extent = length empty_bytes
 
-module _ (before one two three four last : Moment) (image head_bytes shut label : List ℕ) (law : EmptyLaw)
+module _ (before one two three four last : Moment) (image head_bytes shut label : List ℕ) (version : ℕ)
+    (first : FIRST_LAYOUT ≤ version) (newest : version ≤ LAYOUT) (law : EmptyLaw)
     (image_is : take first_extent image ≡ empty_bytes)
-    (is_head : head_of head_bytes ≡ record { version = LAYOUT; epoch = 1; written = 0; extent = first_extent })
+    (is_head : head_of head_bytes ≡ record {
+      version = version;
+      epoch = 1;
+      written = 0;
+      extent = first_extent;
+      area = 0;
+    })
     (is_shut : is_open shut ≡ false) (image_written : one ≡ written before (image_at 0) image)
     (head_written : two ≡ written one (slot_head 0) head_bytes) (gate_written : three ≡ written two (gate 0 0) shut)
     (label_written : four ≡ written three LABEL label) (synced : last ≡ settled four) where
   abbrev new_head : Head
-  new_head = record { version = LAYOUT; epoch = 1; written = 0; extent = first_extent }
+  new_head = record { version = version; epoch = 1; written = 0; extent = first_extent; area = 0 }
 
   after_label : (n : ℕ) → n ≢ LABEL → last.reads n ≡ three.reads n
   after_label n other = ap (λ m. m.reads n) (synced ∙ ap settled label_written)
@@ -106,37 +113,49 @@ module _ (before one two three four last : Moment) (image head_bytes shut label 
     is = empty_seen;
   }
 
-  fresh : IsNewSlot last.reads 0 1 empty_desktop
+  fresh : IsNewSlot last.reads 0 version 1 empty_desktop
   fresh = record {
     good = subst IsGoodHead (sym here)
-        (record { version = refl; epoch = omega arith; written = omega arith; extent = omega arith });
+        (record {
+          first = first;
+          newest = newest;
+          epoch = omega arith;
+          written = omega arith;
+          extent = omega arith;
+          area = omega arith;
+        });
+    version_is = ap (λ h. h.version) here;
     epoch = ap (λ h. h.epoch) here;
     image = subst (λ h. Makes h (stored last.reads (image_at 0) h.extent)
-        (stored last.reads (area_at 0) (SECTOR_BYTES * full_sectors h.written)) empty_desktop) (sym here)
-        (subst (λ l. Makes new_head l (stored last.reads (area_at 0) 0) empty_desktop) (sym image_stored)
-        (subst (λ l. Makes new_head empty_bytes l empty_desktop) (sym (none_stored last.reads (area_at 0))) made));
+        (stored last.reads (area_start h.area) (SECTOR_BYTES * full_sectors h.written)) empty_desktop) (sym here)
+        (subst (λ l. Makes new_head l (stored last.reads (area_start 0) 0) empty_desktop) (sym image_stored)
+        (subst (λ l. Makes new_head empty_bytes l empty_desktop) (sym (none_stored last.reads (area_start 0))) made));
     journal = ap is_open (after_label (gate 0 0) (omega arith) ∙ ap (λ m. m.reads (gate 0 0)) gate_written
         ∙ reads_here two (gate 0 0) shut) ∙ is_shut;
   }
 
-  pub slot_started : IsFilled last 0 1 [] empty_desktop
+  pub slot_started : IsFilled last 0 version 0 1 [] empty_desktop
   slot_started = record {
     quiet = λ n. ap (λ m. m.pending n) synced;
     new = fresh;
-    front = record { named = ap (λ h. full_sectors h.written) here; same = none_stored last.reads (area_at 0) };
+    front = record {
+      area_is = ap (λ h. h.area) here;
+      named = ap (λ h. full_sectors h.written) here;
+      same = none_stored last.reads (area_start 0);
+    };
   }
 
 -- ---- the whole
 
 -- label and slot were written, and the gate of slot 1 closed, before slot 0 was opened
-pub laid_out : (size : ℕ) (closed started opened : Trail) → STORE_SECTORS ≤ size
+pub laid_out : (size version : ℕ) (closed started opened : Trail) → STORE_SECTORS ≤ size
     → is_open ((now closed).reads (slot_gate 1)) ≡ false
     → Touches (λ n. (n < STORE_SECTORS) × ¬ (n ≡ slot_gate 1)) closed started
-    → is_label ((now started).reads LABEL) ≡ true → IsNewSlot (now started).reads 0 1 empty_desktop
+    → is_label ((now started).reads LABEL) ≡ true → IsNewSlot (now started).reads 0 version 1 empty_desktop
     → Touches (Only (slot_gate 0)) started opened → HasGate (now opened) 0 true
-    → IsKept size opened 0 1 0 empty_desktop
-laid_out size closed started opened large shut starts label new opens live = record {
-  standing = record { slot = 0; epoch = 1; start = empty_desktop; events = [] };
+    → IsKept size opened 0 version 1 0 empty_desktop
+laid_out size version closed started opened large shut starts label new opens live = record {
+  standing = record { slot = 0; version = version; epoch = 1; start = empty_desktop; events = [] };
   settled = record {
     quiet = live.quiet;
     stands = record {
@@ -145,6 +164,7 @@ laid_out size closed started opened large shut starts label new opens live = rec
       two = omega arith;
       live = live.is;
       good = subst (λ b. IsGoodHead (head_of b)) (sym (same (slot_head 0) (omega arith))) new.good;
+      version = ap (λ b. (head_of b).version) (same (slot_head 0) (omega arith)) ∙ new.version_is;
       epoch = ap (λ b. (head_of b).epoch) (same (slot_head 0) (omega arith)) ∙ new.epoch;
       other = λ idle two is.
           let here : idle ≡ 1 = omega (arith, two) in
@@ -152,11 +172,13 @@ laid_out size closed started opened large shut starts label new opens live = rec
           (ap is_open (same (slot_gate 1) (omega arith)
           ∙ still_reads closed started starts (slot_gate 1) (λ within. within.1 refl)) ∙ shut));
       image = image_stays (now started).reads (now opened).reads 0 empty_desktop (same (slot_head 0) (omega arith))
-          (λ k low. same (image_at 0 + k) (omega arith)) (λ k low. same (area_at k) (omega arith)) new.image;
+          (λ k low. same (image_at 0 + k) (omega arith))
+          (λ k low. same (area_at (head (now started).reads 0).area k) (omega arith)) new.image;
       journal = λ room. ap is_open (same (gate 0 0) (omega arith)) ∙ new.journal;
     };
   };
   slot = refl;
+  version_is = refl;
   epoch = refl;
   events = refl;
   is = refl;

@@ -3,30 +3,33 @@ use Rattle.std.proofs.Common.{◌≡◌, ◌⊎◌, inl, inr, ℕ, ◌+◌, ◌<
 use Rattle.std.proofs.Common.{◌∷◌, ◌++◌, length-append, append_assoc}
 use Rattle.std.proofs.Common.{refl, sym, ◌∙◌, ap, subst, arith, true, false}
 use Rattle.std.proofs.lemmas.List.{append-nil}
-use Rattle.std.proofs.lemmas.Bool.{cases_lt}
+use Rattle.std.proofs.lemmas.Bool.{cases_lt, cases_eq}
+use Rattle.std.specs.Prelude.{None}
+use Rattle.command_table.specs.Versions.{version_of}
 use Rattle.sector_disk.specs.Trail.{Content, Trail, now, Touches, Nowhere}
 use Rattle.sector_disk.proofs.Touching.{still_all, still_settled}
 use Rattle.event_bytes.specs.declared.event.Event.{Event}
 use Rattle.event_bytes.specs.Spelling.{Begins}
 use Rattle.desktop_definitions.specs.Desktop.{Desktop}
-use Rattle.desktop_definitions.specs.Step.{step}
+use Rattle.desktop_definitions.specs.Step.{step_in}
 use Rattle.store_layout.specs.declared.head.Head.{Head}
-use Rattle.store_layout.specs.declared.layout.TheConstants.{JOURNAL_EVENTS}
+use Rattle.store_layout.specs.declared.layout.TheConstants.{FIRST_LAYOUT, JOURNAL_EVENTS, LAYOUT}
 use Rattle.store_layout.specs.Layout.{is_open, slot_gate, slot_head, gate, body, image_at, head}
+use Rattle.store_layout.specs.Layout.{IsGoodHead}
 use Rattle.store_layout.specs.Meaning.{IsJournal, HasImage, Standing, Stands, Shows, full_sectors}
 use Rattle.store_layout.specs.Footprint.{IsLedTo}
 use Rattle.store_layout.specs.Finding.{IsNoEvent, AreShut, HasBadHead, IsDamage, IsDamagedAt}
 use Rattle.store_layout.specs.Kept.{IsKept}
-use Rattle.char_pages.specs.Pages.{saved_sectors}
+use Rattle.char_pages.specs.Pages.{saved_sectors, renewed_of}
 use Rattle.desk_slots.specs.declared.live.LiveDesktop.{LiveDesktop}
 use Rattle.desk_slots.specs.Live.{IsNamed}
 use Rattle.desk_slots.specs.Load.{IsLocated, IsReadTo, IsReadWhole}
-use Rattle.desk_slots.proofs.Recording.{steps_on}
+use Rattle.desk_slots.proofs.Recording.{steps_in_on}
 
 -- ---- the journal
 
-pub none_read : (c : Content) (slot : ℕ) (from : Desktop) → IsReadTo c slot 0 from from
-none_read c slot from = record {
+pub none_read : (c : Content) (slot version : ℕ) (from : Desktop) → IsReadTo c slot version 0 from from
+none_read c slot version from = record {
   events = [];
   count = refl;
   led = λ j below. absurd (omega (arith, below));
@@ -45,10 +48,11 @@ led_on c slot k led opened = λ j below. elim (cases_lt j k) [
 ]
 
 -- one event further
-pub one_read : (c : Content) (slot k : ℕ) (from to next : Desktop) (event : Event) → IsReadTo c slot k from to
+pub one_read : (c : Content) (slot version k : ℕ) (from to next : Desktop) (event : Event)
+    → IsReadTo c slot version k from to
     → k < JOURNAL_EVENTS → is_open (c (gate slot k)) ≡ true → Begins (c (body slot k)) event
-    → next ≡ (step to event).0 → IsReadTo c slot (k + 1) from next
-one_read c slot k from to next event was room opened begins is = record {
+    → next ≡ (step_in version to event).0 → IsReadTo c slot version (k + 1) from next
+one_read c slot version k from to next event was room opened begins is = record {
   events = was.events ++ event ∷ [];
   count = length-append was.events (event ∷ []) ∙ omega (arith, was.count);
   led = led_on c slot k was.led opened;
@@ -59,21 +63,22 @@ one_read c slot k from to next event was room opened begins is = record {
   ];
   goes_on = λ rest journal. subst (IsJournal c slot 0) (sym (append_assoc was.events (event ∷ []) rest))
       (was.goes_on (event ∷ rest) (room, opened, begins, journal));
-  is = is ∙ ap (λ d. (step d event).0) was.is ∙ sym (steps_on from was.events event);
+  is = is ∙ ap (λ d. (step_in version d event).0) was.is ∙ sym (steps_in_on version from was.events event);
 }
 
-pub all_read : (c : Content) (slot k : ℕ) (from to : Desktop) → IsReadTo c slot k from to
-    → (k < JOURNAL_EVENTS → is_open (c (gate slot k)) ≡ false) → IsReadWhole c slot k from to
-all_read c slot k from to was closed = record {
+pub all_read : (c : Content) (slot version k : ℕ) (from to : Desktop) → IsReadTo c slot version k from to
+    → (k < JOURNAL_EVENTS → is_open (c (gate slot k)) ≡ false) → IsReadWhole c slot version k from to
+all_read c slot version k from to was closed = record {
   events = was.events;
   long = was.count;
   journal = subst (IsJournal c slot 0) (append-nil was.events) (was.goes_on [] closed);
   is = was.is;
 }
 
-pub not_read : (c : Content) (slot k : ℕ) (from to : Desktop) → IsReadTo c slot k from to → k < JOURNAL_EVENTS
+pub not_read : (c : Content) (slot version k : ℕ) (from to : Desktop) → IsReadTo c slot version k from to
+    → k < JOURNAL_EVENTS
     → is_open (c (gate slot k)) ≡ true → ((event : Event) → Begins (c (body slot k)) event → ⊥) → IsNoEvent c slot k
-not_read c slot k from to was room opened none = record {
+not_read c slot version k from to was room opened none = record {
   within = room;
   led = led_on c slot k was.led opened;
   events =
@@ -134,10 +139,17 @@ module _ {size slot : ℕ} {h : Head} {old mid : Trail} (found : IsLocated size 
       )));
     }
 
-    -- its journal was read whole
-    module _ {count : ℕ} {desktop : Desktop} (whole : IsReadWhole (now late).reads slot count start desktop) where
+    -- its journal was read whole, by the version of its head
+    module _ {version count : ℕ} {desktop : Desktop} (by_head : h.version ≡ version)
+        (whole : IsReadWhole (now late).reads slot version count start desktop) where
       abbrev standing : Standing
-      standing = record { slot = slot; epoch = h.epoch; start = start; events = whole.events }
+      standing = record {
+        slot = slot;
+        version = version;
+        epoch = h.epoch;
+        start = start;
+        events = whole.events;
+      }
 
       epoch : (head (now old).reads slot).epoch ≡ h.epoch
       epoch = ap (λ x. x.epoch) found.is
@@ -149,6 +161,7 @@ module _ {size slot : ℕ} {h : Head} {old mid : Trail} (found : IsLocated size 
         two = found.used.two;
         live = found.used.opened;
         good = found.heads slot found.used.two found.used.opened;
+        version = ap (λ x. x.version) found.is ∙ by_head;
         epoch = epoch;
         other = λ idle sum opened. (
           found.heads idle (omega (arith, sum)) opened,
@@ -158,11 +171,18 @@ module _ {size slot : ℕ} {h : Head} {old mid : Trail} (found : IsLocated size 
         journal = subst (λ c. IsJournal c slot 0 whole.events) same whole.journal;
       }
 
-      pub shows : Shows size h.epoch count desktop (now old).reads
-      shows = record { standing = standing; stands = stands; epoch = refl; events = whole.long; is = sym whole.is }
+      pub shows : Shows size version h.epoch count desktop (now old).reads
+      shows = record {
+        standing = standing;
+        stands = stands;
+        version_is = refl;
+        epoch = refl;
+        events = whole.long;
+        is = sym whole.is;
+      }
 
       pub loaded : {last : Trail} → Touches Nowhere late last → ((n : ℕ) → (now mid).pending n ≡ false)
-          → IsKept size last slot h.epoch count desktop
+          → IsKept size last slot version h.epoch count desktop
       loaded {last = last} third quiet = record {
         standing = standing;
         settled = record {
@@ -171,16 +191,30 @@ module _ {size slot : ℕ} {h : Head} {old mid : Trail} (found : IsLocated size 
           stands = subst (λ c. Stands size c standing) (sym (still_all late last third ∙ same)) stands;
         };
         slot = refl;
+        version_is = refl;
         epoch = refl;
         events = whole.long;
         is = sym whole.is;
       }
 
+-- a good head has a version that there is
+pub known_version : {h : Head} → IsGoodHead h → version_of h.version ≡ None → ⊥
+known_version {h = h} good none = elim (cases_eq h.version FIRST_LAYOUT) [
+  | inl first ↦ (let is : version_of FIRST_LAYOUT ≡ None = subst (λ n. version_of n ≡ None) first none in absurd cc)
+  | inr later ↦ (let second : h.version ≡ LAYOUT = omega (arith, good.first, good.newest, later) in
+      let is : version_of LAYOUT ≡ None = subst (λ n. version_of n ≡ None) second none in absurd cc)
+]
+
 -- the head that was found names what the desktop of it has in the area, after reads
 pub named_after : {old mid late last : Trail} (slot : ℕ) {h : Head} (live : LiveDesktop) → head (now old).reads slot ≡ h
     → Touches Nowhere old mid → Touches Nowhere mid late → Touches Nowhere late last
-    → saved_sectors live.pages ≡ full_sectors h.written → IsNamed (now last).reads slot live
-named_after {old = old} {mid = mid} {late = late} {last = last} slot live is first second third counted =
-    ap (λ x. full_sectors x.written)
-    (ap (λ c. head c slot) (still_all late last third ∙ still_all mid late second ∙ still_all old mid first) ∙ is)
-    ∙ sym counted
+    → live.area ≡ h.area → (renewed_of live.pages ≡ false → saved_sectors live.pages ≡ full_sectors h.written)
+    → IsNamed (now last).reads slot live
+named_after {old = old} {mid = mid} {late = late} {last = last} slot {h = h} live is first second third area_is
+    counted = record {
+      area_is = ap (λ x. x.area) here ∙ sym area_is;
+      named = λ not. ap (λ x. full_sectors x.written) here ∙ sym (counted not);
+    }
+  where
+    here : head (now last).reads slot ≡ h
+    here = ap (λ c. head c slot) (still_all late last third ∙ still_all mid late second ∙ still_all old mid first) ∙ is

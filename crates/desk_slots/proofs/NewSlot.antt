@@ -14,8 +14,9 @@ use Rattle.desktop_definitions.specs.Sound.{IsOver}
 use Rattle.desk_image.specs.declared.limits.TheConstants.{IMAGE_BYTES}
 use Rattle.desk_image.specs.Image.{image_of, image_bytes, IsSpellable}
 use Rattle.store_layout.specs.declared.head.Head.{Head}
-use Rattle.store_layout.specs.declared.layout.TheConstants.{LAYOUT, SLOTS}
-use Rattle.store_layout.specs.Layout.{is_open, slot_head, gate, image_at, area_at, head, head_of, IsGoodHead}
+use Rattle.store_layout.specs.declared.layout.TheConstants.{AREAS, LAYOUT, SLOTS}
+use Rattle.store_layout.specs.Layout.{is_open, slot_head, gate, image_at, area_start, area_at, head, head_of}
+use Rattle.store_layout.specs.Layout.{IsGoodHead}
 use Rattle.store_layout.specs.Meaning.{Makes, full_sectors, left_over}
 use Rattle.store_layout.specs.Kept.{HasFront, IsNewSlot}
 use Rattle.store_layout.specs.StandingLaws.{has_front_stays}
@@ -32,17 +33,20 @@ few_characters : (characters : List ℕ) (d : KeptDesktop) → IsOver characters
 few_characters characters d over = subst (λ n. n ≤ most_written) (all_written characters d over)
     (over.whole.sound characters).written_within
 
-module _ (first second third last : Moment) (slot number extent count : ℕ) (d : KeptDesktop) (characters : List ℕ)
-    (head_bytes shut : List ℕ) (low : slot < SLOTS) (from_one : 1 ≤ number) (fits : extent ≤ IMAGE_BYTES)
+module _ (first second third last : Moment) (slot number extent count at_area : ℕ) (d : KeptDesktop)
+    (characters : List ℕ)
+    (head_bytes shut : List ℕ) (low : slot < SLOTS) (low_area : at_area < AREAS) (from_one : 1 ≤ number)
+    (fits : extent ≤ IMAGE_BYTES)
     (over : IsOver characters d) (parts : IsSpellable d)
     (image : stored first.reads (image_at slot) extent
     ≡ drop (SECTOR_BYTES * full_sectors (length characters)) characters ++ image_bytes (image_of d))
-    (area : HasFront first.reads (full_sectors (length characters)) characters)
+    (area : HasFront first.reads at_area (full_sectors (length characters)) characters)
     (is_head : head_of head_bytes ≡ record {
       version = LAYOUT;
       epoch = number;
       written = count;
       extent = extent;
+      area = at_area;
     }) (count_is : count ≡ (seen characters d).written) (is_shut : is_open shut ≡ false)
     (head_written : second ≡ written first (slot_head slot) head_bytes)
     (gate_written : third ≡ written second (gate slot 0) shut) (synced : last ≡ settled third) where
@@ -50,7 +54,13 @@ module _ (first second third last : Moment) (slot number extent count : ℕ) (d 
   all_counted = count_is ∙ all_written characters d over
 
   abbrev new_head : Head
-  new_head = record { version = LAYOUT; epoch = number; written = length characters; extent = extent }
+  new_head = record {
+    version = LAYOUT;
+    epoch = number;
+    written = length characters;
+    extent = extent;
+    area = at_area;
+  }
 
   abbrev tail : List ℕ
   tail = drop (SECTOR_BYTES * full_sectors (length characters)) characters
@@ -69,11 +79,17 @@ module _ (first second third last : Moment) (slot number extent count : ℕ) (d 
   here = ap head_of (ap (λ m. m.reads (slot_head slot)) behind
       ∙ reads_elsewhere second (gate slot 0) (slot_head slot) shut (omega (arith, low))
       ∙ ap (λ m. m.reads (slot_head slot)) head_written ∙ reads_here first (slot_head slot) head_bytes)
-      ∙ is_head ∙ (λ i. record { version = LAYOUT; epoch = number; written = all_counted i; extent = extent })
+      ∙ is_head ∙ (λ i. record {
+        version = LAYOUT;
+        epoch = number;
+        written = all_counted i;
+        extent = extent;
+        area = at_area;
+      })
 
-  area_now : HasFront last.reads (full_sectors (length characters)) characters
-  area_now = has_front_stays first.reads last.reads (full_sectors (length characters)) characters
-      (λ k few. other (area_at k) (omega (arith, low)) (omega (arith, low))) area
+  area_now : HasFront last.reads at_area (full_sectors (length characters)) characters
+  area_now = has_front_stays first.reads last.reads at_area (full_sectors (length characters)) characters
+      (λ k few. other (area_at at_area k) (omega (arith, low)) (omega (arith, low))) area
 
   image_now : stored last.reads (image_at slot) extent ≡ tail ++ bytes
   image_now = stored_same first.reads last.reads (image_at slot) extent
@@ -98,26 +114,33 @@ module _ (first second third last : Moment) (slot number extent count : ℕ) (d 
         ∙ ap (λ l. seen l d) (take-append-drop (SECTOR_BYTES * full_sectors (length characters)) characters);
   }
 
-  fresh : IsNewSlot last.reads slot number (seen characters d)
+  fresh : IsNewSlot last.reads slot LAYOUT number (seen characters d)
   fresh = record {
     good = subst IsGoodHead (sym here) (record {
-      version = refl;
+      first = omega arith;
+      newest = omega arith;
       epoch = from_one;
       written = few_characters characters d over;
       extent = fits;
+      area = low_area;
     });
+    version_is = ap (λ h. h.version) here;
     epoch = ap (λ h. h.epoch) here;
     image = subst (λ h. Makes h (stored last.reads (image_at slot) h.extent)
-        (stored last.reads (area_at 0) (SECTOR_BYTES * full_sectors h.written)) (seen characters d)) (sym here)
-        (subst (λ l. Makes new_head l (stored last.reads (area_at 0)
+        (stored last.reads (area_start h.area) (SECTOR_BYTES * full_sectors h.written)) (seen characters d)) (sym here)
+        (subst (λ l. Makes new_head l (stored last.reads (area_start at_area)
         (SECTOR_BYTES * full_sectors (length characters))) (seen characters d)) (sym image_now)
         (subst (λ l. Makes new_head (tail ++ bytes) l (seen characters d)) (sym area_now) made));
     journal = ap is_open (ap (λ m. m.reads (gate slot 0)) behind ∙ reads_here second (gate slot 0) shut) ∙ is_shut;
   }
 
-  pub slot_filled : IsFilled last slot number characters (seen characters d)
+  pub slot_filled : IsFilled last slot LAYOUT at_area number characters (seen characters d)
   slot_filled = record {
     quiet = λ n. ap (λ m. m.pending n) synced;
     new = fresh;
-    front = record { named = ap (λ h. full_sectors h.written) here; same = area_now };
+    front = record {
+      area_is = ap (λ h. h.area) here;
+      named = ap (λ h. full_sectors h.written) here;
+      same = area_now;
+    };
   }

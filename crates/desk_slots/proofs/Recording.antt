@@ -8,11 +8,12 @@ use Rattle.sector_disk.proofs.Touching.{spared, weakened, chained, at_last, stil
 use Rattle.event_bytes.specs.declared.event.Event.{Event}
 use Rattle.event_bytes.specs.Spelling.{Begins}
 use Rattle.desktop_definitions.specs.Desktop.{Desktop}
-use Rattle.desktop_definitions.specs.Step.{step, steps}
-use Rattle.store_layout.specs.declared.layout.TheConstants.{JOURNAL_EVENTS, LABEL, SLOTS}
+use Rattle.desktop_definitions.specs.Step.{step, step_in, steps, steps_in}
+use Rattle.store_layout.specs.declared.layout.TheConstants.{JOURNAL_EVENTS, LABEL, LAYOUT, SLOTS}
 use Rattle.store_layout.specs.Bits.{true_or_false}
-use Rattle.store_layout.specs.Layout.{is_open, slot_gate, slot_head, gate, body, image_at, area_at}
-use Rattle.store_layout.specs.Meaning.{IsJournal, Standing, desktop_of, Stands, Means, MeansEither, and_then}
+use Rattle.store_layout.specs.Layout.{is_open, slot_gate, slot_head, gate, body, image_at, area_at, head}
+use Rattle.store_layout.specs.Meaning.{IsJournal, Standing, desktop_of, Stands, Means, MeansEither}
+use Rattle.store_layout.specs.Meaning.{and_then}
 use Rattle.store_layout.specs.Kept.{IsSettled, IsKept, NextRecord, IsStaged}
 use Rattle.store_layout.specs.StandingLaws.{IsApart, carried_on, footprint, older_stays}
 use Rattle.desk_slots.specs.Written.{HasRecord, InRecord}
@@ -23,6 +24,16 @@ pub steps_on : (start : Desktop) (events : List Event) (event : Event) → steps
     ≡ (step (steps start events) event).0
 steps_on start [] event = refl
 steps_on start (e ∷ events) event = steps_on (step start e).0 events event
+
+pub steps_in_on : (version : ℕ) (start : Desktop) (events : List Event) (event : Event)
+    → steps_in version start (events ++ event ∷ []) ≡ (step_in version (steps_in version start events) event).0
+steps_in_on version start [] event = refl
+steps_in_on version start (e ∷ events) event = steps_in_on version (step_in version start e).0 events event
+
+-- a step is one in the newest version
+pub in_newest : (d : Desktop) (event : Event) → step_in LAYOUT d event ≡ step d event
+unfolding step
+in_newest d event = refl
 
 -- ---- journals, where only the gate at the end differs
 
@@ -105,7 +116,13 @@ staging size old new s k long room was run = spared (λ c. Stands size c s) was.
 -- all of a standing but the end of its journal stays where only gate k differs
 only_gate : {size : ℕ} (c c' : Content) (s : Standing) (k : ℕ) → k < JOURNAL_EVENTS → Stands size c s
     → ((n : ℕ) → n ≢ gate s.slot k → c' n ≡ c n) → (events : List Event) → IsJournal c' s.slot 0 events
-    → Stands size c' (record { slot = s.slot; epoch = s.epoch; start = s.start; events = events })
+    → Stands size c' (record {
+      slot = s.slot;
+      version = s.version;
+      epoch = s.epoch;
+      start = s.start;
+      events = events;
+    })
 only_gate c c' s k room was same events journal = carried_on c c' s events was
     (same LABEL (omega arith))
     (ap is_open (same (slot_gate s.slot) (omega (arith, was.two))) ∙ was.live)
@@ -114,7 +131,7 @@ only_gate c c' s k room was same events journal = carried_on c c' s events was
     let before = sym (ap is_open (same (slot_gate idle) (omega (arith, two)))) ∙ opened in
     older_stays c c' s.epoch idle (same (slot_head idle) (omega (arith, two))) (was.other idle two before))
     (λ i below. same (image_at s.slot + i) (omega (arith, was.two, room)))
-    (λ i below. same (area_at i) (omega (arith, was.two, room)))
+    (λ i below. same (area_at (head c s.slot).area i) (omega (arith, was.two, room)))
     journal
 
 module _ {size : ℕ} (c c' : Content) (s : Standing) (event : Event) (k : ℕ) (long : k ≡ length s.events)
@@ -143,16 +160,19 @@ module _ {size : ℕ} (c c' : Content) (s : Standing) (event : Event) (k : ℕ) 
 module _ (size : ℕ) (old new : Trail) (s : Standing) (event : Event) (k : ℕ) (desktop : Desktop)
     (long : k ≡ length s.events) (room : k < JOURNAL_EVENTS) (is : desktop_of s ≡ desktop)
     (was : IsStaged size old s event k) (run : Touches (Only (gate s.slot k)) old new) where
-  sealing : LeavesOnly old new (MeansEither size desktop (step desktop event).0)
-  sealing = spared (MeansEither size desktop (step desktop event).0) was.settled.quiet run
+  stepped : desktop_of (and_then s event) ≡ (step_in s.version desktop event).0
+  stepped = steps_in_on s.version s.start s.events event ∙ ap (λ d. (step_in s.version d event).0) is
+
+  sealing : LeavesOnly old new (MeansEither size desktop (step_in s.version desktop event).0)
+  sealing = spared (MeansEither size desktop (step_in s.version desktop event).0) was.settled.quiet run
       (λ c same. elim (is_either (now old).reads c s event k long room was.settled.stands was.begins
       was.closed same) [
         | inl stands ↦ inl (s, stands, is)
-        | inr stands ↦ inr (and_then s event, stands, steps_on s.start s.events event ∙ ap (λ d. (step d event).0) is)
+        | inr stands ↦ inr (and_then s event, stands, stepped)
       ])
 
   sealed : is_open ((now new).reads (gate s.slot k)) ≡ true → ((n : ℕ) → (now new).pending n ≡ false)
-      → IsKept size new s.slot s.epoch (k + 1) (step desktop event).0
+      → IsKept size new s.slot s.version s.epoch (k + 1) (step_in s.version desktop event).0
   sealed opened quiet = record {
     standing = and_then s event;
     settled = record {
@@ -161,14 +181,15 @@ module _ (size : ℕ) (old new : Trail) (s : Standing) (event : Event) (k : ℕ)
           (still_reads old new run) opened;
     };
     slot = refl;
+    version_is = refl;
     epoch = refl;
     events = length-append s.events (event ∷ []) ∙ omega (arith, long);
-    is = steps_on s.start s.events event ∙ ap (λ d. (step d event).0) is;
+    is = stepped;
   }
 
 -- ---- both, one after the other
-module _ {size : ℕ} {d : Trail} {live number count : ℕ} {desktop : Desktop}
-    (kept : IsKept size d live number count desktop) (room : count < JOURNAL_EVENTS) where
+module _ {size : ℕ} {d : Trail} {live version number count : ℕ} {desktop : Desktop}
+    (kept : IsKept size d live version number count desktop) (room : count < JOURNAL_EVENTS) where
   abbrev s : Standing
   s = kept.standing
 
@@ -177,7 +198,7 @@ module _ {size : ℕ} {d : Trail} {live number count : ℕ} {desktop : Desktop}
     here = staging size d first s count (sym kept.events) room kept.settled
         (subst (λ n. Touches (NextRecord n count) d first) (sym kept.slot) stages)
 
-    pub one_call : (event : Event) → LeavesOnly d first (MeansEither size desktop (step desktop event).0)
+    pub one_call : (event : Event) → LeavesOnly d first (MeansEither size desktop (step_in version desktop event).0)
     one_call event = weakened here (λ c stands. inl (s, stands, kept.is))
 
     module _ {event : Event} {new : Trail} (has : HasRecord (now first) live count event)
@@ -193,16 +214,19 @@ module _ {size : ℕ} {d : Trail} {live number count : ℕ} {desktop : Desktop}
       seals_here : Touches (Only (gate s.slot count)) first new
       seals_here = subst (λ n. Touches (Only (gate n count)) first new) (sym kept.slot) seals
 
-      pub both_calls : LeavesOnly d new (MeansEither size desktop (step desktop event).0)
-      both_calls = chained (one_call event) (sealing size first new s event count desktop
-          (sym kept.events) room kept.is staged seals_here)
+      pub both_calls : LeavesOnly d new (MeansEither size desktop (step_in version desktop event).0)
+      both_calls = chained (one_call event)
+          (subst (λ v. LeavesOnly first new (MeansEither size desktop (step_in v desktop event).0)) kept.version_is
+          (sealing size first new s event count desktop (sym kept.events) room kept.is staged seals_here))
 
       pub recorded : is_open ((now new).reads (gate live count)) ≡ true → ((n : ℕ) → (now new).pending n ≡ false)
-          → IsKept size new live number (count + 1) (step desktop event).0
-      recorded opened silent = subst (λ n. IsKept size new n number (count + 1) (step desktop event).0) kept.slot
-          (subst (λ n. IsKept size new s.slot n (count + 1) (step desktop event).0) kept.epoch
+          → IsKept size new live version number (count + 1) (step_in version desktop event).0
+      recorded opened silent = subst (λ n. IsKept size new n version number (count + 1)
+          (step_in version desktop event).0) kept.slot
+          (subst (λ n. IsKept size new s.slot version n (count + 1) (step_in version desktop event).0) kept.epoch
+          (subst (λ v. IsKept size new s.slot v s.epoch (count + 1) (step_in v desktop event).0) kept.version_is
           (sealed size first new s event count desktop (sym kept.events) room kept.is staged seals_here
-          (subst (λ n. is_open ((now new).reads (gate n count)) ≡ true) (sym kept.slot) opened) silent))
+          (subst (λ n. is_open ((now new).reads (gate n count)) ≡ true) (sym kept.slot) opened) silent)))
 
 -- the head of the slot is as it was
 pub head_stays : (old new : Trail) (slot k : ℕ) → slot < SLOTS → k < JOURNAL_EVENTS → Touches (InRecord slot k) old new
@@ -213,29 +237,34 @@ head_stays old new slot k low index run = still_reads old new run (slot_head slo
   | inr a ↦ omega (arith, a, low)
 ])
 
--- ---- reads, and then the record
+-- ---- reads, and then the record in a slot of the newest version
 module _ {D : Type 0} (d : Ghosts D) {old mid : D} (run : IsConfined d.size d.honest d.trail Nowhere old mid)
     (honest : d.honest old) {live number k : ℕ} {desktop : Desktop}
-    (kept : IsKept (d.size old) (d.trail old) live number k desktop) where
-  pub kept_then : IsKept (d.size mid) (d.trail mid) live number k desktop
-  kept_then = subst (λ n. IsKept n (d.trail mid) live number k desktop) (sym run.as_large)
-      (kept_on (d.size old) (d.trail old) (d.trail mid) live number k desktop kept (run.moments honest))
+    (kept : IsKept (d.size old) (d.trail old) live LAYOUT number k desktop) where
+  pub kept_then : IsKept (d.size mid) (d.trail mid) live LAYOUT number k desktop
+  kept_then = subst (λ n. IsKept n (d.trail mid) live LAYOUT number k desktop) (sym run.as_large)
+      (kept_on (d.size old) (d.trail old) (d.trail mid) live LAYOUT number k desktop kept (run.moments honest))
 
   pub unrecorded : LeavesOnly (d.trail old) (d.trail mid) (Means (d.size old) desktop)
-  unrecorded = means_on (d.size old) (d.trail old) (d.trail mid) live number k desktop kept (run.moments honest)
+  unrecorded = means_on (d.size old) (d.trail old) (d.trail mid) live LAYOUT number k desktop kept (run.moments honest)
 
   module _ (event : Event) where
     pub read_only : LeavesOnly (d.trail old) (d.trail mid) (MeansEither (d.size old) desktop (step desktop event).0)
     read_only = weakened unrecorded (λ c means. inl means)
 
     module _ {new : D} where
-      pub read_then : LeavesOnly (d.trail mid) (d.trail new) (MeansEither (d.size mid) desktop (step desktop event).0)
+      pub read_then : LeavesOnly (d.trail mid) (d.trail new)
+          (MeansEither (d.size mid) desktop (step_in LAYOUT desktop event).0)
           → LeavesOnly (d.trail old) (d.trail new) (MeansEither (d.size old) desktop (step desktop event).0)
       read_then after = chained read_only (subst (λ n. LeavesOnly (d.trail mid) (d.trail new)
-          (MeansEither n desktop (step desktop event).0)) run.as_large after)
+          (MeansEither n desktop (step desktop event).0)) run.as_large
+          (subst (λ x. LeavesOnly (d.trail mid) (d.trail new) (MeansEither (d.size mid) desktop x))
+          (ap (λ x. x.0) (in_newest desktop event)) after))
 
       pub kept_after : {desktop' : Desktop} → desktop' ≡ (step desktop event).0
-          → IsKept (d.size mid) (d.trail new) live number (k + 1) (step desktop event).0
-          → IsKept (d.size old) (d.trail new) live number (k + 1) desktop'
-      kept_after is after = subst (λ x. IsKept (d.size old) (d.trail new) live number (k + 1) x) (sym is)
-          (subst (λ n. IsKept n (d.trail new) live number (k + 1) (step desktop event).0) run.as_large after)
+          → IsKept (d.size mid) (d.trail new) live LAYOUT number (k + 1) (step_in LAYOUT desktop event).0
+          → IsKept (d.size old) (d.trail new) live LAYOUT number (k + 1) desktop'
+      kept_after is after = subst (λ x. IsKept (d.size old) (d.trail new) live LAYOUT number (k + 1) x)
+          (ap (λ x. x.0) (in_newest desktop event) ∙ sym is)
+          (subst (λ n. IsKept n (d.trail new) live LAYOUT number (k + 1) (step_in LAYOUT desktop event).0)
+          run.as_large after)

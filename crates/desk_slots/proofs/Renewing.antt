@@ -4,32 +4,32 @@ use Rattle.std.proofs.Common.{arith, true, false}
 use Rattle.sector_disk.specs.declared.disk.TheConstants.{SECTOR_BYTES}
 use Rattle.sector_disk.specs.Trail.{Content, Moment, Trail, now, LeavesOnly, Touches, Only}
 use Rattle.sector_disk.proofs.Touching.{spared, still_reads, at_last, read_is_an_image, weakened, chained}
-use Rattle.char_pages.specs.Pages.{saved_of, saved_sectors}
+use Rattle.char_pages.specs.Pages.{saved_of}
 use Rattle.desktop_definitions.specs.Desktop.{Desktop}
 use Rattle.desktop_definitions.specs.Seen.{seen}
-use Rattle.store_layout.specs.declared.layout.TheConstants.{SLOTS}
+use Rattle.store_layout.specs.declared.layout.TheConstants.{LAYOUT, SLOTS}
 use Rattle.store_layout.specs.Bits.{true_or_false, clash}
 use Rattle.store_layout.specs.Layout.{is_open, slot_gate, slot_head, area_at, head, head_of}
 use Rattle.store_layout.specs.Meaning.{Standing, Stands, Means, desktop_of, full_sectors}
-use Rattle.store_layout.specs.Kept.{IsSettled, IsKept, IsFront, HasFront, OpenGate, InCheckpoint, IsNewSlot}
+use Rattle.store_layout.specs.Kept.{IsSettled, IsKept, IsFront, HasFront, Spares, OpenGate, InCheckpoint, IsNewSlot}
 use Rattle.store_layout.specs.StandingLaws.{footprint, other_gate, behind_closed, new_slot, either_slot, front_stays}
 use Rattle.desk_slots.specs.declared.live.LiveDesktop.{LiveDesktop}
-use Rattle.desk_slots.specs.declared.place.Place.{Place}
-use Rattle.desk_slots.specs.Live.{characters_of, shown, IsLive, IsNamed}
-use Rattle.desk_slots.specs.Written.{HasGate, IsFilled, IsBeside, InRenewal}
+use Rattle.desk_slots.specs.declared.place.SlotPlace.{SlotPlace}
+use Rattle.desk_slots.specs.Live.{characters_of, seen_live, IsLive, IsNamed}
+use Rattle.desk_slots.specs.Written.{GoesOn, HasGate, IsFilled, IsBeside, InRenewal}
 use Rattle.desk_slots.proofs.Staying.{characters_stay, apart_renewal}
 
 -- a gate is in no checkpoint
-gate_outside : (slot saved : ℕ) → slot < 2 → InCheckpoint slot saved (slot_gate slot) → ⊥
-gate_outside slot saved low within = elim within [
+gate_outside : (slot area saved : ℕ) → slot < 2 → InCheckpoint slot area saved (slot_gate slot) → ⊥
+gate_outside slot area saved low within = elim within [
   | inl (inl a) ↦ omega (arith, a)
   | inl (inr (inl a)) ↦ omega (arith, a)
   | inl (inr (inr a)) ↦ omega (arith, a.0, low)
   | inr a ↦ omega (arith, a.0, low)
 ]
 
-module _ {place : Place} {size live number count : ℕ} {desktop : Desktop} {old first : Trail}
-    (was : IsBeside place size old live number count desktop)
+module _ {place : SlotPlace} {size live version number count : ℕ} {desktop : Desktop} {old first : Trail}
+    (was : IsBeside place size old live version number count desktop)
     (closes : Touches (OpenGate (now old).reads place.slot) old first) where
   abbrev idle : ℕ
   idle = place.slot
@@ -56,12 +56,13 @@ module _ {place : Place} {size live number count : ℕ} {desktop : Desktop} {old
   one_step = as_desktop closing
 
   -- the head of the slot in use names the same sectors
-  still_named : full_sectors (head (now first).reads live).written ≡ place.saved
-  still_named = ap (λ b. full_sectors (head_of b).written)
-      (still_reads old first closes (slot_head live) (λ within. omega (arith, within.0, was.two))) ∙ was.named
+  still_spared : Spares (head (now first).reads s.slot) place.area place.saved
+  still_spared = subst (λ n. Spares (head (now first).reads n) place.area place.saved) (sym was.kept.slot)
+      (subst (λ b. Spares (head_of b) place.area place.saved)
+      (sym (still_reads old first closes (slot_head live) (λ within. omega (arith, within.0, was.two)))) was.spares)
 
   module _ {second : Trail} (closed : HasGate (now first) idle false)
-      (fills : Touches (InCheckpoint idle place.saved) first second) where
+      (fills : Touches (InCheckpoint idle place.area place.saved) first second) where
     after_one : IsSettled size first s
     after_one = record {
       quiet = closed.quiet;
@@ -70,43 +71,50 @@ module _ {place : Place} {size live number count : ℕ} {desktop : Desktop} {old
 
     filling : LeavesOnly first second (λ c. Stands size c s)
     filling = spared (λ c. Stands size c s) closed.quiet fills (λ c same.
-        behind_closed (now first).reads c s idle place.saved sum after_one.stands closed.is
-        (ap (λ n. full_sectors (head (now first).reads n).written) was.kept.slot ∙ still_named) same)
+        behind_closed (now first).reads c s idle place.area place.saved sum after_one.stands closed.is still_spared
+        same)
 
     pub two_steps : LeavesOnly old second (Means size desktop)
     two_steps = chained one_step (as_desktop filling)
 
     module _ {new : Trail} {characters : List ℕ}
-        (filled : IsFilled (now second) idle place.epoch characters desktop)
+        (filled : IsFilled (now second) idle LAYOUT place.area place.epoch characters desktop)
         (opens : Touches (Only (slot_gate idle)) second new) where
       stands_still : Stands size (now second).reads s
       stands_still = at_last filling (now second).reads (read_is_an_image (now second))
 
       still_closed : is_open ((now second).reads (slot_gate idle)) ≡ false
       still_closed = ap is_open (still_reads first second fills (slot_gate idle)
-          (gate_outside idle place.saved (omega (arith, was.two)))) ∙ closed.is
+          (gate_outside idle place.area place.saved (omega (arith, was.two)))) ∙ closed.is
 
       epoch_is : place.epoch ≡ s.epoch + 1
       epoch_is = omega (arith, was.next, was.kept.epoch)
 
-      fresh_too : IsNewSlot (now second).reads idle (s.epoch + 1) (desktop_of s)
-      fresh_too = subst (IsNewSlot (now second).reads idle (s.epoch + 1)) (sym was.kept.is)
-          (subst (λ n. IsNewSlot (now second).reads idle n desktop) epoch_is filled.new)
+      fresh_too : IsNewSlot (now second).reads idle LAYOUT (s.epoch + 1) (desktop_of s)
+      fresh_too = subst (IsNewSlot (now second).reads idle LAYOUT (s.epoch + 1)) (sym was.kept.is)
+          (subst (λ n. IsNewSlot (now second).reads idle LAYOUT n desktop) epoch_is filled.new)
 
       pub three_steps : LeavesOnly old new (Means size desktop)
       three_steps = chained two_steps (subst (λ d. LeavesOnly second new (Means size d)) was.kept.is
           (spared (Means size (desktop_of s)) filled.quiet opens (λ c same.
-          either_slot (now second).reads c s idle sum stands_still still_closed fresh_too same)))
+          either_slot (now second).reads c s idle LAYOUT sum stands_still still_closed fresh_too same)))
 
-      pub now_new : HasGate (now new) idle true → IsKept size new place.slot place.epoch 0 desktop
+      pub now_new : HasGate (now new) idle true → IsKept size new place.slot LAYOUT place.epoch 0 desktop
       now_new opened = record {
-        standing = record { slot = idle; epoch = s.epoch + 1; start = desktop_of s; events = [] };
+        standing = record {
+          slot = idle;
+          version = LAYOUT;
+          epoch = s.epoch + 1;
+          start = desktop_of s;
+          events = [];
+        };
         settled = record {
           quiet = opened.quiet;
-          stands = new_slot (now second).reads (now new).reads s idle (desktop_of s) sum stands_still fresh_too
+          stands = new_slot (now second).reads (now new).reads s idle LAYOUT (desktop_of s) sum stands_still fresh_too
               (λ n other. still_reads second new opens n other) opened.is;
         };
         slot = refl;
+        version_is = refl;
         epoch = sym epoch_is;
         events = refl;
         is = was.kept.is;
@@ -115,44 +123,53 @@ module _ {place : Place} {size live number count : ℕ} {desktop : Desktop} {old
 -- ---- what is written of a desktop
 
 -- closing the gate leaves what it shows
-pub filled_still : (old first : Trail) (m : Moment) (number : ℕ) (place : Place) (live : LiveDesktop) → IsLive live
+pub filled_still : (old first : Trail) (m : Moment) (number : ℕ) (place : SlotPlace) (live : LiveDesktop) → IsLive live
     → Touches (OpenGate (now old).reads place.slot) old first
-    → IsFilled m place.slot number (characters_of (now first).reads live) (shown (now first).reads live)
-    → IsFilled m place.slot number (characters_of (now old).reads live) (shown (now old).reads live)
+    → IsFilled m place.slot LAYOUT place.area number (characters_of (now first).reads live)
+    (seen_live (now first).reads live)
+    → IsFilled m place.slot LAYOUT place.area number (characters_of (now old).reads live)
+    (seen_live (now old).reads live)
 filled_still old first m number place live is closes filled =
-    subst (λ l. IsFilled m place.slot number l (seen l live.desktop)) (characters_stay old first live.pages closes
+    subst (λ l. IsFilled m place.slot LAYOUT place.area number l (seen l live.desktop))
+    (characters_stay old first live.pages closes
     (λ n from to within. omega (arith, is.based, from, within.0, place.two))) filled
 
 -- so does opening it
-pub front_still : (second new : Trail) (slot n : ℕ) (characters : List ℕ) → slot < SLOTS
-    → Touches (Only (slot_gate slot)) second new → IsFront (now second).reads slot n characters
-    → IsFront (now new).reads slot n characters
-front_still second new slot n characters low opens =
-    front_stays (now second).reads (now new).reads slot n characters
+pub front_still : (second new : Trail) (slot area n : ℕ) (characters : List ℕ) → slot < SLOTS
+    → Touches (Only (slot_gate slot)) second new → IsFront (now second).reads slot area n characters
+    → IsFront (now new).reads slot area n characters
+front_still second new slot area n characters low opens =
+    front_stays (now second).reads (now new).reads slot area n characters
     (still_reads second new opens (slot_head slot) (omega arith))
-    (λ k few. still_reads second new opens (area_at k) (omega (arith, low)))
+    (λ k few. still_reads second new opens (area_at area k) (omega (arith, low)))
 
 -- The desktop that stands in the slot, and then the characters in memory that stand in the area are given up. `old` and
 -- `new` are the disk before and after, and `live` and `done` the desktop.
-module _ (old new : Trail) (place : Place) (live done : LiveDesktop) (is : IsLive live)
-    (saved : place.saved ≡ saved_sectors live.pages) (run : Touches (InRenewal place) old new)
-    (front : IsFront (now new).reads place.slot (full_sectors (length (characters_of (now old).reads live)))
-    (characters_of (now old).reads live))
-    (kept : done.desktop ≡ live.desktop) (settles : (c : Content) → HasFront c (full_sectors live.desktop.written)
+module _ (old new : Trail) (place : SlotPlace) (live done : LiveDesktop) (is : IsLive live)
+    (goes : GoesOn place live) (run : Touches (InRenewal place) old new)
+    (front : IsFront (now new).reads place.slot place.area
+    (full_sectors (length (characters_of (now old).reads live))) (characters_of (now old).reads live))
+    (kept : done.desktop ≡ live.desktop) (settles : (c : Content)
+    → HasFront c place.area (full_sectors live.desktop.written)
     (characters_of c live) → characters_of c done ≡ characters_of c live) where
   stay : characters_of (now new).reads live ≡ characters_of (now old).reads live
-  stay = characters_stay old new live.pages run (apart_renewal live.pages place is.based saved)
+  stay = characters_stay old new live.pages run (apart_renewal live place is goes)
 
   counted : length (characters_of (now old).reads live) ≡ live.desktop.written
   counted = (is.over (now old).reads).counted
 
-  there : HasFront (now new).reads (full_sectors live.desktop.written) (characters_of (now new).reads live)
-  there = subst (λ l. HasFront (now new).reads (full_sectors live.desktop.written) l) (sym stay)
-      (subst (λ n. HasFront (now new).reads (full_sectors n) (characters_of (now old).reads live)) counted front.same)
+  there : HasFront (now new).reads place.area (full_sectors live.desktop.written) (characters_of (now new).reads live)
+  there = subst (λ l. HasFront (now new).reads place.area (full_sectors live.desktop.written) l) (sym stay)
+      (subst (λ n. HasFront (now new).reads place.area (full_sectors n) (characters_of (now old).reads live)) counted
+      front.same)
 
-  pub shown_settled : shown (now new).reads done ≡ shown (now old).reads live
+  pub shown_settled : seen_live (now new).reads done ≡ seen_live (now old).reads live
   shown_settled = λ i. seen ((settles (now new).reads there ∙ stay) i) (kept i)
 
-  pub named_settled : saved_of done.pages ≡ SECTOR_BYTES * full_sectors live.desktop.written
+  pub named_settled : done.area ≡ place.area
+      → saved_of done.pages ≡ SECTOR_BYTES * full_sectors live.desktop.written
       → IsNamed (now new).reads place.slot done
-  named_settled saved_is = omega (arith, front.named, counted, saved_is)
+  named_settled area_is saved_is = record {
+    area_is = front.area_is ∙ sym area_is;
+    named = λ not. omega (arith, front.named, counted, saved_is);
+  }

@@ -1,25 +1,26 @@
 -- Characters and sectors in memory, over a disk that is written elsewhere.
-use Rattle.std.proofs.Common.{◌≡◌, inl, inr, ◌+◌, ◌<◌, ◌≤◌, ℕ, ◌∙◌, ap, refl, sym, subst, arith}
+use Rattle.std.proofs.Common.{◌≡◌, inl, inr, ◌+◌, ◌<◌, ◌≤◌, ℕ, length, refl, sym, ◌∙◌, ap, subst, arith, true, false}
 use Rattle.sector_disk.specs.declared.disk.Disk.{Ghosts}
 use Rattle.sector_disk.specs.Confined.{IsConfined}
 use Rattle.sector_disk.specs.Trail.{Trail, now, Nowhere, Touches}
 use Rattle.sector_disk.proofs.Touching.{still_reads}
 use Rattle.char_pages.specs.declared.pages.Pages.{Pages}
-use Rattle.char_pages.specs.Pages.{base_of, saved_sectors, paged_characters}
+use Rattle.char_pages.specs.Pages.{base_of, saved_of, saved_sectors, renewed_of, paged_characters}
 use Rattle.char_pages.proofs.Caching.{true_on}
 use Rattle.char_pages.proofs.Paging.{paged_on}
-use Rattle.desktop_definitions.specs.Desktop.{Desktop}
+use Rattle.desktop_definitions.specs.Desktop.{Desktop, KeptDesktop}
 use Rattle.desktop_definitions.specs.Seen.{seen}
 use Rattle.desktop_definitions.specs.Viewers.{text_of}
 use Rattle.screen_cells.specs.declared.lines.KeptLines.{KeptLines}
 use Rattle.screen_cells.specs.Lines.{AreLinesOf}
-use Rattle.store_layout.specs.declared.layout.TheConstants.{JOURNAL_EVENTS, SLOTS}
-use Rattle.store_layout.specs.Layout.{area_at}
-use Rattle.store_layout.specs.Kept.{InCheckpoint}
+use Rattle.store_layout.specs.declared.layout.TheConstants.{AREAS, JOURNAL_EVENTS, SLOTS}
+use Rattle.store_layout.specs.Layout.{area_start}
+use Rattle.store_layout.specs.Kept.{InCheckpoint, chosen_area}
 use Rattle.desk_slots.specs.declared.live.LiveDesktop.{LiveDesktop}
-use Rattle.desk_slots.specs.declared.place.Place.{Place}
-use Rattle.desk_slots.specs.Live.{AreTrueOver, IsTold, shown}
-use Rattle.desk_slots.specs.Written.{InRecord, InRenewal}
+use Rattle.desk_slots.specs.declared.place.SlotPlace.{SlotPlace}
+use Rattle.desk_slots.specs.Live.{AreTrueOver, IsTold, seen_live, IsLive, IsOverPages, StaysLive}
+use Rattle.desk_slots.proofs.Settled.{over_as_long}
+use Rattle.desk_slots.specs.Written.{GoesOn, InRecord, InRenewal}
 
 -- the sectors of the first characters aren't in the area
 abbrev pub IsApart : (ℕ → Type 0) → Pages → Type 0
@@ -33,7 +34,7 @@ characters_stay old new p run apart = paged_on (now old).reads (now new).reads p
 
 -- so the desktop shows the same
 pub shown_stays : {area : ℕ → Type 0} (old new : Trail) (live : LiveDesktop) → Touches area old new
-    → IsApart area live.pages → shown (now new).reads live ≡ shown (now old).reads live
+    → IsApart area live.pages → seen_live (now new).reads live ≡ seen_live (now old).reads live
 shown_stays old new live run apart = ap (λ l. seen l live.desktop) (characters_stay old new live.pages run apart)
 
 -- beside a reply too
@@ -56,13 +57,13 @@ apart_nowhere p n from to within = within
 -- lines that are kept are so still where the desktop shows the same
 pub lines_stay : {D : Type 0} (d : Ghosts D) {area : ℕ → Type 0} {disk disk' : D} (old new : LiveDesktop)
     → IsConfined d.size d.honest d.trail area disk disk'
-    → (d.honest disk → shown (now (d.trail disk')).reads new ≡ shown (now (d.trail disk)).reads old)
+    → (d.honest disk → seen_live (now (d.trail disk')).reads new ≡ seen_live (now (d.trail disk)).reads old)
     → new.lines ≡ old.lines → IsTold d disk old → AreTrueOver d disk' new.pages → IsTold d disk' new
 lines_stay d {disk = disk} {disk' = disk'} old new run same kept told pages = record {
   pages = pages;
   lines = λ honest. let before = run.already honest in
       subst (λ (x : Desktop). AreLinesOf (text_of x) new.lines) (sym (same before))
-      (subst (λ (l : KeptLines). AreLinesOf (text_of (shown (now (d.trail disk)).reads old)) l) (sym kept)
+      (subst (λ (l : KeptLines). AreLinesOf (text_of (seen_live (now (d.trail disk)).reads old)) l) (sym kept)
       (told.lines before));
 }
 
@@ -75,28 +76,79 @@ live_stays d {disk = disk} {disk' = disk'} live run apart told =
     (λ honest. shown_stays (d.trail disk) (d.trail disk') live (run.moments honest) apart) refl told
     (told_stays d live.pages run apart told.pages)
 
--- ---- what is written while the first characters stand at the front of the area
+-- It was looked at: its characters are the same, and the lines that it keeps are so, if they were.
+pub looks_stay : {D : Type 0} (d : Ghosts D) {disk disk' : D} (old new : LiveDesktop)
+    → IsConfined d.size d.honest d.trail Nowhere disk disk'
+    → (d.honest disk → paged_characters (now (d.trail disk')).reads new.pages
+    ≡ paged_characters (now (d.trail disk)).reads old.pages)
+    → length (paged_characters (now (d.trail disk')).reads new.pages)
+    ≡ length (paged_characters (now (d.trail disk)).reads old.pages)
+    → AreTrueOver d disk' new.pages → base_of new.pages ≡ base_of old.pages
+    → (renewed_of new.pages ≡ false → renewed_of old.pages ≡ false)
+    → (renewed_of new.pages ≡ false → saved_of new.pages ≡ saved_of old.pages)
+    → new.desktop ≡ old.desktop → new.area ≡ old.area
+    → (d.honest disk → AreLinesOf (text_of (seen_live (now (d.trail disk)).reads old)) old.lines
+    → AreLinesOf (text_of (seen_live (now (d.trail disk)).reads old)) new.lines)
+    → IsLive old → IsTold d disk old → StaysLive d disk disk' old new
+looks_stay d {disk = disk} {disk' = disk'} old new run same long pages base before counted kept area lines live told =
+    record {
+      shown_same = looked;
+      kept_same = kept;
+      area_same = area;
+      renewed_before = before;
+      place_same = counted;
+      told = record {
+        pages = pages;
+        lines = λ honest. let first = run.already honest in
+            subst (λ (x : Desktop). AreLinesOf (text_of x) new.lines) (sym (looked first))
+            (lines first (told.lines first));
+      };
+      live = record {
+        over = subst (λ (x : KeptDesktop). IsOverPages new.pages x) (sym kept)
+            (over_as_long old.pages new.pages old.desktop (now (d.trail disk)).reads (now (d.trail disk')).reads
+            live.over long);
+        low = subst (λ n. n < AREAS) (sym area) live.low;
+        based = base ∙ live.based ∙ ap area_start (sym area);
+      };
+    }
+  where
+    looked : d.honest disk → seen_live (now (d.trail disk')).reads new ≡ seen_live (now (d.trail disk)).reads old
+    looked honest = λ i. seen (same honest i) (kept i)
 
-pub apart_record : (p : Pages) (slot k : ℕ) → base_of p ≡ area_at 0 → slot < SLOTS → k < JOURNAL_EVENTS
+-- ---- what is written while the first characters stand at the front of an area
+
+pub apart_record : (p : Pages) (area slot k : ℕ) → base_of p ≡ area_start area → slot < SLOTS → k < JOURNAL_EVENTS
     → IsApart (InRecord slot k) p
-apart_record p slot k based low index n from to within = elim within [
+apart_record p area slot k based low index n from to within = elim within [
   | inl (inl a) ↦ omega (arith, based, from, a, low, index)
   | inl (inr a) ↦ omega (arith, based, from, a.0, low, index)
   | inr a ↦ omega (arith, based, from, a, low, index)
 ]
 
-apart_checkpoint : (p : Pages) (slot saved : ℕ) → base_of p ≡ area_at 0 → slot < SLOTS → saved ≡ saved_sectors p
-    → IsApart (InCheckpoint slot saved) p
-apart_checkpoint p slot saved based low is n from to within = elim within [
+-- where some stand there, a checkpoint goes on in their area
+pub goes_on : (live : LiveDesktop) (place : SlotPlace) → IsLive live → GoesOn place live → 0 < saved_of live.pages
+    → base_of live.pages ≡ area_start place.area
+goes_on live place is goes some = is.based
+    ∙ ap (λ k. area_start k) (sym (goes.area_is ∙ (elim (renewed_of live.pages) as
+    (λ b. renewed_of live.pages ≡ b → chosen_area b live.area ≡ live.area) [
+      | true ↦ λ anew. absurd (let none = live.pages.anew anew in omega (arith, some, none))
+      | false ↦ λ not. refl
+    ]) refl))
+
+apart_checkpoint : (p : Pages) (slot own area saved : ℕ) → base_of p ≡ area_start own
+    → (0 < saved_of p → base_of p ≡ area_start area) → slot < SLOTS → saved ≡ saved_sectors p
+    → IsApart (InCheckpoint slot area saved) p
+apart_checkpoint p slot own area saved based goes low is n from to within = elim within [
   | inl (inl a) ↦ omega (arith, based, from, a, low)
   | inl (inr (inl a)) ↦ omega (arith, based, from, a, low)
   | inl (inr (inr a)) ↦ omega (arith, based, from, a.1, low)
-  | inr a ↦ omega (arith, based, is, to, a.0)
+  | inr a ↦ (let some : 0 < saved_of p = omega (arith, from, to) in omega (arith, goes some, is, to, a.0))
 ]
 
-pub apart_renewal : (p : Pages) (place : Place) → base_of p ≡ area_at 0 → place.saved ≡ saved_sectors p
-    → IsApart (InRenewal place) p
-apart_renewal p place based is n from to within = elim within [
-  | inl a ↦ omega (arith, based, from, a, place.two)
-  | inr a ↦ apart_checkpoint p place.slot place.saved based place.two is n from to a
+pub apart_renewal : (live : LiveDesktop) (place : SlotPlace) → IsLive live → GoesOn place live
+    → IsApart (InRenewal place) live.pages
+apart_renewal live place is goes n from to within = elim within [
+  | inl a ↦ omega (arith, is.based, from, a, place.two)
+  | inr a ↦ apart_checkpoint live.pages place.slot live.area place.area place.saved is.based
+      (goes_on live place is goes) place.two goes.saved_is n from to a
 ]

@@ -1,14 +1,14 @@
 -- What a call leaves of the disk that a store stands on. `d` is what is known of a disk: size, trail, failures, honest.
 use Rattle.std.specs.Prelude.{◌≡◌, ◌<◌, Result, Ok, Err}
 use Rattle.sector_disk.specs.declared.disk.Disk.{Ghosts}
-use Rattle.sector_disk.specs.Trail.{Trail, now, IsImage, LeavesOnly}
+use Rattle.sector_disk.specs.Trail.{Trail, now, IsCrashImage, LeavesOnly}
 use Rattle.sector_disk.specs.Confined.{IsConfined}
 use Rattle.store_layout.specs.declared.layout.TheConstants.{STORE_SECTORS}
 use Rattle.desk_slots.specs.declared.error.Error.{Error}
 
 -- at no moment is there an image that wasn't there before: nothing was written
 abbrev pub WritesNothing : Trail → Trail → Type 0
-WritesNothing old new = LeavesOnly old new (IsImage (now old))
+WritesNothing old new = LeavesOnly old new (IsCrashImage (now old))
 
 -- the same device: as large as before, and honest exactly if it was
 pub record IsSameDevice {D : Type 0} (d : Ghosts D) (old new : D) : Type 0 where

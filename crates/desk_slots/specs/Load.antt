@@ -6,7 +6,7 @@ use Rattle.event_bytes.specs.declared.event.Event.{Event}
 use Rattle.event_bytes.specs.Spelling.{Begins}
 use Rattle.desktop_definitions.specs.Desktop.{Desktop, KeptDesktop}
 use Rattle.desktop_definitions.specs.Sound.{IsKeptWhole}
-use Rattle.desktop_definitions.specs.Step.{steps}
+use Rattle.desktop_definitions.specs.Step.{steps_in}
 use Rattle.desk_image.specs.declared.fault.ImageFault.{ImageFault}
 use Rattle.desk_image.specs.declared.fault.ImageFault.TheVariants.{Damaged as BadImage, Fault as Failed}
 use Rattle.desk_image.specs.declared.fault.ImageFault.TheVariants.{NoMemory as Refused}
@@ -20,21 +20,23 @@ use Rattle.store_layout.specs.Meaning.{IsJournal, left_over}
 use Rattle.store_layout.specs.Finding.{AreHeadsGood}
 use Rattle.store_layout.specs.Footprint.{IsLedTo, IsInUse}
 
--- the first k events of a journal stand under open gates, and they lead from the one desktop to the other
-pub record IsReadTo (c : Content) (slot k : ℕ) (from to : Desktop) : Type 0 where
+-- the first k events of a journal stand under open gates, and by this version they lead from the one desktop to the
+-- other
+pub record IsReadTo (c : Content) (slot version k : ℕ) (from to : Desktop) : Type 0 where
   pub events : List Event
   pub count : length events ≡ k
   pub led : IsLedTo c slot k
   pub each : (j : ℕ) → j < k → (event : Event) × Begins (c (body slot j)) event
   pub goes_on : (rest : List Event) → IsJournal c slot k rest → IsJournal c slot 0 (events ++ rest)
-  pub is : to ≡ steps from events
+  pub is : to ≡ steps_in version from events
 
--- the whole journal has been read: it has so many events, and they lead from the one desktop to the other
-pub record IsReadWhole (c : Content) (slot count : ℕ) (from to : Desktop) : Type 0 where
+-- the whole journal has been read: it has so many events, and by this version they lead from the one desktop to the
+-- other
+pub record IsReadWhole (c : Content) (slot version count : ℕ) (from to : Desktop) : Type 0 where
   pub events : List Event
   pub long : length events ≡ count
   pub journal : IsJournal c slot 0 events
-  pub is : to ≡ steps from events
+  pub is : to ≡ steps_in version from events
 
 -- The start of a slot was read from the bytes of its image: the characters at their front stand at the front of a sector,
 -- and the rest of the bytes spells the desktop.

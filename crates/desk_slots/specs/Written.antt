@@ -1,14 +1,16 @@
 -- What the steps of a post and of a checkpoint have written.
 use Rattle.std.specs.Prelude.{◌≡◌, ◌⊎◌, ◌<◌, ◌+◌, ℕ, List, length, Bool, false}
 use Rattle.sector_disk.specs.Trail.{Moment, Trail, now}
+use Rattle.char_pages.specs.Pages.{saved_sectors, renewed_of}
 use Rattle.event_bytes.specs.declared.event.Event.{Event}
 use Rattle.event_bytes.specs.Spelling.{Begins}
 use Rattle.desktop_definitions.specs.Desktop.{Desktop}
 use Rattle.store_layout.specs.declared.layout.TheConstants.{JOURNAL_EVENTS}
 use Rattle.store_layout.specs.Layout.{is_open, slot_gate, gate, body, head}
 use Rattle.store_layout.specs.Meaning.{full_sectors}
-use Rattle.store_layout.specs.Kept.{NextRecord, InCheckpoint, IsNewSlot, IsKept, IsFront}
-use Rattle.desk_slots.specs.declared.place.Place.{Place}
+use Rattle.store_layout.specs.Kept.{NextRecord, InCheckpoint, IsNewSlot, IsKept, IsFront, Spares, chosen_area}
+use Rattle.desk_slots.specs.declared.live.LiveDesktop.{LiveDesktop}
+use Rattle.desk_slots.specs.declared.place.SlotPlace.{SlotPlace}
 
 -- nothing is pending, and event k of the journal stands before a closed gate, where there is one
 pub record HasRecord (m : Moment) (slot k : ℕ) (event : Event) : Type 0 where
@@ -25,20 +27,28 @@ pub record HasGate (m : Moment) (slot : ℕ) (opened : Bool) : Type 0 where
   pub quiet : (n : ℕ) → m.pending n ≡ false
   pub is : is_open (m.reads (slot_gate slot)) ≡ opened
 
--- nothing is pending, and the slot is a new one with this desktop, whose head names the whole sectors of its characters
-pub record IsFilled (m : Moment) (slot number : ℕ) (characters : List ℕ) (desktop : Desktop) : Type 0 where
+-- Nothing is pending, and the slot is a new one of this version and epoch with this desktop, whose head names the whole
+-- sectors of its characters in this area.
+pub record IsFilled (m : Moment) (slot version area number : ℕ) (characters : List ℕ) (desktop : Desktop) : Type 0 where
   pub quiet : (n : ℕ) → m.pending n ≡ false
-  pub new : IsNewSlot m.reads slot number desktop
-  pub front : IsFront m.reads slot (full_sectors (length characters)) characters
+  pub new : IsNewSlot m.reads slot version number desktop
+  pub front : IsFront m.reads slot area (full_sectors (length characters)) characters
 
--- the disk shows the desktop by the slot beside this place and under the epoch before, and that slot's head names just the
--- sectors that hold characters already
-pub record IsBeside (place : Place) (size : ℕ) (disk : Trail) (live number count : ℕ) (desktop : Desktop) : Type 0 where
+-- The disk shows the desktop by the slot beside this place, of whatever version and under the epoch before, and that
+-- slot's head names no sector that comes behind those that hold characters already.
+pub record IsBeside (place : SlotPlace) (size : ℕ) (disk : Trail) (live version number count : ℕ) (desktop : Desktop)
+    : Type 0 where
   pub two : live + place.slot ≡ 1
   pub next : number + 1 ≡ place.epoch
-  pub kept : IsKept size disk live number count desktop
-  pub named : full_sectors (head (now disk).reads live).written ≡ place.saved
+  pub kept : IsKept size disk live version number count desktop
+  pub spares : Spares (head (now disk).reads live) place.area place.saved
+
+-- its characters go on where those of this desktop on the disk end, or begin anew in the other area, where all were
+-- exchanged
+pub record GoesOn (place : SlotPlace) (live : LiveDesktop) : Type 0 where
+  pub area_is : place.area ≡ chosen_area (renewed_of live.pages) live.area
+  pub saved_is : place.saved ≡ saved_sectors live.pages
 
 -- what a checkpoint writes: the gate of the slot, and what stands behind it
-abbrev pub InRenewal : Place → ℕ → Type 0
-InRenewal place n = (n ≡ slot_gate place.slot) ⊎ InCheckpoint place.slot place.saved n
+abbrev pub InRenewal : SlotPlace → ℕ → Type 0
+InRenewal place n = (n ≡ slot_gate place.slot) ⊎ InCheckpoint place.slot place.area place.saved n

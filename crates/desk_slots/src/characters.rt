@@ -1,5 +1,5 @@
-//! Loading what a slot starts from: its desktop, and the characters that its image has. Those of the area stay on the disk.
-//! Nothing is written.
+//! Loading what a slot starts from: its desktop, and the characters that its image has. Those of the area stay on the
+//! disk. Nothing is written.
 ghost use Rattle.std.specs.Prelude.{◌≡◌, ◌+◌, ◌*◌, ◌<◌, ◌≤◌, ◌++◌, ◌∷◌, [], ℕ, OnOk, IfOk, IsErrOf, length, take, drop};
 ghost use Rattle.sector_disk.specs.Trail.{Content};
 ghost use Rattle.sector_disk.specs.Stored.{stored};
@@ -14,7 +14,7 @@ ghost use Rattle.store_layout.specs.Meaning.{HasImage, area_bytes, full_sectors,
 ghost use Rattle.piece_ring.specs.Text.{Text as AText};
 ghost use Rattle.screen_cells.specs.Lines.{AreLinesOf};
 ghost use Rattle.desk_slots.specs.Errors.{OfReplay};
-ghost use Rattle.desk_slots.specs.Live.{characters_of, shown, IsLive, IsTold};
+ghost use Rattle.desk_slots.specs.Live.{characters_of, seen_live, IsLive, IsTold};
 ghost use Rattle.desk_slots.specs.Load.{image_error, IsStart, HasNoStart};
 ghost use Rattle.desk_slots.specs.Words.{Nowhere, now, IsConfined, FailsAs};
 
@@ -26,7 +26,7 @@ use event_loop::Desktop;
 use sector_disk::{Disk, SECTOR_BYTES, Sector};
 use sector_streams::{Draining, SectorSource};
 use std::alloc::{AllocError as NoMemory, Global};
-use store_layout::{Head, SLOTS, STORE_SECTORS, area_at, image_at};
+use store_layout::{AREAS, Head, SLOTS, STORE_SECTORS, area_start, image_at};
 
 /// Why a store isn't opened, where its image isn't read: it is damaged at the image's first sector, or for the same
 /// reason.
@@ -126,27 +126,30 @@ fn load_start<D: Disk>(
     read_through(alloc, disk, &mut draining, head.written, tail)
 }
 
-/// A desktop of so many characters: those that fill sectors stand in the area, and the others at the front of a sector.
-/// Its error is NoMemory.
+/// A desktop of the characters that a head names: those that fill sectors stand in its area, and the others at the
+/// front of a sector. Its error is NoMemory.
 fn with_pages(
     alloc: Global,
     desktop: Desktop,
-    written: u32,
+    head: &Head,
     tail: &Sector,
 ) -> Result<LiveDesktop, NoMemory>
     requires whole { IsKeptWhole desktop }
-    requires count { desktop.written ≡ written }
+    requires count { desktop.written ≡ head.now.written }
+    requires low { head.now.area < AREAS }
     ensures live { IfOk result IsLive }
     ensures desktop { IfOk result (λ live. live.desktop ≡ desktop) }
     ensures characters { IfOk result (λ live. (c : Content) → characters_of c live
-        ≡ area_bytes c (full_sectors written) ++ take (left_over written) tail.now) }
-    ensures saved { IfOk result (λ live. saved_sectors live.pages ≡ full_sectors written) }
+        ≡ area_bytes c head.now.area (full_sectors head.now.written) ++ take (left_over head.now.written) tail.now) }
+    ensures saved { IfOk result (λ live. saved_sectors live.pages ≡ full_sectors head.now.written) }
+    ensures area { IfOk result (λ live. live.area ≡ head.now.area) }
     ensures cached { IfOk result (λ live. cached_of live.pages ≡ []) }
     ensures lines { IfOk result (λ live. (texts : ℕ → AText ℕ) → AreLinesOf texts live.lines) }
 {
-    let left = written % SECTOR_BYTES;
-    let pages = Pages::new(alloc, area_at(0), written - left, &tail[..left as usize])?;
-    Ok(LiveDesktop::over(alloc, desktop, pages))
+    let left = head.written % SECTOR_BYTES;
+    let full = head.written - left;
+    let pages = Pages::new(alloc, area_start(head.area), full, &tail[..left as usize])?;
+    Ok(LiveDesktop::over(alloc, desktop, pages, head.area))
 }
 
 /// Loads what a slot of this head starts from. Memory is taken for the image and for the characters that are left over,
@@ -165,15 +168,16 @@ pub fn load_slot<D: Disk>(
     ensures live { IfOk result (λ live. IsLive live) }
     ensures told { IfOk result (λ live. IsTold D.Disk disk.new live) }
     ensures saved { IfOk result (λ live. saved_sectors live.pages ≡ full_sectors head.now.written) }
+    ensures area { IfOk result (λ live. live.area ≡ head.now.area) }
     ensures image { IfOk result (λ live. D.honest disk.old → head_at (now (D.trail disk.old)).reads slot ≡ head.now
-        → HasImage (now (D.trail disk.old)).reads slot (shown (now (D.trail disk.new)).reads live)) }
+        → HasImage (now (D.trail disk.old)).reads slot (seen_live (now (D.trail disk.new)).reads live)) }
     ensures damaged { (n : ℕ) → IsErrOf result (Error.Damaged n) → D.honest disk.old
         → head_at (now (D.trail disk.old)).reads slot ≡ head.now
         → (n ≡ image_at slot) × ((start : ADesktop) → HasImage (now (D.trail disk.old)).reads slot start → ⊥) }
 {
     let mut tail = [0; SECTOR_BYTES as usize];
     match load_start(alloc, disk, slot, head, &mut tail) {
-        Ok(desktop) => Ok(with_pages(alloc, desktop, head.written, &tail)?),
+        Ok(desktop) => Ok(with_pages(alloc, desktop, head, &tail)?),
         Err(fault) => Err(error_of(fault, slot)),
     }
 }

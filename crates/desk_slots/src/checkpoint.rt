@@ -1,25 +1,25 @@
 //! A checkpoint: the desktop goes whole into the slot that isn't in use, and then that slot is in use.
 //!
 //! The other slot's gate is closed and synced first, if it is open. Behind the closed gate the slot is filled: the
-//! characters that came since into the area, as far as they fill sectors, then the image, the head and a closed gate of
+//! characters that came since into an area, as far as they fill sectors, then the image, the head and a closed gate of
 //! the journal. After a sync its gate is opened, and a sync follows. Nothing that the slot in use names is written, so
-//! at each moment the disk means the same desktop, and the characters that stand in the area stay as they are. At last
-//! the characters that stand there by then are given up in memory.
+//! at each moment the disk means the same desktop, and the characters that it names stay as they are. Where all
+//! characters were exchanged since the slot in use was written, they go whole into the other area. At last the
+//! characters that stand in the area by then are given up in memory.
 ghost use Rattle.std.specs.Prelude.{◌≡◌, ◌+◌, ◌*◌, ◌/◌, ◌<◌, ◌≤◌, ◌++◌, true, false, ℕ, List, length, drop, OnOk, IfOk};
 ghost use Rattle.sector_disk.specs.Stored.{stored};
 ghost use Rattle.sector_streams.specs.Filling.{first_sector, most_sectors, SectorsOf, InRange, HasTaken};
 ghost use Rattle.desk_image.specs.Image.{image_of, image_bytes, IsSpellable};
 ghost use Rattle.store_layout.specs.Layout.{slot_gate, image_at, area_at};
 ghost use Rattle.store_layout.specs.Meaning.{Means, full_sectors, left_over};
-ghost use Rattle.char_pages.specs.Pages.{saved_sectors};
 ghost use Rattle.store_layout.specs.Kept.{OpenGate, InArea, InCheckpoint, HasFront, IsFront, IsKept};
 ghost use Rattle.desk_slots.specs.Device.{IsSameDevice, StaysWithin};
-ghost use Rattle.desk_slots.specs.Live.{characters_of, shown, IsLive, IsNamed, IsTold};
-ghost use Rattle.desk_slots.specs.Written.{HasGate, IsFilled, IsBeside, InRenewal};
+ghost use Rattle.desk_slots.specs.Live.{characters_of, seen_live, IsLive, IsNamed, IsTold};
+ghost use Rattle.desk_slots.specs.Written.{GoesOn, HasGate, IsFilled, IsBeside, InRenewal};
 ghost use Rattle.desk_slots.specs.Words.{LeavesOnly, Only, CountsFault, now, IsConfined};
 
 use crate::live::LiveDesktop;
-use crate::place::Place;
+use crate::place::SlotPlace;
 use desk_image::{IMAGE_BYTES, images_have_room};
 use sector_disk::{Disk, Fault, SECTOR_BYTES};
 use sector_streams::{Filling, SectorSink};
@@ -46,37 +46,38 @@ pub fn close_slot<D: Disk>(disk: &mut D, slot: u32) -> Result<(), Fault>
     Ok(())
 }
 
-/// Writes sector i of the characters after those in the first `saved` sectors of the area.
-fn write_full<D: Disk>(disk: &mut D, rest: &[u8], saved: u32, i: u32) -> Result<(), Fault>
+/// Writes sector i of the characters after those that stand in the area already.
+fn write_full<D: Disk>(disk: &mut D, rest: &[u8], place: SlotPlace, i: u32) -> Result<(), Fault>
     requires room { STORE_SECTORS ≤ D.size disk.old }
     requires full { SECTOR_BYTES * (i + 1) ≤ length rest.now }
-    requires few { SECTOR_BYTES * saved + length rest.now ≤ SECTOR_BYTES * AREA_SECTORS }
-    ensures kept { IsConfined D.size D.honest D.trail (Only (area_at (saved + i))) disk.old disk.new }
+    requires few { SECTOR_BYTES * place.saved + length rest.now ≤ SECTOR_BYTES * AREA_SECTORS }
+    ensures kept { IsConfined D.size D.honest D.trail (Only (area_at place.area (place.saved + i))) disk.old disk.new }
     ensures cause { CountsFault result (D.failures disk.old) (D.failures disk.new) }
-    ensures front { OnOk result (D.honest disk.old → (front : List ℕ) → length front ≡ SECTOR_BYTES * saved
-        → HasFront (now (D.trail disk.old)).reads (saved + i) (front ++ rest.now)
-        → HasFront (now (D.trail disk.new)).reads (saved + i + 1) (front ++ rest.now)) }
+    ensures front { OnOk result (D.honest disk.old → (front : List ℕ) → length front ≡ SECTOR_BYTES * place.saved
+        → HasFront (now (D.trail disk.old)).reads place.area (place.saved + i) (front ++ rest.now)
+        → HasFront (now (D.trail disk.new)).reads place.area (place.saved + i + 1) (front ++ rest.now)) }
 {
     let width = SECTOR_BYTES as usize;
     let start = width * i as usize;
     let mut sector = [0; SECTOR_BYTES as usize];
     sector.copy_from_slice(&rest[start..start + width]);
-    disk.write(area_at(saved + i), &sector)
+    disk.write(area_at(place.area, place.saved + i), &sector)
 }
 
-/// Writes the characters after those in the first `saved` sectors of the area, as far as they fill sectors.
-fn fill_area<D: Disk>(disk: &mut D, rest: &[u8], saved: u32) -> Result<(), Fault>
+/// Writes the characters after those that stand in the area already, as far as they fill sectors.
+fn fill_area<D: Disk>(disk: &mut D, rest: &[u8], place: SlotPlace) -> Result<(), Fault>
     requires room { STORE_SECTORS ≤ D.size disk.old }
-    requires few { SECTOR_BYTES * saved + length rest.now ≤ SECTOR_BYTES * AREA_SECTORS }
-    ensures kept { IsConfined D.size D.honest D.trail (InArea saved) disk.old disk.new }
+    requires few { SECTOR_BYTES * place.saved + length rest.now ≤ SECTOR_BYTES * AREA_SECTORS }
+    ensures kept { IsConfined D.size D.honest D.trail (InArea place.area place.saved) disk.old disk.new }
     ensures cause { CountsFault result (D.failures disk.old) (D.failures disk.new) }
-    ensures front { OnOk result (D.honest disk.old → (front : List ℕ) → length front ≡ SECTOR_BYTES * saved
-        → HasFront (now (D.trail disk.old)).reads saved (front ++ rest.now)
-        → HasFront (now (D.trail disk.new)).reads (saved + length rest.now / SECTOR_BYTES) (front ++ rest.now)) }
+    ensures front { OnOk result (D.honest disk.old → (front : List ℕ) → length front ≡ SECTOR_BYTES * place.saved
+        → HasFront (now (D.trail disk.old)).reads place.area place.saved (front ++ rest.now)
+        → HasFront (now (D.trail disk.new)).reads place.area (place.saved + length rest.now / SECTOR_BYTES)
+        (front ++ rest.now)) }
 {
     let full = rest.len() as u32 / SECTOR_BYTES;
     for i in 0..full {
-        write_full(disk, rest, saved, i)?;
+        write_full(disk, rest, place, i)?;
     }
     Ok(())
 }
@@ -133,15 +134,16 @@ fn stream<D: Disk>(
 }
 
 /// Fills the area and the image of a slot, and returns how many bytes the image has with the characters before it.
-fn fill_slot<D: Disk>(disk: &mut D, desktop: &LiveDesktop, place: Place) -> Result<u32, Fault>
+fn fill_slot<D: Disk>(disk: &mut D, desktop: &LiveDesktop, place: SlotPlace) -> Result<u32, Fault>
     requires room { STORE_SECTORS ≤ D.size disk.old }
     requires live { IsLive desktop.now }
-    requires saved { place.saved ≡ saved_sectors desktop.now.pages }
-    ensures kept { IsConfined D.size D.honest D.trail (InCheckpoint place.slot place.saved) disk.old disk.new }
+    requires goes { GoesOn place desktop.now }
+    ensures kept { IsConfined D.size D.honest D.trail (InCheckpoint place.slot place.area place.saved)
+        disk.old disk.new }
     ensures cause { CountsFault result (D.failures disk.old) (D.failures disk.new) }
     ensures fits { IfOk result (λ n. n ≤ IMAGE_BYTES) }
     ensures spelled { OnOk result (IsSpellable desktop.now.desktop) }
-    ensures front { OnOk result (D.honest disk.old → HasFront (now (D.trail disk.new)).reads
+    ensures front { OnOk result (D.honest disk.old → HasFront (now (D.trail disk.new)).reads place.area
         (full_sectors (length (characters_of (now (D.trail disk.old)).reads desktop.now)))
         (characters_of (now (D.trail disk.old)).reads desktop.now)) }
     ensures stored { IfOk result (λ n. D.honest disk.old → stored (now (D.trail disk.new)).reads (image_at place.slot) n
@@ -152,19 +154,21 @@ fn fill_slot<D: Disk>(disk: &mut D, desktop: &LiveDesktop, place: Place) -> Resu
     let rest = desktop.rest();
     let width = SECTOR_BYTES as usize;
     let full = rest.len() / width * width;
-    fill_area(disk, rest, place.saved)?;
+    fill_area(disk, rest, place)?;
     stream(disk, &rest[full..], desktop, place.slot)
 }
 
 /// Writes a whole slot behind its closed gate.
-fn write_slot<D: Disk>(disk: &mut D, desktop: &LiveDesktop, place: Place) -> Result<(), Fault>
+fn write_slot<D: Disk>(disk: &mut D, desktop: &LiveDesktop, place: SlotPlace) -> Result<(), Fault>
     requires room { STORE_SECTORS ≤ D.size disk.old }
     requires live { IsLive desktop.now }
-    requires saved { place.saved ≡ saved_sectors desktop.now.pages }
-    ensures kept { IsConfined D.size D.honest D.trail (InCheckpoint place.slot place.saved) disk.old disk.new }
+    requires goes { GoesOn place desktop.now }
+    ensures kept { IsConfined D.size D.honest D.trail (InCheckpoint place.slot place.area place.saved)
+        disk.old disk.new }
     ensures cause { CountsFault result (D.failures disk.old) (D.failures disk.new) }
-    ensures filled { OnOk result (D.honest disk.old → IsFilled (now (D.trail disk.new)) place.slot place.epoch
-        (characters_of (now (D.trail disk.old)).reads desktop.now) (shown (now (D.trail disk.old)).reads desktop.now)) }
+    ensures filled { OnOk result (D.honest disk.old → IsFilled (now (D.trail disk.new)) place.slot LAYOUT place.area
+        place.epoch (characters_of (now (D.trail disk.old)).reads desktop.now)
+        (seen_live (now (D.trail disk.old)).reads desktop.now)) }
 {
     let extent = fill_slot(disk, desktop, place)?;
     let head = Head {
@@ -172,6 +176,7 @@ fn write_slot<D: Disk>(disk: &mut D, desktop: &LiveDesktop, place: Place) -> Res
         epoch: place.epoch,
         written: desktop.written(),
         extent,
+        area: place.area,
     };
     disk.write(slot_head(place.slot), &head.sector())?;
     disk.write(gate(place.slot, 0), &closed_gate())?;
@@ -193,21 +198,23 @@ pub fn open_slot<D: Disk>(disk: &mut D, slot: u32) -> Result<(), Fault>
 }
 
 /// Puts the desktop into the other slot, and makes that the slot in use.
-fn change_slot<D: Disk>(disk: &mut D, desktop: &LiveDesktop, place: Place) -> Result<(), Fault>
+fn change_slot<D: Disk>(disk: &mut D, desktop: &LiveDesktop, place: SlotPlace) -> Result<(), Fault>
     requires room { STORE_SECTORS ≤ D.size disk.old }
     requires live { IsLive desktop.now }
-    requires saved { place.saved ≡ saved_sectors desktop.now.pages }
+    requires goes { GoesOn place desktop.now }
     ensures kept { IsConfined D.size D.honest D.trail (InRenewal place) disk.old disk.new }
     ensures cause { CountsFault result (D.failures disk.old) (D.failures disk.new) }
-    ensures any_moment { D.honest disk.old → (live number count : ℕ) → IsBeside place (D.size disk.old)
-        (D.trail disk.old) live number count (shown (now (D.trail disk.old)).reads desktop.now)
+    ensures any_moment { D.honest disk.old → (live version number count : ℕ) → IsBeside place (D.size disk.old)
+        (D.trail disk.old) live version number count (seen_live (now (D.trail disk.old)).reads desktop.now)
         → LeavesOnly (D.trail disk.old) (D.trail disk.new)
-        (Means (D.size disk.old) (shown (now (D.trail disk.old)).reads desktop.now)) }
-    ensures renewed { OnOk result (D.honest disk.old → (live number count : ℕ) → IsBeside place (D.size disk.old)
-        (D.trail disk.old) live number count (shown (now (D.trail disk.old)).reads desktop.now)
-        → IsKept (D.size disk.old) (D.trail disk.new) place.slot place.epoch 0
-        (shown (now (D.trail disk.old)).reads desktop.now)) }
+        (Means (D.size disk.old) (seen_live (now (D.trail disk.old)).reads desktop.now)) }
+    ensures renewed { OnOk result (D.honest disk.old → (live version number count : ℕ)
+        → IsBeside place (D.size disk.old)
+        (D.trail disk.old) live version number count (seen_live (now (D.trail disk.old)).reads desktop.now)
+        → IsKept (D.size disk.old) (D.trail disk.new) place.slot LAYOUT place.epoch 0
+        (seen_live (now (D.trail disk.old)).reads desktop.now)) }
     ensures front { OnOk result (D.honest disk.old → IsFront (now (D.trail disk.new)).reads place.slot
+        place.area
         (full_sectors (length (characters_of (now (D.trail disk.old)).reads desktop.now)))
         (characters_of (now (D.trail disk.old)).reads desktop.now)) }
 {
@@ -218,29 +225,34 @@ fn change_slot<D: Disk>(disk: &mut D, desktop: &LiveDesktop, place: Place) -> Re
 
 /// Puts the desktop into the other slot, makes that the slot in use, and then gives up the characters in memory that
 /// stand in the area from then on. It takes no memory.
-pub fn renew<D: Disk>(disk: &mut D, desktop: &mut LiveDesktop, place: Place) -> Result<(), Fault>
+pub fn renew<D: Disk>(
+    disk: &mut D,
+    desktop: &mut LiveDesktop,
+    place: SlotPlace,
+) -> Result<(), Fault>
     requires room { STORE_SECTORS ≤ D.size disk.old }
     requires live { IsLive desktop.old }
-    requires saved { place.saved ≡ saved_sectors desktop.old.pages }
+    requires goes { GoesOn place desktop.old }
     ensures device { IsSameDevice D.Disk disk.old disk.new }
     ensures within { StaysWithin D.Disk disk.old disk.new }
     ensures cause { CountsFault result (D.failures disk.old) (D.failures disk.new) }
-    ensures any_moment { D.honest disk.old → (live number count : ℕ) → IsBeside place (D.size disk.old)
-        (D.trail disk.old) live number count (shown (now (D.trail disk.old)).reads desktop.old)
+    ensures any_moment { D.honest disk.old → (live version number count : ℕ) → IsBeside place (D.size disk.old)
+        (D.trail disk.old) live version number count (seen_live (now (D.trail disk.old)).reads desktop.old)
         → LeavesOnly (D.trail disk.old) (D.trail disk.new)
-        (Means (D.size disk.old) (shown (now (D.trail disk.old)).reads desktop.old)) }
-    ensures renewed { OnOk result (D.honest disk.old → (live number count : ℕ) → IsBeside place (D.size disk.old)
-        (D.trail disk.old) live number count (shown (now (D.trail disk.old)).reads desktop.old)
-        → IsKept (D.size disk.old) (D.trail disk.new) place.slot place.epoch 0
-        (shown (now (D.trail disk.new)).reads desktop.new)) }
+        (Means (D.size disk.old) (seen_live (now (D.trail disk.old)).reads desktop.old)) }
+    ensures renewed { OnOk result (D.honest disk.old → (live version number count : ℕ)
+        → IsBeside place (D.size disk.old)
+        (D.trail disk.old) live version number count (seen_live (now (D.trail disk.old)).reads desktop.old)
+        → IsKept (D.size disk.old) (D.trail disk.new) place.slot LAYOUT place.epoch 0
+        (seen_live (now (D.trail disk.new)).reads desktop.new)) }
     ensures named { OnOk result (D.honest disk.old → IsNamed (now (D.trail disk.new)).reads place.slot desktop.new) }
-    ensures shown { OnOk result (D.honest disk.old → shown (now (D.trail disk.new)).reads desktop.new
-        ≡ shown (now (D.trail disk.old)).reads desktop.old) }
+    ensures shown { OnOk result (D.honest disk.old → seen_live (now (D.trail disk.new)).reads desktop.new
+        ≡ seen_live (now (D.trail disk.old)).reads desktop.old) }
     ensures kept { desktop.new.desktop ≡ desktop.old.desktop }
     ensures live { OnOk result (IsLive desktop.new) }
     ensures told { OnOk result (IsTold D.Disk disk.old desktop.old → IsTold D.Disk disk.new desktop.new) }
 {
     change_slot(disk, desktop, place)?;
-    desktop.settle();
+    desktop.settle(place.area);
     Ok(())
 }

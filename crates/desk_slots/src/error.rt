@@ -28,7 +28,7 @@ pub enum Error {
     /// The disk has fewer sectors than a store needs.
     #[error("too small")]
     TooSmall,
-    /// The journal is full and the epoch is the last one, so no checkpoint is possible.
+    /// A checkpoint is due and the epoch is the last one, so none is possible.
     #[error("worn")]
     Worn,
 }

@@ -11,7 +11,8 @@ use crate::checkpoint::open_slot;
 use desk_image::{EMPTY_IMAGE, empty_image};
 use sector_disk::{Disk, Fault, SECTOR_BYTES, Sector};
 use store_layout::{
-    Head, LABEL, LAYOUT, STORE_SECTORS, closed_gate, gate, image_at, label, slot_gate, slot_head,
+    FIRST_LAYOUT, Head, LABEL, LAYOUT, STORE_SECTORS, closed_gate, gate, image_at, label,
+    slot_gate, slot_head,
 };
 
 /// Closes the gates of both slots, so that whatever is there is no store from now on.
@@ -37,20 +38,23 @@ fn first_image() -> Sector
     image
 }
 
-/// Writes slot 0 with the empty desktop, and the label.
-fn write_start<D: Disk>(disk: &mut D) -> Result<(), Fault>
-    requires { STORE_SECTORS ≤ D.size disk.old }
+/// Writes slot 0 with the empty desktop, in that version, and the label.
+fn write_start<D: Disk>(disk: &mut D, version: u32) -> Result<(), Fault>
+    requires room { STORE_SECTORS ≤ D.size disk.old }
+    requires first { FIRST_LAYOUT ≤ version }
+    requires newest { version ≤ LAYOUT }
     ensures kept { IsConfined D.size D.honest D.trail
         (λ n. (n < STORE_SECTORS) × ¬ (n ≡ slot_gate 1)) disk.old disk.new }
     ensures cause { CountsFault result (D.failures disk.old) (D.failures disk.new) }
     ensures label { OnOk result (D.honest disk.old → is_label ((now (D.trail disk.new)).reads LABEL) ≡ true) }
-    ensures start { OnOk result (D.honest disk.old → IsFilled (now (D.trail disk.new)) 0 1 [] empty_desktop) }
+    ensures start { OnOk result (D.honest disk.old → IsFilled (now (D.trail disk.new)) 0 version 0 1 [] empty_desktop) }
 {
     let head = Head {
-        version: LAYOUT,
+        version,
         epoch: 1,
         written: 0,
         extent: EMPTY_IMAGE.len() as u32,
+        area: 0,
     };
     empty_image();
     disk.write(image_at(0), &first_image())?;
@@ -61,14 +65,17 @@ fn write_start<D: Disk>(disk: &mut D) -> Result<(), Fault>
     Ok(())
 }
 
-/// Makes the disk a store of the empty desktop.
-pub fn lay_out<D: Disk>(disk: &mut D) -> Result<(), Fault>
-    requires { STORE_SECTORS ≤ D.size disk.old }
+/// Makes the disk a store of the empty desktop, in that version.
+pub fn lay_out<D: Disk>(disk: &mut D, version: u32) -> Result<(), Fault>
+    requires room { STORE_SECTORS ≤ D.size disk.old }
+    requires first { FIRST_LAYOUT ≤ version }
+    requires newest { version ≤ LAYOUT }
     ensures kept { IsConfined D.size D.honest D.trail (λ n. n < STORE_SECTORS) disk.old disk.new }
     ensures cause { CountsFault result (D.failures disk.old) (D.failures disk.new) }
-    ensures empty { OnOk result (D.honest disk.old → IsKept (D.size disk.new) (D.trail disk.new) 0 1 0 empty_desktop) }
+    ensures empty { OnOk result (D.honest disk.old
+        → IsKept (D.size disk.new) (D.trail disk.new) 0 version 1 0 empty_desktop) }
 {
     close_slots(disk)?;
-    write_start(disk)?;
+    write_start(disk, version)?;
     open_slot(disk, 0)
 }

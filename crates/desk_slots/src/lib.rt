@@ -3,8 +3,8 @@
 //! `store_layout` says what the sectors mean (in words: docs/STORE.md). Here they are read and written: a new store is
 //! laid out, the slot in use is found and read, an event goes into its journal (first its body and a closed gate after
 //! it, then, after a sync, its gate is opened, and a sync follows), and the desktop goes whole into the other slot.
-//! What a store has in memory beside its disk is a `LiveDesktop`; the characters that fill sectors of the disk's area stay
-//! there. The store itself is in `desk_journal`.
+//! What a store has in memory beside its disk is a `LiveDesktop`; the characters that fill sectors of the disk's area
+//! stay there. The store itself is in `desk_journal`.
 #![tactic(auto)]
 
 mod characters;
@@ -24,5 +24,5 @@ pub use error::Error;
 pub use format::lay_out;
 pub use live::LiveDesktop;
 pub use loaded::{Loaded, load};
-pub use place::Place;
+pub use place::SlotPlace;
 pub use records::record;

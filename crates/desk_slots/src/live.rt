@@ -1,18 +1,21 @@
 //! The desktop that a store has in memory, with its characters.
-ghost use Rattle.std.specs.Prelude.{◌≡◌, ◌≤◌, ◌*◌, ◌++◌, ℕ, Ok, IfOk, OnOk, IsErrOf, None, option_map, length};
-ghost use Rattle.char_pages.specs.Pages.{base_of, saved_of, saved_sectors, rest_of, cached_of};
+ghost use Rattle.std.specs.Prelude.{◌≡◌, ◌<◌, ◌≤◌, ◌*◌, ◌++◌, ℕ, Ok, IfOk, OnOk, IsErrOf, None, option_map, length};
+ghost use Rattle.std.specs.Prelude.{false};
+ghost use Rattle.char_pages.specs.Pages.{base_of, saved_of, saved_sectors, rest_of, cached_of, renewed_of};
+ghost use Rattle.command_table.specs.Versions.{version_number};
 ghost use Rattle.desktop_definitions.specs.Desktop.{file_of};
 ghost use Rattle.desk_image.specs.Image.{image_of, image_bytes, IsSpellable};
 ghost use Rattle.desk_image.specs.Streams.{Puts};
 ghost use Rattle.sector_disk.specs.Trail.{Content};
-ghost use Rattle.store_layout.specs.Layout.{area_at};
-ghost use Rattle.store_layout.specs.Kept.{HasFront};
+ghost use Rattle.store_layout.specs.Layout.{area_start};
+ghost use Rattle.store_layout.specs.Kept.{HasFront, chosen_area};
 ghost use Rattle.store_layout.specs.Meaning.{full_sectors};
 ghost use Rattle.desk_slots.specs.Errors.{OfDesktop};
-ghost use Rattle.desk_slots.specs.Live.{characters_of, shown, AreTrueOver, IsLive, IsOverPages, IsTold, StaysLive};
+ghost use Rattle.desk_slots.specs.Live.{characters_of, seen_live, AreTrueOver, IsLive, IsOverPages, IsTold, StaysLive};
 ghost use Rattle.piece_ring.specs.Text.{Text as AText};
 ghost use Rattle.screen_cells.specs.Lines.{AreLinesOf};
-ghost use Rattle.desk_slots.specs.Words.{Nowhere, now, IsConfined, FailsAs, No, IsReply, entries_of, shown_screen, step};
+ghost use Rattle.desk_slots.specs.Words.{Nowhere, now, IsConfined, FailsAs, No, IsReply, entries_of, shown_screen};
+ghost use Rattle.desk_slots.specs.Words.{step_in};
 ghost use Rattle.desk_slots.specs.Words.{StepsUnread, ListsUnread};
 
 use crate::Error;
@@ -20,40 +23,46 @@ use crate::over::{list_over, read_over, screen_over, step_over};
 use char_pages::Pages;
 use desk_image::ByteSink;
 use event_bytes::{Event, Name};
-use event_loop::{Desktop, Entry, Reply};
+use event_loop::{Desktop, Entry, Reply, Version};
 use piece_ring::Look;
 use screen_cells::{KeptLines, Screen};
 use sector_disk::{Disk, Fault, SECTOR_BYTES};
 use std::alloc::Global;
-use store_layout::STORE_SECTORS;
+use store_layout::{AREAS, STORE_SECTORS, area_start};
 
-/// A desktop and the characters that its texts name: those that fill whole sectors of the disk's area stand there, the
-/// others in memory.
+/// A desktop and the characters that its texts name: those that fill whole sectors of an area of the disk stand there,
+/// the others in memory.
 ///
-/// A clause sees it as its characters read over what the disk reads (`shown`), and asks that it stands over them
-/// (`IsLive`) and that what it has in memory of the disk is so (`IsTold`). Its calls are handed the disk, from which they
-/// only read, and what they say of characters stands under its premise. After an error of `step` it isn't used again.
+/// A clause sees it as its characters read over what the disk reads (`seen_live`), and asks that it stands over them
+/// (`IsLive`) and that what it has in memory of the disk is so (`IsTold`). Its calls are handed the disk, from which
+/// they only read, and what they say of characters stands under its premise. After an error of `step` it isn't used
+/// again.
 #[derive(Drop)]
 pub struct LiveDesktop {
     desktop: Desktop,
     pages: Pages,
+    /// The area in which the characters that are on the disk stand.
+    area: u32,
     /// What is kept of the screens that were painted.
     lines: KeptLines,
 }
 
 impl LiveDesktop {
     /// A desktop over its characters. No line of it is kept yet. It takes no memory.
-    pub fn over(alloc: Global, desktop: Desktop, pages: Pages) -> LiveDesktop
+    pub fn over(alloc: Global, desktop: Desktop, pages: Pages, area: u32) -> LiveDesktop
         requires over { IsOverPages pages desktop }
-        requires based { base_of pages ≡ area_at 0 }
+        requires low { area < AREAS }
+        requires based { base_of pages ≡ area_start area }
         ensures desktop { result.desktop ≡ desktop }
         ensures pages { result.pages ≡ pages }
+        ensures area { result.area ≡ area }
         ensures live { IsLive result }
         ensures lines { (texts : ℕ → AText ℕ) → AreLinesOf texts result.lines }
     {
         LiveDesktop {
             desktop,
             pages,
+            area,
             lines: KeptLines::new(alloc),
         }
     }
@@ -65,11 +74,25 @@ impl LiveDesktop {
         self.pages.rest()
     }
 
-    /// How many sectors of the area hold the others.
+    /// How many sectors of its area the others fill.
     pub fn saved(&self) -> u32
         ensures { result ≡ saved_sectors self.now.pages }
     {
         self.pages.saved_sectors()
+    }
+
+    /// The area that a checkpoint writes: it goes on in its own, or takes the other one where all characters were
+    /// exchanged since the slot in use was written.
+    pub fn next_area(&self) -> u32
+        requires { IsLive self.now }
+        ensures area { result ≡ chosen_area (renewed_of self.now.pages) self.now.area }
+        ensures low { result < AREAS }
+    {
+        if self.pages.renewed() {
+            1 - self.area
+        } else {
+            self.area
+        }
     }
 
     /// Puts these characters and then its image, and returns how many bytes the image has. It takes no memory.
@@ -83,9 +106,10 @@ impl LiveDesktop {
         self.desktop.put_image(sink)
     }
 
-    /// Does the event.
+    /// Does the event, with the commands of that version.
     pub fn step<D: Disk>(
         &mut self,
+        version: Version,
         alloc: Global,
         event: &Event,
         disk: &mut D,
@@ -93,20 +117,30 @@ impl LiveDesktop {
         requires live { IsLive self.old }
         requires room { STORE_SECTORS ≤ D.size disk.old }
         requires told { IsTold D.Disk disk.old self.old }
-        ensures done { IfOk result (λ reply. D.honest disk.old → (shown (now (D.trail disk.new)).reads self.new, reply)
-            ≡ step (shown (now (D.trail disk.old)).reads self.old) event.now) }
-        ensures unread { IfOk result (StepsUnread self.old.desktop self.new.desktop event.now) }
+        ensures done { IfOk result
+            (λ reply. D.honest disk.old → (seen_live (now (D.trail disk.new)).reads self.new, reply)
+            ≡ step_in (version_number version) (seen_live (now (D.trail disk.old)).reads self.old) event.now) }
+        ensures unread { IfOk result (StepsUnread (version_number version) self.old.desktop self.new.desktop event.now) }
         ensures replies { IfOk result IsReply }
         ensures refusal { (code : ℕ) → result ≡ Ok (No code) → self.new.desktop ≡ self.old.desktop }
         ensures live { OnOk result (IsLive self.new) }
         ensures told { OnOk result (IsTold D.Disk disk.new self.new) }
         ensures pages { AreTrueOver D.Disk disk.new self.new.pages }
-        ensures counted { saved_of self.new.pages ≡ saved_of self.old.pages }
+        ensures area { self.new.area ≡ self.old.area }
+        ensures before { renewed_of self.new.pages ≡ false → renewed_of self.old.pages ≡ false }
+        ensures counted { renewed_of self.new.pages ≡ false → saved_of self.new.pages ≡ saved_of self.old.pages }
         ensures disk { IsConfined D.size D.honest D.trail Nowhere disk.old disk.new }
         ensures faults { FailsAs Error.Fault OfDesktop result (D.failures disk.old) (D.failures disk.new) }
     {
         self.desktop.forget_stale(event, &mut self.lines);
-        Ok(step_over(alloc, &mut self.desktop, event, disk, &mut self.pages)?)
+        Ok(step_over(
+            version,
+            alloc,
+            &mut self.desktop,
+            event,
+            disk,
+            &mut self.pages,
+        )?)
     }
 
     /// The characters of the file of that name, with their looks; None where there is none.
@@ -120,9 +154,9 @@ impl LiveDesktop {
         requires room { STORE_SECTORS ≤ D.size disk.old }
         requires told { IsTold D.Disk disk.old self.old }
         ensures found { IfOk result (λ file. D.honest disk.old → option_map (λ characters. characters.items) file
-            ≡ file_of (shown (now (D.trail disk.old)).reads self.old) name.now) }
+            ≡ file_of (seen_live (now (D.trail disk.old)).reads self.old) name.now) }
         ensures memory { IsErrOf result Error.NoMemory → D.honest disk.old
-            → ¬ (file_of (shown (now (D.trail disk.old)).reads self.old) name.now ≡ None) }
+            → ¬ (file_of (seen_live (now (D.trail disk.old)).reads self.old) name.now ≡ None) }
         ensures same { StaysLive D.Disk disk.old disk.new self.old self.new }
         ensures disk { IsConfined D.size D.honest D.trail Nowhere disk.old disk.new }
         ensures faults { FailsAs Error.Fault OfDesktop result (D.failures disk.old) (D.failures disk.new) }
@@ -139,7 +173,7 @@ impl LiveDesktop {
         requires room { STORE_SECTORS ≤ D.size disk.old }
         requires told { IsTold D.Disk disk.old self.old }
         ensures entries { IfOk result (λ entries. D.honest disk.old
-            → entries.items ≡ entries_of (shown (now (D.trail disk.old)).reads self.old)) }
+            → entries.items ≡ entries_of (seen_live (now (D.trail disk.old)).reads self.old)) }
         ensures unread { IfOk result (λ entries. ListsUnread self.old.desktop entries.items) }
         ensures same { StaysLive D.Disk disk.old disk.new self.old self.new }
         ensures disk { IsConfined D.size D.honest D.trail Nowhere disk.old disk.new }
@@ -159,7 +193,7 @@ impl LiveDesktop {
         requires room { STORE_SECTORS ≤ D.size disk.old }
         requires told { IsTold D.Disk disk.old self.old }
         ensures shown { OnOk result (D.honest disk.old
-            → screen.new ≡ shown_screen (shown (now (D.trail disk.old)).reads self.old)) }
+            → screen.new ≡ shown_screen (seen_live (now (D.trail disk.old)).reads self.old)) }
         ensures same { StaysLive D.Disk disk.old disk.new self.old self.new }
         ensures disk { IsConfined D.size D.honest D.trail Nowhere disk.old disk.new }
         ensures faults { FailsAs Error.Fault OfDesktop result (D.failures disk.old) (D.failures disk.new) }
@@ -175,24 +209,31 @@ impl LiveDesktop {
         Ok(())
     }
 
-    /// Gives up the characters in memory that fill whole sectors of the area by now. It takes no memory.
-    pub fn settle(&mut self)
-        requires { IsLive self.old }
+    /// Gives up the characters in memory that fill whole sectors of that area by now, in which all that are on the disk
+    /// stand. It takes no memory.
+    pub fn settle(&mut self, area: u32)
+        requires live { IsLive self.old }
+        requires low { area < AREAS }
+        requires place { 0 < saved_of self.old.pages → area ≡ self.old.area }
         ensures live { IsLive self.new }
         ensures desktop { self.new.desktop ≡ self.old.desktop }
+        ensures area { self.new.area ≡ area }
+        ensures renewed { renewed_of self.new.pages ≡ false }
         ensures counted { saved_of self.new.pages ≡ SECTOR_BYTES * full_sectors self.old.desktop.written }
         ensures cached { cached_of self.new.pages ≡ cached_of self.old.pages }
         ensures lines { self.new.lines ≡ self.old.lines }
-        ensures same { (c : Content) → HasFront c (full_sectors self.old.desktop.written) (characters_of c self.old)
+        ensures same { (c : Content)
+            → HasFront c area (full_sectors self.old.desktop.written) (characters_of c self.old)
             → characters_of c self.new ≡ characters_of c self.old }
     {
         let full = self.desktop.written() / SECTOR_BYTES * SECTOR_BYTES;
-        self.pages.settle(full);
+        self.pages.settle(area_start(area), full);
+        self.area = area;
     }
 
-    /// How many characters were ever written.
+    /// How many characters count as written.
     pub fn written(&self) -> u32
-        ensures { (c : Content) → result ≡ (shown c self.now).written }
+        ensures { (c : Content) → result ≡ (seen_live c self.now).written }
     {
         self.desktop.written()
     }

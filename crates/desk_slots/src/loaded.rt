@@ -2,13 +2,14 @@
 ghost use Rattle.std.specs.Prelude.{◌≡◌, ◌<◌, ◌≤◌, ◌∷◌, [], ℕ, true, false, OnOk, IfOk, IfSome, IfNone, IsErrOf};
 ghost use Rattle.event_bytes.specs.declared.event.Event.{Event};
 ghost use Rattle.event_bytes.specs.Spelling.{Begins};
-ghost use Rattle.char_pages.specs.Pages.{saved_of};
-ghost use Rattle.store_layout.specs.Layout.{is_open, gate, body};
+ghost use Rattle.char_pages.specs.Pages.{saved_of, renewed_of};
+ghost use Rattle.command_table.specs.Versions.{version_number};
+ghost use Rattle.store_layout.specs.Layout.{is_open, gate, body, IsGoodHead};
 ghost use Rattle.store_layout.specs.Finding.{IsForeign, IsDamagedAt, IsNoEvent};
 ghost use Rattle.store_layout.specs.Meaning.{Shows};
 ghost use Rattle.store_layout.specs.Kept.{IsKept};
 ghost use Rattle.desk_slots.specs.Errors.{OfOpen, OfReplay};
-ghost use Rattle.desk_slots.specs.Live.{shown, IsLive, IsNamed, IsTold};
+ghost use Rattle.desk_slots.specs.Live.{seen_live, IsLive, IsNamed, IsTold};
 ghost use Rattle.desk_slots.specs.Load.{HasSlotInUse, IsReadWhole};
 ghost use Rattle.desk_slots.specs.Words.{Nowhere, now, IsConfined, FailsAs, OneOf};
 
@@ -17,9 +18,12 @@ use crate::characters::load_slot;
 use crate::live::LiveDesktop;
 use crate::slots::locate;
 use event_bytes::Event;
+use event_loop::{NEWEST, Version};
 use sector_disk::{Disk, SECTOR_BYTES};
 use std::alloc::Global;
-use store_layout::{JOURNAL_EVENTS, SLOTS, STORE_SECTORS, body, event_of, gate, is_open_gate};
+use store_layout::{
+    Head, JOURNAL_EVENTS, SLOTS, STORE_SECTORS, body, event_of, gate, is_open_gate,
+};
 
 /// What was loaded of a disk.
 #[derive(Drop)]
@@ -28,6 +32,8 @@ pub struct Loaded {
     pub desktop: LiveDesktop,
     /// The slot in use.
     pub slot: u32,
+    /// Its version, by which the events of its journal were stepped.
+    pub version: Version,
     /// Its epoch.
     pub epoch: u32,
     /// How many events its journal has.
@@ -64,11 +70,23 @@ fn read_event<D: Disk>(disk: &mut D, slot: u32, k: u32) -> Result<Option<Event>,
     }
 }
 
-/// Does the journal's events, and returns how many there are.
+/// The version of a slot in use.
+fn version_of(head: &Head) -> Version
+    requires { IsGoodHead head.now }
+    ensures { version_number result ≡ head.now.version }
+{
+    match Version::of_number(head.version) {
+        Some(version) => version,
+        None => NEWEST,
+    }
+}
+
+/// Does the journal's events, with the commands of that version, and returns how many there are.
 fn replay<D: Disk>(
     alloc: Global,
     disk: &mut D,
     slot: u32,
+    version: Version,
     desktop: &mut LiveDesktop,
 ) -> Result<u32, Error>
     requires room { STORE_SECTORS ≤ D.size disk.old }
@@ -78,18 +96,21 @@ fn replay<D: Disk>(
     ensures kept { IsConfined D.size D.honest D.trail Nowhere disk.old disk.new }
     ensures faults { FailsAs Error.Fault OfReplay result (D.failures disk.old) (D.failures disk.new) }
     ensures few { IfOk result (λ count. count ≤ JOURNAL_EVENTS) }
-    ensures whole { IfOk result (λ count. D.honest disk.old → IsReadWhole (now (D.trail disk.old)).reads slot count
-        (shown (now (D.trail disk.old)).reads desktop.old) (shown (now (D.trail disk.new)).reads desktop.new)) }
+    ensures whole { IfOk result (λ count. D.honest disk.old → IsReadWhole (now (D.trail disk.old)).reads slot
+        (version_number version) count (seen_live (now (D.trail disk.old)).reads desktop.old)
+        (seen_live (now (D.trail disk.new)).reads desktop.new)) }
     ensures live { OnOk result (IsLive desktop.new) }
     ensures told { OnOk result (IsTold D.Disk disk.new desktop.new) }
-    ensures counted { OnOk result (saved_of desktop.new.pages ≡ saved_of desktop.old.pages) }
+    ensures area { OnOk result (desktop.new.area ≡ desktop.old.area) }
+    ensures counted { OnOk result (renewed_of desktop.new.pages ≡ false
+        → saved_of desktop.new.pages ≡ saved_of desktop.old.pages) }
     ensures damaged { (n : ℕ) → IsErrOf result (Error.Damaged n) → D.honest disk.old
         → (k : ℕ) × (n ≡ body slot k) × IsNoEvent (now (D.trail disk.old)).reads slot k }
 {
     for k in 0..JOURNAL_EVENTS {
         match read_event(disk, slot, k)? {
             Some(event) => {
-                let _ = desktop.step(alloc, &event, disk)?;
+                let _ = desktop.step(version, alloc, &event, disk)?;
             }
             None => return Ok(k),
         }
@@ -106,11 +127,12 @@ pub fn load<D: Disk>(alloc: Global, disk: &mut D) -> Result<Loaded, Error>
     ensures few { IfOk result (λ x. x.events ≤ JOURNAL_EVENTS) }
     ensures live { IfOk result (λ x. IsLive x.desktop) }
     ensures told { IfOk result (λ x. IsTold D.Disk disk.new x.desktop) }
-    ensures found { IfOk result (λ x. D.honest disk.old → Shows (D.size disk.old) x.epoch x.events
-        (shown (now (D.trail disk.new)).reads x.desktop) (now (D.trail disk.old)).reads) }
+    ensures found { IfOk result
+        (λ x. D.honest disk.old → Shows (D.size disk.old) (version_number x.version) x.epoch x.events
+        (seen_live (now (D.trail disk.new)).reads x.desktop) (now (D.trail disk.old)).reads) }
     ensures shown { IfOk result (λ x. D.honest disk.old
-        → IsKept (D.size disk.old) (D.trail disk.new) x.slot x.epoch x.events
-        (shown (now (D.trail disk.new)).reads x.desktop)
+        → IsKept (D.size disk.old) (D.trail disk.new) x.slot (version_number x.version) x.epoch x.events
+        (seen_live (now (D.trail disk.new)).reads x.desktop)
         × IsNamed (now (D.trail disk.new)).reads x.slot x.desktop) }
     ensures foreign { IsErrOf result Error.NotAStore → D.honest disk.old
         → IsForeign (D.size disk.old) (now (D.trail disk.old)).reads }
@@ -122,10 +144,12 @@ pub fn load<D: Disk>(alloc: Global, disk: &mut D) -> Result<Loaded, Error>
 {
     let (slot, head) = locate(disk)?;
     let mut desktop = load_slot(alloc, disk, slot, &head)?;
-    let events = replay(alloc, disk, slot, &mut desktop)?;
+    let version = version_of(&head);
+    let events = replay(alloc, disk, slot, version, &mut desktop)?;
     Ok(Loaded {
         desktop,
         slot,
+        version,
         epoch: head.epoch,
         events,
     })

@@ -1,30 +1,34 @@
 //! Calls of a desktop over pages and a disk.
-ghost use Rattle.std.specs.Prelude.{◌≡◌, ◌≤◌, ◌+◌, ℕ, Ok, IfOk, OnOk, length};
-ghost use Rattle.char_pages.specs.Pages.{base_of, saved_of, saved_sectors, paged_characters};
+ghost use Rattle.std.specs.Prelude.{◌≡◌, ◌≤◌, ◌+◌, ℕ, Ok, IfOk, OnOk, length, false};
+ghost use Rattle.char_pages.specs.Pages.{base_of, saved_of, saved_sectors, renewed_of, paged_characters};
 ghost use Rattle.sector_disk.specs.Trail.{Content};
 ghost use Rattle.desk_core.specs.Stops.{IsStop};
 ghost use Rattle.desktop_definitions.specs.Seen.{seen};
+ghost use Rattle.desktop_definitions.specs.Sound.{IsOver};
 ghost use Rattle.desktop_definitions.specs.Viewers.{text_of};
 ghost use Rattle.screen_cells.specs.Lines.{AreLinesOf};
 ghost use Rattle.piece_ring.specs.Flat.{flat};
 ghost use Rattle.piece_ring.specs.Offsets.{AreWithin};
 ghost use Rattle.readers_scanners.specs.Reading.{contents};
 ghost use Rattle.desk_slots.specs.Live.{AreTrueOver, IsOverPages};
-ghost use Rattle.desk_slots.specs.Words.{Nowhere, now, IsConfined, FailsAs, No, IsReply, entries_of, shown_screen, step};
+ghost use Rattle.desk_slots.specs.Words.{Nowhere, now, IsConfined, FailsAs, No, IsReply, entries_of, shown_screen};
+ghost use Rattle.desk_slots.specs.Words.{step_in};
+ghost use Rattle.command_table.specs.Versions.{version_number};
 ghost use Rattle.desk_slots.specs.Words.{StepsUnread, ListsUnread};
 
 use crate::reading::read_all;
 use char_pages::{Paged, Pages};
 use event_bytes::Event;
-use event_loop::{Desktop, Entry, Reply, Stop};
+use event_loop::{Desktop, Entry, Reply, Stop, Version};
 use piece_ring::Look;
 use screen_cells::{KeptLines, Screen};
 use sector_disk::Disk;
 use std::alloc::Global;
 use text_core::Text;
 
-/// Does the event.
+/// Does the event, with the commands of that version.
 pub(crate) fn step_over<D: Disk>(
+    version: Version,
     alloc: Global,
     desktop: &mut Desktop,
     event: &Event,
@@ -36,19 +40,22 @@ pub(crate) fn step_over<D: Disk>(
     requires told { AreTrueOver D.Disk disk.old pages.old }
     ensures done { IfOk result (λ reply. D.honest disk.old
         → (seen (paged_characters (now (D.trail disk.new)).reads pages.new) desktop.new, reply)
-        ≡ step (seen (paged_characters (now (D.trail disk.old)).reads pages.old) desktop.old) event.now) }
-    ensures unread { IfOk result (StepsUnread desktop.old desktop.new event.now) }
+        ≡ step_in (version_number version)
+        (seen (paged_characters (now (D.trail disk.old)).reads pages.old) desktop.old)
+        event.now) }
+    ensures unread { IfOk result (StepsUnread (version_number version) desktop.old desktop.new event.now) }
     ensures replies { IfOk result IsReply }
     ensures refusal { (code : ℕ) → result ≡ Ok (No code) → desktop.new ≡ desktop.old }
-    ensures over { OnOk result (IsOverPages pages.new desktop.new) }
+    ensures over { OnOk result (IsOver (paged_characters (now (D.trail disk.new)).reads pages.new) desktop.new) }
     ensures told { AreTrueOver D.Disk disk.new pages.new }
     ensures base { base_of pages.new ≡ base_of pages.old }
-    ensures counted { saved_of pages.new ≡ saved_of pages.old }
+    ensures before { renewed_of pages.new ≡ false → renewed_of pages.old ≡ false }
+    ensures counted { renewed_of pages.new ≡ false → saved_of pages.new ≡ saved_of pages.old }
     ensures disk { IsConfined D.size D.honest D.trail Nowhere disk.old disk.new }
     ensures faults { FailsAs Stop.Fault IsStop result (D.failures disk.old) (D.failures disk.new) }
 {
     let mut source = Paged::over(disk, pages);
-    desktop.step(alloc, event, &mut source)
+    desktop.step(version, alloc, event, &mut source)
 }
 
 /// All characters of a text with their looks.
@@ -69,7 +76,8 @@ pub(crate) fn read_over<D: Disk>(
         ≡ length (paged_characters (now (D.trail disk.old)).reads pages.old) }
     ensures told { AreTrueOver D.Disk disk.new pages.new }
     ensures base { base_of pages.new ≡ base_of pages.old }
-    ensures counted { saved_of pages.new ≡ saved_of pages.old }
+    ensures before { renewed_of pages.new ≡ false → renewed_of pages.old ≡ false }
+    ensures counted { renewed_of pages.new ≡ false → saved_of pages.new ≡ saved_of pages.old }
     ensures disk { IsConfined D.size D.honest D.trail Nowhere disk.old disk.new }
     ensures faults { FailsAs Stop.Fault IsStop result (D.failures disk.old) (D.failures disk.new) }
 {
@@ -91,12 +99,14 @@ pub(crate) fn list_over<D: Disk>(
         → entries.items ≡ entries_of (seen (paged_characters (now (D.trail disk.old)).reads pages.old) desktop.old)) }
     ensures unread { IfOk result (λ entries. ListsUnread desktop.old entries.items) }
     ensures unchanged { desktop.new ≡ desktop.old }
-    ensures over { IsOverPages pages.new desktop.old }
+    ensures long { length (paged_characters (now (D.trail disk.new)).reads pages.new)
+        ≡ length (paged_characters (now (D.trail disk.old)).reads pages.old) }
     ensures same { D.honest disk.old → paged_characters (now (D.trail disk.new)).reads pages.new
         ≡ paged_characters (now (D.trail disk.old)).reads pages.old }
     ensures told { AreTrueOver D.Disk disk.new pages.new }
     ensures base { base_of pages.new ≡ base_of pages.old }
-    ensures counted { saved_of pages.new ≡ saved_of pages.old }
+    ensures before { renewed_of pages.new ≡ false → renewed_of pages.old ≡ false }
+    ensures counted { renewed_of pages.new ≡ false → saved_of pages.new ≡ saved_of pages.old }
     ensures disk { IsConfined D.size D.honest D.trail Nowhere disk.old disk.new }
     ensures faults { FailsAs Stop.Fault IsStop result (D.failures disk.old) (D.failures disk.new) }
 {
@@ -121,14 +131,17 @@ pub(crate) fn screen_over<D: Disk>(
         → screen.new ≡ shown_screen (seen (paged_characters (now (D.trail disk.old)).reads pages.old) desktop.old)) }
     ensures lines { D.honest disk.old
         → AreLinesOf (text_of (seen (paged_characters (now (D.trail disk.old)).reads pages.old) desktop.old)) lines.old
-        → AreLinesOf (text_of (seen (paged_characters (now (D.trail disk.old)).reads pages.old) desktop.old)) lines.new }
+        → AreLinesOf (text_of (seen (paged_characters (now (D.trail disk.old)).reads pages.old) desktop.old))
+        lines.new }
     ensures unchanged { desktop.new ≡ desktop.old }
-    ensures over { IsOverPages pages.new desktop.old }
+    ensures long { length (paged_characters (now (D.trail disk.new)).reads pages.new)
+        ≡ length (paged_characters (now (D.trail disk.old)).reads pages.old) }
     ensures same { D.honest disk.old → paged_characters (now (D.trail disk.new)).reads pages.new
         ≡ paged_characters (now (D.trail disk.old)).reads pages.old }
     ensures told { AreTrueOver D.Disk disk.new pages.new }
     ensures base { base_of pages.new ≡ base_of pages.old }
-    ensures counted { saved_of pages.new ≡ saved_of pages.old }
+    ensures before { renewed_of pages.new ≡ false → renewed_of pages.old ≡ false }
+    ensures counted { renewed_of pages.new ≡ false → saved_of pages.new ≡ saved_of pages.old }
     ensures disk { IsConfined D.size D.honest D.trail Nowhere disk.old disk.new }
     ensures faults { FailsAs Stop.Fault IsStop result (D.failures disk.old) (D.failures disk.new) }
 {

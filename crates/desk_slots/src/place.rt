@@ -1,16 +1,19 @@
 //! Where a checkpoint goes.
 ghost use Rattle.std.specs.Prelude.{◌<◌, ◌≤◌};
-ghost use Rattle.store_layout.specs.declared.layout.TheConstants.{SLOTS};
+ghost use Rattle.store_layout.specs.declared.layout.TheConstants.{AREAS, SLOTS};
 
 /// Where a checkpoint goes.
 #[derive(Clone, Copy)]
-pub struct Place {
+pub struct SlotPlace {
     /// The slot that isn't in use.
     pub slot: u32,
     /// Its epoch from then on.
     pub epoch: u32,
-    /// How many sectors of the area hold characters already.
+    /// The area that its characters stand in.
+    pub area: u32,
+    /// How many sectors of it hold characters already.
     pub saved: u32,
     ghost two: { slot < SLOTS },
+    ghost low: { area < AREAS },
     ghost numbered: { 1 ≤ epoch },
 }

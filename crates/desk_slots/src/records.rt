@@ -6,19 +6,20 @@ ghost use Rattle.store_layout.specs.Meaning.{Means, MeansEither};
 ghost use Rattle.store_layout.specs.Kept.{NextRecord, IsKept};
 ghost use Rattle.desk_slots.specs.Device.{IsSameDevice, StaysWithin};
 ghost use Rattle.desk_slots.specs.Errors.{OfDesktop};
-ghost use Rattle.desk_slots.specs.Live.{shown, IsLive, IsNamed, IsTold};
+ghost use Rattle.desk_slots.specs.Live.{seen_live, IsLive, IsNamed, IsTold};
 ghost use Rattle.desk_slots.specs.Words.{LeavesOnly, Only, CountsFault, now, IsConfined, FailsAs, No, IsReply, step};
+ghost use Rattle.desk_slots.specs.Words.{step_in};
 ghost use Rattle.desk_slots.specs.Words.{StepsUnread};
 ghost use Rattle.desk_slots.specs.Written.{HasRecord, InRecord};
 
 use crate::Error;
 use crate::live::LiveDesktop;
 use event_bytes::Event;
-use event_loop::Reply;
+use event_loop::{NEWEST, Reply};
 use sector_disk::{Disk, Fault, SECTOR_BYTES};
 use std::alloc::Global;
 use store_layout::{
-    JOURNAL_EVENTS, SLOTS, STORE_SECTORS, body, body_of, closed_gate, gate, open_gate,
+    JOURNAL_EVENTS, LAYOUT, SLOTS, STORE_SECTORS, body, body_of, closed_gate, gate, open_gate,
 };
 
 /// Closes the gate after gate k, where there is one.
@@ -75,20 +76,22 @@ fn add_record<D: Disk>(disk: &mut D, slot: u32, k: u32, event: &Event) -> Result
     requires index { k < JOURNAL_EVENTS }
     ensures kept { IsConfined D.size D.honest D.trail (InRecord slot k) disk.old disk.new }
     ensures cause { CountsFault result (D.failures disk.old) (D.failures disk.new) }
-    ensures any_moment { D.honest disk.old → (number : ℕ) (desktop : Desktop)
-        → IsKept (D.size disk.old) (D.trail disk.old) slot number k desktop
+    ensures any_moment { D.honest disk.old → (version number : ℕ) (desktop : Desktop)
+        → IsKept (D.size disk.old) (D.trail disk.old) slot version number k desktop
         → LeavesOnly (D.trail disk.old) (D.trail disk.new)
-        (MeansEither (D.size disk.old) desktop (step desktop event.now).0) }
-    ensures added { OnOk result (D.honest disk.old → (number : ℕ) (desktop : Desktop)
-        → IsKept (D.size disk.old) (D.trail disk.old) slot number k desktop
-        → IsKept (D.size disk.old) (D.trail disk.new) slot number (k + 1) (step desktop event.now).0) }
+        (MeansEither (D.size disk.old) desktop (step_in version desktop event.now).0) }
+    ensures added { OnOk result (D.honest disk.old → (version number : ℕ) (desktop : Desktop)
+        → IsKept (D.size disk.old) (D.trail disk.old) slot version number k desktop
+        → IsKept (D.size disk.old) (D.trail disk.new) slot version number (k + 1)
+        (step_in version desktop event.now).0) }
 {
     stage(disk, slot, k, event)?;
     seal(disk, slot, k)?;
     Ok(())
 }
 
-/// Does the event, and puts it into the journal after its first k events.
+/// Does the event, with the commands of the newest version, which the slot has, and puts it into the journal after its
+/// first k events.
 pub fn record<D: Disk>(
     alloc: Global,
     desktop: &mut LiveDesktop,
@@ -102,22 +105,26 @@ pub fn record<D: Disk>(
     requires index { k < JOURNAL_EVENTS }
     requires live { IsLive desktop.old }
     requires told { IsTold D.Disk disk.old desktop.old }
-    ensures any_moment { D.honest disk.old → (number : ℕ) → IsKept (D.size disk.old) (D.trail disk.old) slot number k
-        (shown (now (D.trail disk.old)).reads desktop.old)
+    ensures any_moment { D.honest disk.old → (number : ℕ)
+        → IsKept (D.size disk.old) (D.trail disk.old) slot LAYOUT number k
+        (seen_live (now (D.trail disk.old)).reads desktop.old)
         → LeavesOnly (D.trail disk.old) (D.trail disk.new) (MeansEither (D.size disk.old)
-        (shown (now (D.trail disk.old)).reads desktop.old)
-        (step (shown (now (D.trail disk.old)).reads desktop.old) event.now).0) }
+        (seen_live (now (D.trail disk.old)).reads desktop.old)
+        (step (seen_live (now (D.trail disk.old)).reads desktop.old) event.now).0) }
     ensures unrecorded { IsErrOf result Error.NoMemory → D.honest disk.old → (number : ℕ)
-        → IsKept (D.size disk.old) (D.trail disk.old) slot number k (shown (now (D.trail disk.old)).reads desktop.old)
+        → IsKept (D.size disk.old) (D.trail disk.old) slot LAYOUT number k
+        (seen_live (now (D.trail disk.old)).reads desktop.old)
         → LeavesOnly (D.trail disk.old) (D.trail disk.new)
-        (Means (D.size disk.old) (shown (now (D.trail disk.old)).reads desktop.old)) }
+        (Means (D.size disk.old) (seen_live (now (D.trail disk.old)).reads desktop.old)) }
     ensures added { OnOk result (D.honest disk.old → (number : ℕ)
-        → IsKept (D.size disk.old) (D.trail disk.old) slot number k (shown (now (D.trail disk.old)).reads desktop.old)
-        → IsKept (D.size disk.old) (D.trail disk.new) slot number (k + 1)
-        (shown (now (D.trail disk.new)).reads desktop.new)) }
-    ensures stepped { IfOk result (λ reply. D.honest disk.old → (shown (now (D.trail disk.new)).reads desktop.new, reply)
-        ≡ step (shown (now (D.trail disk.old)).reads desktop.old) event.now) }
-    ensures unread { IfOk result (StepsUnread desktop.old.desktop desktop.new.desktop event.now) }
+        → IsKept (D.size disk.old) (D.trail disk.old) slot LAYOUT number k
+        (seen_live (now (D.trail disk.old)).reads desktop.old)
+        → IsKept (D.size disk.old) (D.trail disk.new) slot LAYOUT number (k + 1)
+        (seen_live (now (D.trail disk.new)).reads desktop.new)) }
+    ensures stepped { IfOk result
+        (λ reply. D.honest disk.old → (seen_live (now (D.trail disk.new)).reads desktop.new, reply)
+        ≡ step (seen_live (now (D.trail disk.old)).reads desktop.old) event.now) }
+    ensures unread { IfOk result (StepsUnread LAYOUT desktop.old.desktop desktop.new.desktop event.now) }
     ensures replies { IfOk result IsReply }
     ensures refusal { (code : ℕ) → result ≡ Ok (No code) → desktop.new.desktop ≡ desktop.old.desktop }
     ensures live { OnOk result (IsLive desktop.new) }
@@ -129,7 +136,7 @@ pub fn record<D: Disk>(
     ensures within { StaysWithin D.Disk disk.old disk.new }
     ensures faults { FailsAs Error.Fault OfDesktop result (D.failures disk.old) (D.failures disk.new) }
 {
-    let reply = desktop.step(alloc, event, disk)?;
+    let reply = desktop.step(NEWEST, alloc, event, disk)?;
     add_record(disk, slot, k, event)?;
     Ok(reply)
 }

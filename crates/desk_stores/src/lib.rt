@@ -1,6 +1,6 @@
 //! Stores in files and in memory, as the program `desk` has them: opened and made (`stores`, `making`), documents in
-//! and out (`documents`), and the screen as a picture (`pictures`). What goes wrong is a `Trouble`, which is said in one
-//! sentence (`trouble`).
+//! and out (`documents`), and the screen as a picture (`pictures`). What goes wrong is a `Trouble`, which is said in
+//! one sentence (`trouble`).
 #![tactic(auto)]
 
 mod documents;

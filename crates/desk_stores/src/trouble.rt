@@ -50,8 +50,8 @@ impl From<Error> for Trouble {
 
 impl Trouble {
     /// Says what went wrong, in one sentence on standard error, and returns the status of the program: 1 where a
-    /// document is refused, 3 where the file holds no store or a damaged one, 4 where there is no file, the host refuses
-    /// it, or the disk or the output failed, and 5 for want of memory. The path is that of the store.
+    /// document is refused, 3 where the file holds no store or a damaged one, 4 where there is no file, the host
+    /// refuses it, or the disk or the output failed, and 5 for want of memory. The path is that of the store.
     pub fn say(self, rt: &HostRuntime, path: &str) -> u8 {
         // Where standard error can't be written there is the status alone.
         let _ = self.sentence(rt, path);

@@ -267,11 +267,22 @@ list_calls =
       }),
     ) ∷ [])
 
--- the limit on what was ever written comes last
+-- as many characters count as written as the desktop holds, of which 14 are those of the word, however many were
+abbrev pub collects : Outcome
+collects = makes (λ d. record d { written = 109 })
+
+abbrev pub collecting : Desktop
+collecting = calling (codes "System.Collect") with_all
+
+abbrev pub collections : List Case
+collections = called collecting ((30, collects) ∷ []) ++
+    called (record collecting { written = most_written }) ((30, collects) ∷ [])
+
+-- the limit on what counts as written comes last
 abbrev pub limits : List Case
 limits = called nearly_full
     ((30, says full) ∷ (23, says no_file) ∷ (22, says full) ∷ (18, clears) ∷ (17, lists) ∷ (16, says no_file) ∷
     (15, says no_file) ∷ [])
 
 abbrev pub call_steps : List Case
-call_steps = calls ++ low_calls ++ menu_calls ++ list_calls ++ limits
+call_steps = calls ++ low_calls ++ menu_calls ++ list_calls ++ collections ++ limits

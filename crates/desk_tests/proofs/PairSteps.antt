@@ -190,7 +190,7 @@ nearly_full = record pair { written = most_written - 3 }
 abbrev pub filled : Desktop
 filled = record pair { written = most_written }
 
--- the limit on what was ever written
+-- the limit on what counts as written
 abbrev pub limits : List Case
 limits =
     done nearly_full (Typed (codes "abc")) (lower filled "one\r\tabctwo\rthree" 8) ∷

@@ -31,7 +31,8 @@ use Rattle.desktop_definitions.specs.Desktop.{Desktop, empty_desktop}
 use Rattle.desktop_definitions.specs.Change.{plain}
 use Rattle.desktop_definitions.specs.Opening.{menu_line}
 use Rattle.desktop_definitions.specs.Listing.{entries_of}
-use Rattle.desktop_definitions.specs.Step.{step}
+use Rattle.desktop_definitions.specs.Limits.{no_command}
+use Rattle.desktop_definitions.specs.Step.{step, step_in}
 use Rattle.desktop_definitions.specs.Shown.{shown_screen}
 use Prim.Native.String.{String}
 
@@ -141,6 +142,13 @@ replied c = step c.before c.event
 
 abbrev pub wanted : Case → Desktop × Reply
 wanted c = (c.after, c.reply)
+
+-- the same in a version of the table of commands, and what is wanted in one that has no such word
+abbrev pub replied_in : ℕ → Case → Desktop × Reply
+replied_in version c = step_in version c.before c.event
+
+abbrev pub not_called : Case → Desktop × Reply
+not_called c = (c.before, No no_command)
 
 -- ---- the list
 

@@ -8,18 +8,19 @@ use Rattle.screen_pictures.specs.Picture.{picture}
 use Rattle.screen_pictures.specs.Screen.{values}
 use Rattle.screen_pictures.specs.Bytes.{shown_byte}
 use Rattle.readers_scanners.specs.Form.{form, symbol}
-use Rattle.readers_scanners.specs.Bytes.{is_blank, is_inside, number_of}
+use Rattle.readers_scanners.specs.Bytes.{is_blank, is_inside, numeral}
 use Rattle.event_bytes.specs.Bytes.{is_letter, is_digit, is_name_byte}
 use Rattle.std.specs.Fmt.{digits}
 use Rattle.command_table.specs.Call.{word_begin, called_at}
 use Rattle.command_table.specs.Commands.{commands, command_named}
 use Rattle.command_table.specs.Parameters.{names_on, value, names}
+use Rattle.desktop_definitions.specs.Limits.{first_version}
 use Rattle.desktop_definitions.specs.Desktop.{empty_desktop, file_of, held}
 use Rattle.desktop_definitions.specs.Viewers.{opened_at}
 use Rattle.desktop_definitions.specs.Change.{after_change, insertion, deletion, looks_set, showing}
 use Rattle.desktop_definitions.specs.Keys.{typed, escaped, pressed}
 use Rattle.desktop_definitions.specs.Opening.{opening, opening_on, dropped}
-use Rattle.desktop_definitions.specs.Gesture.{area_at, resized, carried, text_position, scrolled_to_row}
+use Rattle.desktop_definitions.specs.Gesture.{region_at, resized, carried, text_position, scrolled_to_row}
 use Rattle.desktop_definitions.specs.Gesture.{scrolled_to_share, drawn_in, copied_to, looks_taken, taken_out}
 use Rattle.desktop_definitions.specs.Gesture.{sent_to_caret, tool_opened, menu_position, pointed}
 use Rattle.desktop_definitions.specs.Step.{filed, marked, settled, raw, step_in, step}
@@ -28,30 +29,37 @@ use Rattle.desktop_definitions.specs.Call.{value_of, name_of, names_of, number_o
 use Rattle.desktop_definitions.specs.Effects.{file_opened, document_opened, log_opened, put_away, brought_back}
 use Rattle.desktop_definitions.specs.Effects.{viewer_copied, log_cleared, directory_logged, files_deleted, stored}
 use Rattle.desktop_definitions.specs.Commands.{commanded, called}
-use Rattle.desktop_definitions.specs.Effects.{look_set, selection_set, searched}
+use Rattle.desktop_definitions.specs.Effects.{look_set, selection_set, searched, collected}
 use Rattle.desktop_definitions.specs.Listing.{entries_of}
 use Rattle.desktop_definitions.specs.Shown.{shown_screen}
 use Rattle.desk_tests.proofs.StepWords.{Case, Listing, Row, replied, wanted, listed, list_wanted, shown, row_wanted}
+use Rattle.desk_tests.proofs.StepWords.{replied_in, not_called}
 use Rattle.desk_tests.proofs.PairSteps.{pair_steps, pair_rows, pair_listing}
 use Rattle.desk_tests.proofs.SharedSteps.{shared_steps, shared_rows, shared_listing}
 use Rattle.desk_tests.proofs.ScrolledSteps.{scrolled_steps, scrolled_rows, scrolled_listing}
 use Rattle.desk_tests.proofs.WideSteps.{wide_steps, wide_rows, wide_listing}
-use Rattle.desk_tests.proofs.CallSteps.{call_steps}
+use Rattle.desk_tests.proofs.CallSteps.{call_steps, collections}
 
 abbrev pub steps : List Case
 steps = pair_steps ++ shared_steps ++ scrolled_steps ++ wide_steps ++ call_steps
 
 -- each step gives what is wanted
 pub steps_are_done : map replied steps ≡ map wanted steps
-unfolding area_at resized carried text_position scrolled_to_row scrolled_to_share drawn_in copied_to looks_taken
+unfolding region_at resized carried text_position scrolled_to_row scrolled_to_share drawn_in copied_to looks_taken
     taken_out sent_to_caret tool_opened pointed opening opening_on dropped opened_at after_change insertion deletion
     looks_set showing filed marked settled raw step_in step file_of held typed escaped pressed viewer_at opened
     replaced changed closed track_of after_open after_close columns_changed called menu_position word_begin called_at
     commands command_named is_name_byte is_letter is_digit logged all_logged value_of name_of number_called names_of
     file_opened document_opened log_opened put_away brought_back viewer_copied log_cleared directory_logged
     files_deleted stored look_set selection_set searched commanded names_on value names form symbol is_blank is_inside
-    number_of digits free_row empty_desktop
+    numeral digits free_row empty_desktop collected
 steps_are_done = refl
+
+-- the first version of the table has no word for what gives characters up
+pub first_has_no_collect : map (replied_in first_version) collections ≡ map not_called collections
+unfolding region_at text_position pointed settled raw step_in called word_begin called_at commands command_named
+    is_name_byte is_letter is_digit viewer_at track_of
+first_has_no_collect = refl
 
 -- the screens have these rows
 abbrev pub rows : List Row

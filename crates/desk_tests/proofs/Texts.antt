@@ -1,6 +1,6 @@
 -- Texts over the characters that were added last.
 use Rattle.std.specs.Prelude.{◌≡◌, ◌≤◌, ℕ, ◌+◌, List, ◌++◌, length}
-use Rattle.std.proofs.Common.{sym, subst, ap, ◌∙◌, arith, length-append}
+use Rattle.std.proofs.Common.{sym, subst, ap, arith, length-append}
 use Rattle.piece_ring.specs.declared.piece.Look.{Look}
 use Rattle.piece_ring.specs.Flat.{run}
 use Rattle.piece_ring.specs.Offsets.{AreWithin, run-AreWithin}

@@ -3,7 +3,7 @@
 use crate::sources::text_of;
 use char_file::CharFile;
 use command_table::{
-    Command, Name, Symbol, called, first_names_decide, names, one_word_each, params,
+    Command, Name, Symbol, Version, called, first_names_decide, names, one_word_each, params,
     word_is_longest,
 };
 use std::alloc::{AllocError, Global};
@@ -34,17 +34,23 @@ fn words(rt: HostRuntime) {
         ("Edit.Recall", Command::EditRecall),
     ];
     for (word, command) in table {
-        assert_eq!(rt; Command::named(word.as_bytes()), Some(command));
+        assert_eq!(rt; Command::named(Version::V1, word.as_bytes()), Some(command));
+        assert_eq!(rt; Command::named(Version::V2, word.as_bytes()), Some(command));
     }
+    assert_eq!(rt; Command::named(Version::V1, b"System.Collect"), None);
+    assert_eq!(rt;
+        Command::named(Version::V2, b"System.Collect"),
+        Some(Command::SystemCollect)
+    );
     for word in [
         "",
         "Edit",
         "edit.Open",
         "Edit.Open.",
-        "System.Collect",
+        "System.collect",
         "System.Grow",
     ] {
-        assert_eq!(rt; Command::named(word.as_bytes()), None);
+        assert_eq!(rt; Command::named(Version::V2, word.as_bytes()), None);
     }
 }
 
@@ -58,7 +64,7 @@ fn call(
     let mut source = CharFile::new(alloc);
     let text = text_of(rt, alloc, &mut source, bytes.as_bytes())?;
     assert!(rt; pos <= text.len());
-    Ok(called(&text, pos, &mut source)?)
+    Ok(called(Version::V2, &text, pos, &mut source)?)
 }
 
 #[test]
@@ -90,7 +96,8 @@ fn words_that_call(rt: HostRuntime) -> Result<(), Fail> {
         ("System.close", 3, None),
         ("xSystem.DeleteFiles", 18, None),
         ("System.DeleteFilesx", 0, None),
-        ("System.Collect", 0, None),
+        ("System.Collect", 0, Some((Command::SystemCollect, 14))),
+        ("System.Collects", 0, None),
         ("System.Close\tx", 12, None),
     ];
     for (bytes, pos, wanted) in table {

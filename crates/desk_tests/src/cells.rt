@@ -15,7 +15,7 @@ use std::io::{ErrorKind, Write};
 use std::process::Abort;
 use std::test::Fail;
 use text_core::Text;
-use text_frames::{Frame, Selection};
+use text_frames::{Frame, FrameSelection};
 use viewer_tracks::{Tracks, ViewerId};
 
 const CORNER: Option<(u8, u8)> = Some((79, 31));
@@ -267,7 +267,7 @@ fn frame_at(org: u32, caret: Option<u32>, selection: Option<(u32, u32)>) -> Fram
         text: 1,
         org,
         caret,
-        selection: selection.map(|(beg, end)| Selection { beg, end, rank: 1 }),
+        selection: selection.map(|(beg, end)| FrameSelection { beg, end, rank: 1 }),
     }
 }
 
@@ -439,8 +439,8 @@ fn flush_fault(rt: HostRuntime) -> Result<(), Fail> {
     Ok(())
 }
 
-/// What is printed of viewer 1 over a disk whose first sector has both its texts, from lines that are kept. None where a
-/// read fails.
+/// What is printed of viewer 1 over a disk whose first sector has both its texts, from lines that are kept. None where
+/// a read fails.
 fn printed_over<D: Disk>(
     rt: &impl Abort,
     alloc: Global,
@@ -469,8 +469,8 @@ fn printed_over<D: Disk>(
     }
 }
 
-/// Lines that are kept are painted over a disk that refuses every read; others aren't, and those of a text that was given
-/// up aren't either.
+/// Lines that are kept are painted over a disk that refuses every read; others aren't, and those of a text that was
+/// given up aren't either.
 #[test]
 fn no_second_read(rt: HostRuntime) -> Result<(), Fail> {
     let alloc = rt.alloc();

@@ -7,13 +7,13 @@ use piece_ring::DEFAULT_LOOK;
 use std::alloc::Global;
 use std::process::Abort;
 use std::test::Fail;
-use text_frames::{Frame, Selection, line_start, starts_are_greatest, starts_are_starts};
+use text_frames::{Frame, FrameSelection, line_start, starts_are_greatest, starts_are_starts};
 
 /// A frame with a caret and a selection.
 fn frame_at(org: u32) -> Frame
     ensures { result.org ≡ org }
 {
-    let selection = Some(Selection {
+    let selection = Some(FrameSelection {
         beg: 0,
         end: 1,
         rank: 1,

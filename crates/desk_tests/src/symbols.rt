@@ -34,8 +34,8 @@ fn reader(rt: HostRuntime) -> Result<(), Fail> {
     Ok(())
 }
 
-/// Adds what shows the symbol: a name and a number as they are, a string in quotes, an apostrophe
-/// before another byte, `?` for an invalid one.
+/// Adds what shows the symbol: a name and a number as they are, a string in quotes, an apostrophe before another byte,
+/// `?` for an invalid one.
 fn show(shown: &mut Vec<u8>, symbol: &Symbol) -> Result<(), NoMemory> {
     match symbol {
         Symbol::Name(name) => shown.extend_from_slice(name.as_slice()),

@@ -8,7 +8,7 @@ use Rattle.desktop_definitions.specs.declared.viewer.Caret.{Caret}
 use Rattle.desktop_definitions.specs.declared.viewer.Selection.{Selection}
 use Rattle.desktop_definitions.specs.Tables.{Texts, numbered}
 use Rattle.desktop_definitions.specs.Viewers.{text_in}
-use Rattle.desktop_definitions.specs.Shown.{position_in, selection_in}
+use Rattle.desktop_definitions.specs.Shown.{caret_position, selection_in}
 use Rattle.desk_views.specs.declared.views.View.{View}
 
 -- the view of a viewer
@@ -19,7 +19,7 @@ view_in caret selections e = record {
   frame = record {
     text = e.1.main;
     org = e.1.org;
-    caret = position_in e.0 caret;
+    caret = caret_position e.0 caret;
     selection = selection_in selections e.0;
   };
 }

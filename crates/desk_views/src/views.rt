@@ -7,7 +7,7 @@ ghost use Rattle.piece_ring.specs.Offsets.{AreWithin};
 ghost use Rattle.readers_scanners.specs.Reading.{contents};
 ghost use Rattle.viewer_tracks.specs.Columns.{IsPlaced};
 ghost use Rattle.desktop_definitions.specs.Seen.{seen};
-ghost use Rattle.desktop_definitions.specs.Listing.{name_in, viewer_entry, track_entries};
+ghost use Rattle.desktop_definitions.specs.Listing.{listed_name, viewer_entry, track_entries};
 ghost use Rattle.desktop_definitions.specs.Unread.{without_name};
 ghost use Rattle.desktop_definitions.specs.Shown.{selection_in, shown_screen};
 ghost use Rattle.desktop_definitions.specs.Sound.{IsOver};
@@ -28,7 +28,7 @@ use screen_cells::{KeptLines, Screen, Shown};
 use std::alloc::Global;
 use std::vec::Vec;
 use text_core::Text;
-use text_frames::{Frame, Selection as FrameSelection};
+use text_frames::{Frame, FrameSelection};
 use viewer_tracks::{ROWS, Track, ViewerId};
 
 /// A viewer with the number of its menu text and its main frame.
@@ -133,7 +133,7 @@ fn entry_of<S: CharSource>(
 fn menu_name<S: CharSource>(alloc: Global, menu: &Text, source: &mut S) -> Result<MenuName, Stop>
     requires { AreWithin (length (S.characters source.old)) (flat menu.now) }
     ensures name { IfOk result (λ name. S.honest source.old
-        → name ≡ name_in (contents (S.characters source.old) (flat menu.now))) }
+        → name ≡ listed_name (contents (S.characters source.old) (flat menu.now))) }
     ensures reads { OnlyReads S.characters S.failures S.honest S.same_ground source.old source.new }
     ensures faults { FailsAs Stop.Fault IsStop result (S.failures source.old) (S.failures source.new) }
 {

@@ -16,8 +16,7 @@ pub record IsRest (old new : KeptDesktop) : Type 0 where
   pub written : new.written ≡ old.written
 
 -- A desktop that is kept among these characters after a part of an event: where they were told truly, it is seen as
--- this
--- outcome; it holds so many characters more and so many fewer.
+-- this outcome; it holds so many characters more and so many fewer.
 pub record IsChanged (honest : Type 0) (characters : List ℕ) (old new : KeptDesktop) (outcome : Desktop)
     (more fewer : ℕ)
     : Type 0 where
@@ -45,8 +44,7 @@ pub record IsExtended (honest : Type 0) (old new : List ℕ) (before after : Kep
   pub written : after.written ≡ before.written + more
 
 -- A part of an event, as the definitions have it: the same viewers show the same texts, nothing was written, and so
--- many
--- characters more and so many fewer are held.
+-- many characters more and so many fewer are held.
 pub record Counts (old new : Desktop) (more fewer : ℕ) : Type 0 where
   pub counted : held new + fewer ≡ held old + more
   pub numbers : keys_of new.texts ≡ keys_of old.texts

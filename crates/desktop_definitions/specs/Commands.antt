@@ -8,7 +8,7 @@ use Rattle.command_table.specs.declared.command.Command.TheVariants.{SystemDirec
 use Rattle.command_table.specs.declared.command.Command.TheVariants.{SystemSetFont, SystemSetColor, SystemSetOffset}
 use Rattle.command_table.specs.declared.command.Command.TheVariants.{EditChangeFont, EditChangeColor}
 use Rattle.command_table.specs.declared.command.Command.TheVariants.{EditChangeOffset, EditStore, EditSearch}
-use Rattle.command_table.specs.declared.command.Command.TheVariants.{EditRecall}
+use Rattle.command_table.specs.declared.command.Command.TheVariants.{EditRecall, SystemCollect}
 use Rattle.command_table.specs.Call.{called_at}
 use Rattle.desktop_definitions.specs.Limits.{no_caret, no_command}
 use Rattle.desktop_definitions.specs.Limits.{no_viewer}
@@ -21,7 +21,7 @@ use Rattle.desktop_definitions.specs.declared.call.Call.{Call}
 use Rattle.desktop_definitions.specs.Call.{text_called, meant, name_of, number_of, names_of}
 use Rattle.desktop_definitions.specs.Effects.{file_opened, document_opened, log_opened, put_away, brought_back}
 use Rattle.desktop_definitions.specs.Effects.{viewer_copied, log_cleared, directory_logged, files_deleted, stored}
-use Rattle.desktop_definitions.specs.Effects.{look_set, selection_set, searched}
+use Rattle.desktop_definitions.specs.Effects.{look_set, selection_set, searched, collected}
 
 -- what each command does where it is called
 unfoldable pub commanded : Desktop → Command → Call → Result Desktop ℕ
@@ -46,13 +46,13 @@ commanded d EditChangeOffset call = given (number_of d call) λ z. needs (offset
 commanded d EditStore call = needs (meant d call) no_viewer (stored d)
 commanded d EditSearch call = needs (meant d call) no_viewer (searched d)
 commanded d EditRecall call = needs d.caret no_caret λ c. Ok (put_at_caret d d.deleted c)
+commanded d SystemCollect call = Ok (collected d)
 
 -- ---- calls
 
--- The command whose word stands at a position, and the position after that word. A version is that of the table of
--- commands; so far there is one.
+-- the command whose word stands at a position, in a version of the table, and the position after that word
 abbrev pub command_at : ℕ → List ℕ → ℕ → Option (Command × ℕ)
-command_at version bytes p = called_at bytes p
+command_at version bytes p = called_at version bytes p
 
 -- the word at a position of a viewer's menu or main text is called
 unfoldable pub called : ℕ → Desktop → ℕ → Bool → ℕ → Result Desktop ℕ

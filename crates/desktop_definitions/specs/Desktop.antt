@@ -26,7 +26,7 @@ pub record DesktopOf (T : Type 0) : Type 0 where
   pub pattern : List ℕ
   -- in which characters are typed
   pub look : Look
-  -- how many characters were ever written
+  -- how many characters count as written: those that were, since the ones that no text had were last given up
   pub written : ℕ
 
 -- the desktop as it is seen: a text is bytes in their looks

@@ -19,12 +19,12 @@ use Rattle.desktop_definitions.specs.Limits.{no_selection, no_file, too_many_fil
 use Rattle.desktop_definitions.specs.Limits.{not_found, too_low, most_pattern}
 use Rattle.desktop_definitions.specs.Needs.{needs, unless}
 use Rattle.desktop_definitions.specs.Tables.{Files, name_cmp, put, has_room}
-use Rattle.desktop_definitions.specs.Desktop.{DesktopOf, Desktop, file_of}
+use Rattle.desktop_definitions.specs.Desktop.{DesktopOf, Desktop, file_of, held}
 use Rattle.desktop_definitions.specs.Viewers.{viewer_of, text_in, newest, unmarked, without_viewer, opened_at}
 use Rattle.desktop_definitions.specs.Viewers.{text_of, main_of, menu_of, selected}
 use Rattle.desktop_definitions.specs.Change.{plain, bytes_of, looks_set, deletion, caret_shown, more_written}
 use Rattle.desktop_definitions.specs.Opening.{menu_line, opening, opening_on}
-use Rattle.desktop_definitions.specs.Shown.{position_in}
+use Rattle.desktop_definitions.specs.Shown.{caret_position}
 use Rattle.desktop_definitions.specs.Log.{line, logged, all_logged}
 
 -- ---- viewers
@@ -118,6 +118,13 @@ stored d v =
     needs (menu_name d v) wrong_symbol λ name.
     unless (has_room d.files name) too_many_files (Ok (stored_as d name (main_of d v)))
 
+-- ---- characters
+
+-- The characters are given up that no text has: only as many count as written as the desktop holds. It is never
+-- refused.
+unfoldable pub collected : Desktop → Desktop
+collected d = record d { written = held d }
+
 -- ---- looks
 
 -- what is typed gets that look, in the fields that are set
@@ -145,5 +152,5 @@ unfoldable pub searched : Desktop → ℕ → Result Desktop ℕ
 searched d v =
     let pattern = pattern_after d in
     unless (nat_lt 0 (length pattern)) no_selection
-    (needs (found_at (bytes_of (main_of d v)) pattern (unwrap_or (position_in v d.caret) 0)) not_found λ p.
+    (needs (found_at (bytes_of (main_of d v)) pattern (unwrap_or (caret_position v d.caret) 0)) not_found λ p.
     Ok (caret_shown (record d { pattern = pattern }) v (p + length pattern)))

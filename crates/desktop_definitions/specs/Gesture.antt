@@ -14,8 +14,8 @@ use Rattle.viewer_tracks.specs.Columns.{after_change as columns_changed}
 use Rattle.text_frames.specs.Lines.{line_start}
 use Rattle.text_frames.specs.Cells.{position_at, row_of}
 use Rattle.screen_pictures.specs.Picture.{width_of}
-use Rattle.desktop_definitions.specs.declared.area.Area.{Area}
-use Rattle.desktop_definitions.specs.declared.area.Area.TheVariants.{Filler, Menu, Bar, Body}
+use Rattle.desktop_definitions.specs.declared.region.Region.{Region}
+use Rattle.desktop_definitions.specs.declared.region.Region.TheVariants.{Filler, Menu, Bar, Body}
 use Rattle.desktop_definitions.specs.declared.viewer.Selection.{Selection}
 use Rattle.desktop_definitions.specs.Limits.{no_caret, no_selection, no_file}
 use Rattle.desktop_definitions.specs.Needs.{needs, unless}
@@ -43,14 +43,14 @@ module _ {T : Type 0} where
   width d v = width_of (track_of d.columns v)
 
   -- the top row of a viewer is its menu, and below that the first column is its scroll bar
-  abbrev pub part_of : DesktopOf T → ℕ → ℕ → Option ℕ → Area
+  abbrev pub part_of : DesktopOf T → ℕ → ℕ → Option ℕ → Region
   part_of d x y None = Filler
   part_of d x y (Some v) =
       if y + 1 == placed_top d.columns v then Menu v else
       (if x == left d v then Bar v else Body v)
 
-  unfoldable pub area_at : DesktopOf T → ℕ → ℕ → Area
-  area_at d x y = part_of d x y (seen_at d.columns x y)
+  unfoldable pub region_at : DesktopOf T → ℕ → ℕ → Region
+  region_at d x y = part_of d x y (seen_at d.columns x y)
 
   -- the row of a viewer's main frame at row y of the display, counted from the top
   abbrev pub frame_row : DesktopOf T → ℕ → ℕ → ℕ
@@ -144,8 +144,8 @@ tool_opened d x y =
 abbrev pub stretch_drawn : Desktop → ℕ → ℕ → ℕ → ℕ → ℕ → Selection
 stretch_drawn d v x0 y0 x1 y1 = drawn d v (text_position d v x0 y0) (text_position d v x1 y1)
 
--- what the keys do in an area, by the version of the table of commands; what isn't named here changes nothing
-unfoldable pub pointed : ℕ → Desktop → Area → Keys → ℕ → ℕ → ℕ → ℕ → Result Desktop ℕ
+-- what the keys do in a region, by the version of the table of commands; what isn't named here changes nothing
+unfoldable pub pointed : ℕ → Desktop → Region → Keys → ℕ → ℕ → ℕ → ℕ → Result Desktop ℕ
 pointed version d Filler Middle x0 y0 x1 y1 = tool_opened d x0 y0
 pointed version d (Menu v) Left x0 y0 x1 y1 = Ok (resized d v y1)
 pointed version d (Menu v) LeftMiddle x0 y0 x1 y1 = Ok (carried d v x1 y1)
@@ -160,11 +160,11 @@ pointed version d (Body v) Middle x0 y0 x1 y1 = called version d v false (text_p
 pointed version d (Body v) Right x0 y0 x1 y1 = Ok (drawn_in d (stretch_drawn d v x0 y0 x1 y1))
 pointed version d (Body v) RightLeft x0 y0 x1 y1 = taken_out d (stretch_drawn d v x0 y0 x1 y1)
 pointed version d (Body v) RightMiddle x0 y0 x1 y1 = sent_to_caret d (stretch_drawn d v x0 y0 x1 y1)
-pointed version d area keys x0 y0 x1 y1 = Ok d
+pointed version d region keys x0 y0 x1 y1 = Ok d
 
--- The viewer of an area stands on the display; where row y is one of its main frame, it has such rows.
-abbrev pub IsAreaOf : {T : Type 0} → DesktopOf T → ℕ → Area → Type 0
-IsAreaOf d y Filler = ⊤
-IsAreaOf d y (Menu v) = IsPlaced v d.columns
-IsAreaOf d y (Bar v) = IsPlaced v d.columns × (frame_row d v y < rows_of d v)
-IsAreaOf d y (Body v) = IsPlaced v d.columns × (frame_row d v y < rows_of d v)
+-- The viewer of a region stands on the display; where row y is one of its main frame, it has such rows.
+abbrev pub IsRegionOf : {T : Type 0} → DesktopOf T → ℕ → Region → Type 0
+IsRegionOf d y Filler = ⊤
+IsRegionOf d y (Menu v) = IsPlaced v d.columns
+IsRegionOf d y (Bar v) = IsPlaced v d.columns × (frame_row d v y < rows_of d v)
+IsRegionOf d y (Body v) = IsPlaced v d.columns × (frame_row d v y < rows_of d v)

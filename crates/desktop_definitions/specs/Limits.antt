@@ -2,12 +2,9 @@
 use Rattle.std.specs.Prelude.{ℕ, ℤ, pos, neg_ℤ}
 pub use Rattle.command_table.specs.Codes.{no_selection, wrong_symbol, no_viewer}
 pub use Rattle.command_table.specs.Deciding.{most_files}
+pub use Rattle.command_table.specs.Versions.{first_version, newest_version}
 
--- the first version of the table of commands
-abbrev pub first_version : ℕ
-first_version = 1
-
--- characters ever written
+-- characters that count as written
 abbrev pub most_written : ℕ
 most_written = 4194304
 

@@ -17,23 +17,22 @@ abbrev pub file_entry : List ℕ × Text ℕ → Entry
 file_entry file = File file.0 (length file.1)
 
 -- the bytes of a menu up to its first space
-abbrev pub name_in : Text ℕ → List ℕ
-name_in menu = take_while (λ b. not (b == space)) (bytes_of menu)
+abbrev pub listed_name : Text ℕ → List ℕ
+listed_name menu = take_while (λ b. not (b == space)) (bytes_of menu)
 
 -- a viewer of a track, with the column of the track, the rows from which and before which it stands, the name in its
 -- menu and the length of its main text
 abbrev pub viewer_entry : Desktop → Track → ℕ → Entry
 viewer_entry d track v =
     Viewer (left_of track) (placed_bottom d.columns v) (placed_top d.columns v)
-    (name_in (menu_of d v)) (length (main_of d v))
+    (listed_name (menu_of d v)) (length (main_of d v))
 
 -- the viewers of a track, from the bottom up
 abbrev pub track_entries : Desktop → Track → List Entry
 track_entries d track = map (λ e. viewer_entry d track e.viewer) (shown d.columns track)
 
 -- an entry for each file, by rising names; one for each viewer of the user and then of the system track; and one for
--- how
--- many characters were ever written
+-- how many characters count as written
 unfoldable pub entries_of : Desktop → List Entry
 entries_of d = map file_entry d.files
     ++ (track_entries d User ++ (track_entries d System ++ (Written d.written ∷ [])))

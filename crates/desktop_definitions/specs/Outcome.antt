@@ -10,14 +10,15 @@ use Rattle.desktop_definitions.specs.Seen.{seen}
 use Rattle.desktop_definitions.specs.Sound.{IsOver}
 
 -- the codes that there are
-abbrev pub codes : List ℕ
-codes = no_caret ∷ no_selection ∷ no_command ∷ no_file ∷ full ∷ too_many_files ∷ outside ∷ wrong_symbol ∷ no_viewer ∷
+abbrev pub reply_codes : List ℕ
+reply_codes = no_caret ∷ no_selection ∷ no_command ∷ no_file ∷ full ∷ too_many_files ∷ outside ∷ wrong_symbol ∷
+    no_viewer ∷
     not_found ∷ bad_value ∷ too_low ∷ []
 
 -- Done, or a refusal with one of the codes
 abbrev pub IsReply : Reply → Type 0
 IsReply Done = ⊤
-IsReply (No code) = OneOf codes code
+IsReply (No code) = OneOf reply_codes code
 
 -- What a refusal leaves: the desktop as it was, over as many characters.
 pub record IsUnchanged (old new : List ℕ) (before after : KeptDesktop) : Type 0 where

@@ -2,7 +2,7 @@
 use Rattle.std.specs.Prelude.{ℕ, ◌+◌, ◌==◌, if◌then◌else◌, List, map, Option, Some, None, option_map}
 use Rattle.std.specs.List.{position_or_len, find}
 use Rattle.text_frames.specs.declared.frame.Frame.{Frame}
-use Rattle.text_frames.specs.declared.frame.Selection.{Selection as FrameSelection}
+use Rattle.text_frames.specs.declared.frame.FrameSelection.{FrameSelection}
 use Rattle.screen_pictures.specs.declared.cell.Cell.{Cell}
 use Rattle.screen_pictures.specs.Picture.{picture, Viewer as Painted}
 use Rattle.screen_pictures.specs.Screen.{screen_of}
@@ -11,9 +11,9 @@ use Rattle.desktop_definitions.specs.Desktop.{DesktopOf, Desktop}
 use Rattle.desktop_definitions.specs.Viewers.{text_of}
 
 -- the caret's position, where it stands in that viewer
-abbrev pub position_in : ℕ → Option Caret → Option ℕ
-position_in v None = None
-position_in v (Some c) = if c.viewer == v then Some c.position else None
+abbrev pub caret_position : ℕ → Option Caret → Option ℕ
+caret_position v None = None
+caret_position v (Some c) = if c.viewer == v then Some c.position else None
 
 -- the rank of a selection by age is its place among all, 1 the oldest
 abbrev pub ranked : List Selection → Selection → FrameSelection
@@ -31,7 +31,7 @@ abbrev pub frame_of : {T : Type 0} → DesktopOf T → ℕ × Viewer → Frame
 frame_of d e = record {
   text = e.1.main;
   org = e.1.org;
-  caret = position_in e.0 d.caret;
+  caret = caret_position e.0 d.caret;
   selection = selection_in d.selections e.0;
 }
 

@@ -20,8 +20,7 @@ use Rattle.desktop_definitions.specs.Seen.{seen}
 -- ---- texts and viewers
 
 -- The viewer v shows texts that are there: a menu of its own, which is not the log and which no other frame shows, and
--- a
--- main text from a position within it on.
+-- a main text from a position within it on.
 pub record IsViewer {X : Type 0} (texts : Texts (List X)) (viewers : List (ℕ × Viewer)) (v : ℕ)
     (viewer : Viewer) : Type 0
   where

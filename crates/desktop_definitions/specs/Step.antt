@@ -5,14 +5,14 @@ use Rattle.event_bytes.specs.declared.event.Event.{Event}
 use Rattle.event_bytes.specs.declared.event.Event.TheVariants.{Typed, Key, Mark, Point, File}
 use Rattle.desktop_definitions.specs.declared.reply.Reply.{Reply}
 use Rattle.desktop_definitions.specs.declared.reply.Reply.TheVariants.{Done, No}
-use Rattle.desktop_definitions.specs.Limits.{first_version, most_written, most_held, full, too_many_files, outside}
+use Rattle.desktop_definitions.specs.Limits.{newest_version, most_written, most_held, full, too_many_files, outside}
 use Rattle.desktop_definitions.specs.Tables.{put, has_room}
 use Rattle.desktop_definitions.specs.Desktop.{Desktop, DesktopOf, held}
 use Rattle.desktop_definitions.specs.Needs.{unless}
 use Rattle.desktop_definitions.specs.Change.{plain}
 use Rattle.desktop_definitions.specs.Keys.{typed, pressed}
 use Rattle.desktop_definitions.specs.Opening.{dropped}
-use Rattle.desktop_definitions.specs.Gesture.{is_on_display, area_at, pointed}
+use Rattle.desktop_definitions.specs.Gesture.{is_on_display, region_at, pointed}
 
 -- ---- a file
 
@@ -44,15 +44,19 @@ raw version d (Typed bytes) = typed d bytes
 raw version d (Key key) = pressed d key
 raw version d (Mark x y) = unless (is_on_display x y) outside (Ok (marked d x y))
 raw version d (Point keys x0 y0 x1 y1) =
-    unless (is_on_display x0 y0 && is_on_display x1 y1) outside (pointed version d (area_at d x0 y0) keys x0 y0 x1 y1)
+    unless (is_on_display x0 y0 && is_on_display x1 y1) outside (pointed version d (region_at d x0 y0) keys x0 y0 x1 y1)
 raw version d (File name bytes) = unless (has_room d.files name) too_many_files (Ok (filed d name (plain bytes)))
 
 unfoldable pub step_in : ℕ → Desktop → Event → Desktop × Reply
 step_in version d event = settled d (raw version d event)
 
--- a step in the only version so far
+-- the desktop after events in a version of the table, one after another
+abbrev pub steps_in : ℕ → Desktop → List Event → Desktop
+steps_in version d events = fold (λ (now : Desktop) event. (step_in version now event).0) d events
+
+-- a step in the newest version
 unfoldable pub step : Desktop → Event → Desktop × Reply
-step d event = step_in first_version d event
+step d event = step_in newest_version d event
 
 -- the desktop after events, one after another
 abbrev pub steps : Desktop → List Event → Desktop

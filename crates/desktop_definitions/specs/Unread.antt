@@ -7,8 +7,8 @@ use Rattle.event_bytes.specs.declared.keys.Key.TheVariants.{Back, Copy, Paste, C
 use Rattle.event_bytes.specs.declared.keys.Keys.{Keys}
 use Rattle.event_bytes.specs.declared.keys.Keys.TheVariants.{Left, LeftMiddle, LeftRight, Middle}
 use Rattle.event_bytes.specs.declared.keys.Keys.TheVariants.{Right, RightLeft, RightMiddle}
-use Rattle.desktop_definitions.specs.declared.area.Area.{Area}
-use Rattle.desktop_definitions.specs.declared.area.Area.TheVariants.{Filler, Menu, Bar, Body}
+use Rattle.desktop_definitions.specs.declared.region.Region.{Region}
+use Rattle.desktop_definitions.specs.declared.region.Region.TheVariants.{Filler, Menu, Bar, Body}
 use Rattle.desktop_definitions.specs.declared.entry.Entry.{Entry}
 use Rattle.desktop_definitions.specs.declared.entry.Entry.TheVariants.{Viewer, File as FileEntry, Written}
 use Rattle.desktop_definitions.specs.declared.reply.Reply.{Reply}
@@ -16,18 +16,18 @@ use Rattle.desktop_definitions.specs.declared.reply.Reply.TheVariants.{Done, No}
 use Rattle.desktop_definitions.specs.Desktop.{DesktopOf, KeptDesktop}
 use Rattle.desktop_definitions.specs.Viewers.{newest}
 use Rattle.desktop_definitions.specs.Opening.{menu_line}
-use Rattle.desktop_definitions.specs.Gesture.{is_on_display, area_at}
+use Rattle.desktop_definitions.specs.Gesture.{is_on_display, region_at}
 use Rattle.desktop_definitions.specs.Seen.{seen}
 use Rattle.desktop_definitions.specs.Listing.{entries_of}
-use Rattle.desktop_definitions.specs.Step.{step}
+use Rattle.desktop_definitions.specs.Step.{step_in}
 
 -- ---- events
 
 module _ {T : Type 0} where
-  -- what the keys of the mouse do in an area: the tool text opens, viewers move and change their height, a text is
+  -- what the keys of the mouse do in a region: the tool text opens, viewers move and change their height, a text is
   -- shown from its beginning, what takes the newest selection is refused without one, and what isn't in the table does
   -- nothing; a word that is called is read, and so is the place of a cell in a text
-  unfoldable pub gesture_needs_no_byte : DesktopOf T → Area → Keys → Bool
+  unfoldable pub gesture_needs_no_byte : DesktopOf T → Region → Keys → Bool
   gesture_needs_no_byte d (Menu v) Middle = false
   gesture_needs_no_byte d (Bar v) Left = false
   gesture_needs_no_byte d (Bar v) Middle = false
@@ -38,7 +38,7 @@ module _ {T : Type 0} where
   gesture_needs_no_byte d (Body v) Right = false
   gesture_needs_no_byte d (Body v) RightLeft = false
   gesture_needs_no_byte d (Body v) RightMiddle = false
-  gesture_needs_no_byte d area keys = true
+  gesture_needs_no_byte d region keys = true
 
   -- a key: one that needs the caret, and one that needs a selection, is refused without
   unfoldable pub key_needs_no_byte : DesktopOf T → Key → Bool
@@ -53,17 +53,17 @@ module _ {T : Type 0} where
   needs_no_byte d (Pressed key) = key_needs_no_byte d key
   needs_no_byte d (Mark x y) = true
   needs_no_byte d (Point keys x0 y0 x1 y1) =
-      not (is_on_display x0 y0 && is_on_display x1 y1) || gesture_needs_no_byte d (area_at d x0 y0) keys
+      not (is_on_display x0 y0 && is_on_display x1 y1) || gesture_needs_no_byte d (region_at d x0 y0) keys
   needs_no_byte d (File name bytes) = true
 
 -- the characters that a gesture adds that reads none: the menu of the tool text
-unfoldable pub gesture_brings : Area → Keys → List ℕ
+unfoldable pub gesture_brings : Region → Keys → List ℕ
 gesture_brings Filler Middle = menu_line (codes "System.Tool")
-gesture_brings area keys = []
+gesture_brings region keys = []
 
 -- the characters that such an event adds
 unfoldable pub brought : {T : Type 0} → DesktopOf T → Event → List ℕ
-brought d (Point keys x0 y0 x1 y1) = gesture_brings (area_at d x0 y0) keys
+brought d (Point keys x0 y0 x1 y1) = gesture_brings (region_at d x0 y0) keys
 brought d (File name bytes) = bytes
 brought d event = []
 
@@ -72,12 +72,12 @@ abbrev pub grown : List ℕ → List ℕ → Reply → List ℕ
 grown all bytes Done = all ++ bytes
 grown all bytes (No code) = all
 
--- Where no character is read, reply and desktop are the step's over every list of as many characters, whatever the
--- source tells.
-unfoldable pub StepsUnread : KeptDesktop → KeptDesktop → Event → Reply → Type 0
-StepsUnread before after event reply =
+-- Where no character is read, reply and desktop are those of the step in a version of the table of commands, over every
+-- list of as many characters, whatever the source tells.
+unfoldable pub StepsUnread : ℕ → KeptDesktop → KeptDesktop → Event → Reply → Type 0
+StepsUnread version before after event reply =
     needs_no_byte before event ≡ true → (all : List ℕ) → length all ≡ before.written
-    → (seen (grown all (brought before event) reply) after, reply) ≡ step (seen all before) event
+    → (seen (grown all (brought before event) reply) after, reply) ≡ step_in version (seen all before) event
 
 -- ---- the list
 

@@ -10,8 +10,8 @@ use Rattle.desktop_definitions.specs.Tables.{Texts, numbered}
 use Rattle.desktop_definitions.specs.Desktop.{DesktopOf, Desktop}
 
 -- where there is no viewer of an id
-abbrev pub no_viewer : Viewer
-no_viewer = record { menu = 0; main = 0; org = 0 }
+abbrev pub bare_viewer : Viewer
+bare_viewer = record { menu = 0; main = 0; org = 0 }
 
 -- the viewer of an id in a table, if there is one
 abbrev pub viewer_in : List (ℕ × Viewer) → ℕ → Option Viewer
@@ -19,7 +19,7 @@ viewer_in viewers v = lookup (is_at (nat_cmp v)) viewers
 
 -- the viewer of an id, and where there is none one of no texts
 abbrev pub viewer_or_none : List (ℕ × Viewer) → ℕ → Viewer
-viewer_or_none viewers v = unwrap_or (viewer_in viewers v) no_viewer
+viewer_or_none viewers v = unwrap_or (viewer_in viewers v) bare_viewer
 
 -- the text of a number in a table, empty where there is none
 abbrev pub text_in : {X : Type 0} → Texts (List X) → ℕ → List X

@@ -2,8 +2,8 @@
 
 pub use command_table::codes::{NO_SELECTION, NO_VIEWER, WRONG_SYMBOL};
 
-/// The desktop after the event would pass a limit: 4,194,304 characters ever written, or 262,144 held. Of all refusals
-/// this comes last.
+/// The desktop after the event would pass a limit: 4,194,304 characters that count as written, or 262,144 held. Of all
+/// refusals this comes last.
 pub const FULL: u8 = 6;
 
 /// There is no file of that name, and there are 256 files.

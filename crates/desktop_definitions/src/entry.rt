@@ -46,8 +46,7 @@ pub enum Entry {
         len: u32,
     },
     /// A viewer: the leftmost column of its track, the row at which it begins and the one before which it ends, the
-    /// name
-    /// in its menu, and the length of its main text in characters.
+    /// name in its menu, and the length of its main text in characters.
     Viewer {
         x: u8,
         bottom: u8,
@@ -55,6 +54,6 @@ pub enum Entry {
         name: MenuName,
         len: u32,
     },
-    /// How many characters were ever written.
+    /// How many characters count as written.
     Written(u32),
 }

@@ -7,16 +7,16 @@
 //! `desktop_laws`, the code in those above it, with `event_loop` on top.
 #![tactic(auto)]
 
-mod area;
 mod call;
 pub mod codes;
 mod entry;
 mod laws;
 mod limits;
+mod region;
 mod reply;
 mod viewer;
 
-pub use area::Area;
+pub use region::Region;
 pub use call::Call;
 pub use entry::{Entry, MenuName};
 pub use laws::constants_are_defined;

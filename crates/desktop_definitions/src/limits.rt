@@ -2,7 +2,8 @@
 
 use char_file::MOST_CHARACTERS;
 
-/// How many characters may ever be written.
+/// How many characters the character file may have: those written since `System.Collect` last rewrote it, and those
+/// that it kept.
 pub const MOST_WRITTEN: u32 = MOST_CHARACTERS;
 
 /// How many characters a desktop may hold at one time, in its texts, its files and both buffers.

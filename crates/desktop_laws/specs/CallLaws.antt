@@ -10,7 +10,6 @@ use Rattle.command_table.specs.Call.{called_at}
 use Rattle.command_table.specs.Parameters.{IsPlace, value, names}
 use Rattle.desktop_definitions.specs.declared.call.Call.{Call}
 use Rattle.desktop_definitions.specs.declared.viewer.Selection.{Selection}
-use Rattle.desktop_definitions.specs.Limits.{first_version}
 use Rattle.desktop_definitions.specs.Desktop.{KeptDesktop}
 use Rattle.desktop_definitions.specs.Viewers.{viewer_or_none, newest, main_of, menu_of}
 use Rattle.desktop_definitions.specs.Change.{bytes_of}
@@ -157,8 +156,8 @@ names_read characters d call =
     (place_seen characters d k))
 
 -- the command whose word is called
-pub called_read : (characters : List ℕ) (d : KeptDesktop) (v : ℕ) (in_menu : Bool) (p : ℕ)
-    → called_at (bytes characters (flat (text_called d v in_menu))) p
-    ≡ command_at first_version (bytes_of (text_called (seen characters d) v in_menu)) p
-called_read characters d v in_menu p =
-    ap (λ (t : Text ℕ). called_at (bytes_of t) p) (sym (called_text_seen characters d v in_menu))
+pub called_read : (version : ℕ) (characters : List ℕ) (d : KeptDesktop) (v : ℕ) (in_menu : Bool) (p : ℕ)
+    → called_at version (bytes characters (flat (text_called d v in_menu))) p
+    ≡ command_at version (bytes_of (text_called (seen characters d) v in_menu)) p
+called_read version characters d v in_menu p =
+    ap (λ (t : Text ℕ). called_at version (bytes_of t) p) (sym (called_text_seen characters d v in_menu))

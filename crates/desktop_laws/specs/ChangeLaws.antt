@@ -17,7 +17,7 @@ use Rattle.desktop_definitions.specs.declared.viewer.Viewer.{Viewer}
 use Rattle.desktop_definitions.specs.declared.viewer.Selection.{Selection}
 use Rattle.desktop_definitions.specs.Tables.{numbered, with_values, lengths}
 use Rattle.desktop_definitions.specs.Desktop.{Desktop, held}
-use Rattle.desktop_definitions.specs.Viewers.{no_viewer, viewer_of, text_of, main_of}
+use Rattle.desktop_definitions.specs.Viewers.{bare_viewer, viewer_of, text_of, main_of}
 use Rattle.desktop_definitions.specs.Viewers.{with_org, rows_of, with_caret, unselected, with_selection}
 use Rattle.desktop_definitions.specs.Change.{edited, followed, after_change, insertion, deletion, looks_set, showing}
 use Rattle.desktop_definitions.specs.Change.{bytes_of, caret_shown}
@@ -36,11 +36,11 @@ followed_shown n bytes p more fewer (e ∷ es) = elim (e.1.main == n) as
     ]
 
 pub org_shown : (test : ℕ → Bool) (org : ℕ) (viewers : List (ℕ × Viewer))
-    → texts_shown (set_value test viewers (record (unwrap_or (lookup test viewers) no_viewer) { org = org }))
+    → texts_shown (set_value test viewers (record (unwrap_or (lookup test viewers) bare_viewer) { org = org }))
     ≡ texts_shown viewers
 org_shown test org [] = refl
 org_shown test org (e ∷ es) = elim (test e.0) as
-    (λ b. (let viewer = record (unwrap_or (cond b (Some e.1) (lookup test es)) no_viewer) { org = org } in
+    (λ b. (let viewer = record (unwrap_or (cond b (Some e.1) (lookup test es)) bare_viewer) { org = org } in
     texts_shown (cond b ((e.0, viewer) ∷ es) (e ∷ set_value test es viewer))) ≡ texts_shown (e ∷ es)) [
       | true ↦ refl
       | false ↦ ap (λ l. (e.0, e.1.menu, e.1.main) ∷ l) (org_shown test org es)

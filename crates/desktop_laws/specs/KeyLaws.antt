@@ -39,7 +39,7 @@ use Rattle.desktop_laws.specs.SeenLaws.{new_read}
 use Rattle.desktop_definitions.specs.Step.{settled}
 use Rattle.desktop_definitions.specs.Sound.{IsOver}
 use Rattle.desktop_definitions.specs.Changed.{texts_shown, IsChanged, Counts}
-use Rattle.desktop_definitions.specs.Outcome.{codes, IsAnswered}
+use Rattle.desktop_definitions.specs.Outcome.{reply_codes, IsAnswered}
 use Rattle.desktop_laws.specs.OutcomeLaws.{refused, seen_grown, length_in_look}
 use Rattle.desktop_laws.specs.RowLaws.{has_space, row_answered, rest_answered, changed_answered, full_answered}
 use Rattle.desktop_laws.specs.RowLaws.{full_rest_answered, over_built, changed_as, changed_under, changed_further}
@@ -55,7 +55,7 @@ use Rattle.desktop_definitions.specs.Looks.{AreLooks}
 
 -- a row that is this refusal
 pub refusal_answered : (H : Type 0) (old : List ℕ) (d : KeptDesktop) (row : Result Desktop ℕ) (code : ℕ) → IsOver old d
-    → OneOf codes code → row ≡ Err code → IsAnswered H old old d d (settled (seen old d) row) (No code)
+    → OneOf reply_codes code → row ≡ Err code → IsAnswered H old old d d (settled (seen old d) row) (No code)
 unfolding settled
 refusal_answered H old d row code over known is =
     refused H old d (settled (seen old d) row) code over known (λ h. ap (settled (seen old d)) (sym is))

@@ -18,6 +18,10 @@ pub mod ChangeLaws
 pub mod EditLaws
 pub mod ViewLaws
 pub mod MarkLaws
+pub mod Rewriting
+pub mod RewritingLaws
+pub mod AlikeLaws
+pub mod CollectLaws
 pub mod RowPartLaws
 pub mod KeyLaws
 pub mod ClosingLaws

@@ -21,7 +21,7 @@ use Rattle.desktop_definitions.specs.declared.viewer.Caret.{Caret}
 use Rattle.desktop_definitions.specs.declared.viewer.Selection.{Selection}
 use Rattle.desktop_laws.specs.TableLaws.{is_some_map}
 use Rattle.desktop_definitions.specs.Desktop.{Desktop, KeptDesktop, held}
-use Rattle.desktop_definitions.specs.Viewers.{no_viewer, viewer_in, viewer_or_none, text_in, main_length}
+use Rattle.desktop_definitions.specs.Viewers.{bare_viewer, viewer_in, viewer_or_none, text_in, main_length}
 use Rattle.desktop_definitions.specs.Viewers.{selections_outside, with_org, with_caret, unselected, with_selection}
 use Rattle.desktop_definitions.specs.Keys.{escaped}
 use Rattle.desktop_definitions.specs.Gesture.{is_some_stretch, drawn_in}
@@ -269,7 +269,7 @@ abbrev moved_in : List (ℕ × Viewer) → ℕ → ℕ → List (ℕ × Viewer)
 moved_in viewers v org = set_value (is_at (nat_cmp v)) viewers (moved_to org (viewer_or_none viewers v))
 
 moved_here : (org : ℕ) (found : Option Viewer)
-    → option_map (λ y. moved_to org (unwrap_or found no_viewer)) found ≡ option_map (λ x. moved_to org x) found
+    → option_map (λ y. moved_to org (unwrap_or found bare_viewer)) found ≡ option_map (λ x. moved_to org x) found
 moved_here org None = refl
 moved_here org (Some x) = refl
 
@@ -296,12 +296,12 @@ found_moved viewers v org w = elim (eqb_tells w v) [
 ]
 
 shown_moved : (test : ℕ → Bool) (viewers : List (ℕ × Viewer)) (org : ℕ)
-    → texts_shown (set_value test viewers (moved_to org (unwrap_or (lookup test viewers) no_viewer)))
+    → texts_shown (set_value test viewers (moved_to org (unwrap_or (lookup test viewers) bare_viewer)))
     ≡ texts_shown viewers
 shown_moved test [] org = refl
 shown_moved test (e ∷ es) org = elim (test e.0) as
-    (λ b. texts_shown (cond b ((e.0, moved_to org (unwrap_or (cond b (Some e.1) (lookup test es)) no_viewer)) ∷ es)
-    (e ∷ set_value test es (moved_to org (unwrap_or (cond b (Some e.1) (lookup test es)) no_viewer))))
+    (λ b. texts_shown (cond b ((e.0, moved_to org (unwrap_or (cond b (Some e.1) (lookup test es)) bare_viewer)) ∷ es)
+    (e ∷ set_value test es (moved_to org (unwrap_or (cond b (Some e.1) (lookup test es)) bare_viewer))))
     ≡ texts_shown (e ∷ es)) [
       | true ↦ refl
       | false ↦ ap (λ (l : List (ℕ × ℕ × ℕ)). (e.0, e.1.menu, e.1.main) ∷ l) (shown_moved test es org)
@@ -319,7 +319,7 @@ found_was f None now is = absurd (cc is)
 found_was f (Some x) now is = record { was = x; here = refl; is = (let e : moved_to (f x) x ≡ now = cc is in sym e) }
 
 same_main : (f : Viewer → ℕ) (found : Option Viewer)
-    → (unwrap_or (option_map (λ x. moved_to (f x) x) found) no_viewer).main ≡ (unwrap_or found no_viewer).main
+    → (unwrap_or (option_map (λ x. moved_to (f x) x) found) bare_viewer).main ≡ (unwrap_or found bare_viewer).main
 same_main f None = refl
 same_main f (Some x) = refl
 
@@ -346,7 +346,7 @@ module _ (x : Desktop) (shaped : IsShaped x) (viewers : List (ℕ × Viewer)) (f
 
   long_as : (w : ℕ) → main_length x.texts x.viewers w ≡ main_length x.texts viewers w
   long_as w = ap (λ n. length (text_in x.texts n))
-      (sym (ap (λ (o : Option Viewer). (unwrap_or o no_viewer).main) (found w)
+      (sym (ap (λ (o : Option Viewer). (unwrap_or o bare_viewer).main) (found w)
       ∙ same_main (f w) (viewer_in x.viewers w)))
 
   pub orgs_shaped : IsShaped (record x { viewers = viewers })
@@ -381,7 +381,7 @@ module _ (H : Type 0) (characters : List ℕ) (d : KeptDesktop) (built : IsBuilt
   org_within all w y here = elim (eqb_tells w v) [
     | inl same ↦
         let this : viewer_or_none d.viewers v ≡ y =
-        ap (λ u. viewer_or_none d.viewers u) (sym same.1) ∙ ap (λ (o : Option Viewer). unwrap_or o no_viewer) here in
+        ap (λ u. viewer_or_none d.viewers u) (sym same.1) ∙ ap (λ (o : Option Viewer). unwrap_or o bare_viewer) here in
         let long = long_seen all d.texts y.main in
         let low_here : org ≤ length (flat (text_in d.texts y.main)) =
         subst (λ (x : Viewer). org ≤ length (flat (text_in d.texts x.main))) this low in

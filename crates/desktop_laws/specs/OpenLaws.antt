@@ -24,7 +24,7 @@ use Rattle.desktop_definitions.specs.declared.viewer.Selection.{Selection}
 use Rattle.desktop_definitions.specs.declared.viewer.Kept.{Kept}
 use Rattle.viewer_tracks.specs.Columns.{Columns, IsPlaced}
 use Rattle.desktop_definitions.specs.Tables.{Texts, numbered}
-use Rattle.desktop_definitions.specs.Viewers.{viewer_in, text_in, main_length, viewer_or_none, no_viewer}
+use Rattle.desktop_definitions.specs.Viewers.{viewer_in, text_in, main_length, viewer_or_none, bare_viewer}
 use Rattle.desktop_definitions.specs.Opening.{least_unused}
 use Rattle.desktop_definitions.specs.Sound.{IsViewer, AreViewers, ArePlaces, AreMarks, times_there}
 use Rattle.desktop_laws.specs.PlaceLaws.{any_at, at_itself, at_other, by_number}
@@ -203,7 +203,7 @@ module _ {X : Type 0} (texts new : Texts (List X)) (n : ℕ) (more : IsTextMore 
     text_long w some =
         let found = is_there (viewer_in viewers w) some in
         length_stays (viewer_or_none viewers w).main
-        (subst (λ (o : Option Viewer). IsSome (numbered texts (unwrap_or o no_viewer).main)) (sym found.1)
+        (subst (λ (o : Option Viewer). IsSome (numbered texts (unwrap_or o bare_viewer).main)) (sym found.1)
         (are.each w found.0 found.1).main)
 
 -- ---- a viewer more
@@ -279,7 +279,7 @@ module _ {X : Type 0} (texts : Texts (List X)) (viewers new : List (ℕ × Viewe
   pub viewer_long : (w : ℕ) → IsSome (viewer_in viewers w) → main_length texts new w ≡ main_length texts viewers w
   viewer_long w some =
       let found = is_there (viewer_in viewers w) some in
-      ap (λ (o : Option Viewer). length (text_in texts (unwrap_or o no_viewer).main))
+      ap (λ (o : Option Viewer). length (text_in texts (unwrap_or o bare_viewer).main))
       (more.others w (apart_from viewers v w found.0 more.none found.1))
 
 -- ---- who stands on the display has an entry

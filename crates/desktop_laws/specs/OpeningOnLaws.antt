@@ -36,7 +36,7 @@ use Rattle.desktop_definitions.specs.Needs.{needs}
 use Rattle.desktop_definitions.specs.Tables.{name_cmp, named}
 use Rattle.desktop_laws.specs.TableLaws.{lookup_seen, is_some_map, length_seen_text}
 use Rattle.desktop_definitions.specs.Desktop.{Desktop, KeptDesktop, file_of, held}
-use Rattle.desktop_definitions.specs.Viewers.{viewer_in, viewer_or_none, no_viewer, text_in, text_of, without_viewer}
+use Rattle.desktop_definitions.specs.Viewers.{viewer_in, viewer_or_none, bare_viewer, text_in, text_of, without_viewer}
 use Rattle.desktop_definitions.specs.Change.{plain, more_written}
 use Rattle.desktop_definitions.specs.Opening.{menu_line, opening_on, opening, is_shown, dropped}
 use Rattle.desktop_definitions.specs.Effects.{opened_on_copy, document_opened, file_opened, log_opened}
@@ -93,7 +93,7 @@ the_one (Some a) other there = refl
 pub viewer_can : (d : Desktop) (v : ℕ) → IsShaped d → IsPlaced v d.columns
     → CanShow d (viewer_or_none d.viewers v).main (viewer_or_none d.viewers v).org
 viewer_can d v shaped placed =
-    let found = the_one (viewer_in d.viewers v) no_viewer
+    let found = the_one (viewer_in d.viewers v) bare_viewer
     (placed_known d.viewers d.columns d.kept v shaped.places placed) in
     let shown = shaped.viewers.each v (viewer_or_none d.viewers v) found in
     record {

@@ -24,12 +24,12 @@ use Rattle.desktop_definitions.specs.Change.{in_look, plain}
 use Rattle.desktop_definitions.specs.Step.{filed, fits, step}
 use Rattle.desktop_laws.specs.StepLaws.{file_done, filed_sound}
 use Rattle.desktop_definitions.specs.Sound.{IsSound, AllWithin, IsWithin, IsOver}
-use Rattle.desktop_definitions.specs.Outcome.{codes, IsAnswered}
+use Rattle.desktop_definitions.specs.Outcome.{reply_codes, IsAnswered}
 use Rattle.desktop_definitions.specs.Looks.{AreLooks}
 use Rattle.desktop_laws.specs.LookedLaws.{default_is_look, run_looks, seen_looks}
 
 pub refused : (H : Type 0) (old : List ℕ) (d : KeptDesktop) (outcome : Desktop × Reply) (code : ℕ) → IsOver old d
-    → OneOf codes code → (H → (seen old d, No code) ≡ outcome) → IsAnswered H old old d d outcome (No code)
+    → OneOf reply_codes code → (H → (seen old d, No code) ≡ outcome) → IsAnswered H old old d d outcome (No code)
 refused H old d outcome code over known is = record {
   exact = is;
   over = over;

@@ -17,7 +17,7 @@ use Rattle.piece_ring.specs.Lengths.{length-inserted, length-deleted, length-loo
 use Rattle.piece_ring.specs.Text.{Text, inserted, deleted, looks_changed}
 use Rattle.viewer_tracks.specs.Columns.{Columns, IsPlaced, times_placed}
 use Rattle.text_frames.specs.Lines.{line_start, line_above, begins_line}
-use Rattle.text_frames.specs.Rules.{moved, changed_org, is_shown as line_shown, shown_org}
+use Rattle.text_frames.specs.Rules.{moved, changed_org, is_in_rows as line_shown, shown_org}
 use Rattle.text_frames.proofs.Greatest.{greatest_within}
 use Rattle.desktop_definitions.specs.declared.viewer.Viewer.{Viewer}
 use Rattle.desktop_definitions.specs.declared.viewer.Caret.{Caret}

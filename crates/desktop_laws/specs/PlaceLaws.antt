@@ -31,7 +31,7 @@ use Rattle.desktop_definitions.specs.Tables.{Texts, numbered, lengths}
 use Rattle.piece_ring.specs.Text.{Text}
 use Rattle.desktop_definitions.specs.Desktop.{Desktop, DesktopOf, held}
 use Rattle.desktop_definitions.specs.Viewers.{viewer_in, text_in, main_length, caret_outside, selections_outside}
-use Rattle.desktop_definitions.specs.Viewers.{without_viewer, no_viewer}
+use Rattle.desktop_definitions.specs.Viewers.{without_viewer, bare_viewer}
 use Rattle.desktop_definitions.specs.Opening.{is_shown, dropped}
 use Rattle.desktop_definitions.specs.Sound.{AreViewers, times_there, IsKeptPlace, IsCaret, IsSelection}
 use Rattle.desktop_definitions.specs.Sound.{AreMarks, AreFiles, HasLooks, IsShaped}
@@ -184,7 +184,7 @@ module _ {X : Type 0} (g : ℕ) (texts : Texts (List X)) (viewers : List (ℕ ×
 
   same_length : (w : ℕ) → ¬ (w ≡ g) → main_length texts left w ≡ main_length texts viewers w
   same_length w other = ap
-      (λ (o : Option Viewer). length (text_in texts (unwrap_or o no_viewer).main)) (removed_other g w viewers other)
+      (λ (o : Option Viewer). length (text_in texts (unwrap_or o bare_viewer).main)) (removed_other g w viewers other)
 
   still_placed : (w : ℕ) → ¬ (w ≡ g) → 0 + 1 ≤ times_placed w old → 0 + 1 ≤ times_placed w new
   still_placed w other placed =
@@ -399,8 +399,8 @@ module _ (d : Desktop) where
   long_left : (v : ℕ) → main_length left_texts d.viewers v ≡ main_length d.texts d.viewers v
   long_left v = by_found (viewer_in d.viewers v) refl where
     by_found : (found : Option Viewer) → viewer_in d.viewers v ≡ found
-        → length (text_in left_texts (unwrap_or found no_viewer).main)
-        ≡ length (text_in d.texts (unwrap_or found no_viewer).main)
+        → length (text_in left_texts (unwrap_or found bare_viewer).main)
+        ≡ length (text_in d.texts (unwrap_or found bare_viewer).main)
     by_found None is = length_left 0 refl
     by_found (Some viewer) is = length_left viewer.main (main_shown v viewer is)
 

@@ -25,7 +25,7 @@ use Rattle.desktop_definitions.specs.Limits.{not_found, bad_value, too_low}
 use Rattle.desktop_definitions.specs.Tables.{Texts, numbered}
 use Rattle.desktop_laws.specs.TableLaws.{lookup_seen, is_some_map, kept_lengths, lengths_seen}
 use Rattle.desktop_definitions.specs.Desktop.{Desktop, KeptDesktop, held}
-use Rattle.desktop_definitions.specs.Viewers.{viewer_in, viewer_or_none, text_in, no_viewer}
+use Rattle.desktop_definitions.specs.Viewers.{viewer_in, viewer_or_none, text_in, bare_viewer}
 use Rattle.desktop_definitions.specs.Opening.{is_shown}
 use Rattle.desktop_definitions.specs.Change.{more_written}
 use Rattle.desktop_definitions.specs.Seen.{seen, seen_text, seen_table}
@@ -34,7 +34,7 @@ use Rattle.desktop_definitions.specs.Step.{fits, settled}
 use Rattle.desktop_laws.specs.StepLaws.{AllShown, settled_done, settled_full}
 use Rattle.desktop_definitions.specs.Sound.{AreViewers, ArePlaces, IsSound, IsWithin, IsBuilt, IsOver}
 use Rattle.desktop_definitions.specs.Changed.{texts_shown, IsChanged, Counts}
-use Rattle.desktop_definitions.specs.Outcome.{codes, IsAnswered}
+use Rattle.desktop_definitions.specs.Outcome.{reply_codes, IsAnswered}
 use Rattle.desktop_laws.specs.OutcomeLaws.{refused, acted, within_longer}
 use Rattle.desktop_laws.specs.LookedLaws.{written_shaped, within_stays}
 
@@ -44,40 +44,40 @@ has_space d made more fewer = nat_le (d.written + made) most_written && nat_le (
 
 -- ---- the codes
 
-pub known_no_caret : OneOf codes no_caret
+pub known_no_caret : OneOf reply_codes no_caret
 known_no_caret = inl refl
 
-pub known_no_selection : OneOf codes no_selection
+pub known_no_selection : OneOf reply_codes no_selection
 known_no_selection = inr (inl refl)
 
-pub known_no_command : OneOf codes no_command
+pub known_no_command : OneOf reply_codes no_command
 known_no_command = inr (inr (inl refl))
 
-pub known_no_file : OneOf codes no_file
+pub known_no_file : OneOf reply_codes no_file
 known_no_file = inr (inr (inr (inl refl)))
 
-pub known_full : OneOf codes full
+pub known_full : OneOf reply_codes full
 known_full = inr (inr (inr (inr (inl refl))))
 
-pub known_too_many_files : OneOf codes too_many_files
+pub known_too_many_files : OneOf reply_codes too_many_files
 known_too_many_files = inr (inr (inr (inr (inr (inl refl)))))
 
-pub known_outside : OneOf codes outside
+pub known_outside : OneOf reply_codes outside
 known_outside = inr (inr (inr (inr (inr (inr (inl refl))))))
 
-pub known_wrong_symbol : OneOf codes wrong_symbol
+pub known_wrong_symbol : OneOf reply_codes wrong_symbol
 known_wrong_symbol = inr (inr (inr (inr (inr (inr (inr (inl refl)))))))
 
-pub known_no_viewer : OneOf codes viewer_missing
+pub known_no_viewer : OneOf reply_codes viewer_missing
 known_no_viewer = inr (inr (inr (inr (inr (inr (inr (inr (inl refl))))))))
 
-pub known_not_found : OneOf codes not_found
+pub known_not_found : OneOf reply_codes not_found
 known_not_found = inr (inr (inr (inr (inr (inr (inr (inr (inr (inl refl)))))))))
 
-pub known_bad_value : OneOf codes bad_value
+pub known_bad_value : OneOf reply_codes bad_value
 known_bad_value = inr (inr (inr (inr (inr (inr (inr (inr (inr (inr (inl refl))))))))))
 
-pub known_too_low : OneOf codes too_low
+pub known_too_low : OneOf reply_codes too_low
 known_too_low = inr (inr (inr (inr (inr (inr (inr (inr (inr (inr (inr refl))))))))))
 
 -- ---- texts that are shown
@@ -364,7 +364,7 @@ pub main_there : {X : Type 0} (texts : Texts (List X)) (viewers : List (ℕ × V
     → (v : ℕ) → IsSome (viewer_in viewers v) → IsSome (numbered texts (viewer_or_none viewers v).main)
 main_there texts viewers are v some = (elim (viewer_in viewers v) as
     (λ (found : Option Viewer). viewer_in viewers v ≡ found → IsSome found
-    → IsSome (numbered texts (unwrap_or found no_viewer).main)) [
+    → IsSome (numbered texts (unwrap_or found bare_viewer).main)) [
       | None ↦ λ is none. absurd (cc none)
       | Some viewer ↦ λ is there. (are.each v viewer is).main
     ]) refl some
@@ -393,7 +393,7 @@ main_shown : (viewers : List (ℕ × Viewer)) (v : ℕ)
 unfolding main_among
 main_shown [] v = refl
 main_shown (e ∷ es) v = elim (is_at (nat_cmp v) e.0) as
-    (λ b. (unwrap_or (cond b (Some e.1) (viewer_in es v)) no_viewer).main
+    (λ b. (unwrap_or (cond b (Some e.1) (viewer_in es v)) bare_viewer).main
     ≡ cond b e.1.main (main_among (texts_shown es) v)) [ true ↦ refl | false ↦ main_shown es v ]
 
 -- viewers that show the same texts have the same main texts

@@ -27,7 +27,7 @@ use Rattle.desktop_definitions.specs.Desktop.{Desktop, KeptDesktop, held}
 use Rattle.desktop_definitions.specs.Viewers.{main_of, newest, selected}
 use Rattle.desktop_definitions.specs.Needs.{needs, unless}
 use Rattle.desktop_definitions.specs.Change.{bytes_of, showing, caret_shown, put_at_caret}
-use Rattle.desktop_definitions.specs.Shown.{position_in}
+use Rattle.desktop_definitions.specs.Shown.{caret_position}
 use Rattle.desktop_definitions.specs.Effects.{found_at, pattern_after, searched}
 use Rattle.desktop_definitions.specs.Seen.{seen, seen_text}
 use Rattle.desktop_definitions.specs.Step.{settled}
@@ -239,7 +239,7 @@ pattern_changed H characters d pattern built few = record {
 
 -- where it starts
 abbrev pub start_in : ℕ → Option Caret → ℕ
-start_in v caret = unwrap_or (position_in v caret) 0
+start_in v caret = unwrap_or (caret_position v caret) 0
 
 caret_within : (v long : ℕ) (c : Caret) (same : Bool) → (c.viewer == v) ≡ same → (c.viewer ≡ v → c.position ≤ long)
     → unwrap_or (if same then Some c.position else None) 0 ≤ long

@@ -18,7 +18,7 @@ use Rattle.desktop_definitions.specs.declared.viewer.Caret.{Caret}
 use Rattle.desktop_definitions.specs.declared.viewer.Selection.{Selection}
 use Rattle.desktop_definitions.specs.declared.viewer.Kept.{Kept}
 use Rattle.desktop_definitions.specs.Tables.{Texts, numbered}
-use Rattle.desktop_definitions.specs.Viewers.{no_viewer, viewer_in, viewer_or_none, text_in, caret_outside}
+use Rattle.desktop_definitions.specs.Viewers.{bare_viewer, viewer_in, viewer_or_none, text_in, caret_outside}
 use Rattle.desktop_definitions.specs.Viewers.{selections_outside}
 use Rattle.desktop_definitions.specs.Changed.{texts_shown}
 use Rattle.desktop_definitions.specs.Sound.{AreViewers, ArePlaces, AreMarks, IsCaret, IsSelection}
@@ -198,13 +198,13 @@ module _ (long : ℕ → ℕ) where
 
   -- one shows its text from elsewhere on
   pub reorged_one : (test : ℕ → Bool) (org : ℕ) (viewers : List (ℕ × Viewer)) → OrgsWithin long viewers
-      → org ≤ long (unwrap_or (lookup test viewers) no_viewer).main
+      → org ≤ long (unwrap_or (lookup test viewers) bare_viewer).main
       → AreReorged long viewers
-      (set_value test viewers (record (unwrap_or (lookup test viewers) no_viewer) { org = org }))
+      (set_value test viewers (record (unwrap_or (lookup test viewers) bare_viewer) { org = org }))
   reorged_one test org [] within here = tt
   reorged_one test org (e ∷ es) within here =
-      (elim (test e.0) as (λ b. org ≤ long (unwrap_or (cond b (Some e.1) (lookup test es)) no_viewer).main
-      → (let viewer = record (unwrap_or (cond b (Some e.1) (lookup test es)) no_viewer) { org = org } in
+      (elim (test e.0) as (λ b. org ≤ long (unwrap_or (cond b (Some e.1) (lookup test es)) bare_viewer).main
+      → (let viewer = record (unwrap_or (cond b (Some e.1) (lookup test es)) bare_viewer) { org = org } in
       AreReorged long (e ∷ es) (cond b ((e.0, viewer) ∷ es) (e ∷ set_value test es viewer)))) [
         | true ↦ λ low. (refl, record { menu = refl; main = refl; org = low }, reorged_same es within.1)
         | false ↦ λ low.
@@ -304,7 +304,7 @@ some_same long (Some old) None same = absurd same
 some_same long (Some old) (Some new) same = refl
 
 main_same : (long : ℕ → ℕ) (old new : Option Viewer) → AreSame long old new
-    → (unwrap_or new no_viewer).main ≡ (unwrap_or old no_viewer).main
+    → (unwrap_or new bare_viewer).main ≡ (unwrap_or old bare_viewer).main
 main_same long None None same = refl
 main_same long None (Some w) same = absurd same
 main_same long (Some old) None same = absurd same

@@ -30,7 +30,7 @@ use Rattle.readers_scanners.specs.Form.{form, number_form, number_symbol, quote_
 use Rattle.readers_scanners.specs.Form.{first_symbol}
 use Rattle.readers_scanners.specs.Form.{after_blanks, symbol}
 use Rattle.readers_scanners.specs.Symbol.{kept, value, greatest_size}
-use Rattle.readers_scanners.specs.Bytes.{quote, minus, is_inside, number_of}
+use Rattle.readers_scanners.specs.Bytes.{quote, minus, is_inside, numeral}
 use Rattle.readers_scanners.specs.declared.symbol.Symbol.{Symbol}
 use Rattle.readers_scanners.specs.declared.symbol.Symbol.TheVariants.{Name, Str, Int, Special, Invalid}
 use Rattle.command_table.specs.Parameters.{name_in}
@@ -42,7 +42,7 @@ use Rattle.command_table.specs.declared.command.Command.TheVariants.{SystemDirec
 use Rattle.command_table.specs.declared.command.Command.TheVariants.{SystemSetFont, SystemSetColor, SystemSetOffset}
 use Rattle.command_table.specs.declared.command.Command.TheVariants.{EditChangeFont, EditChangeColor}
 use Rattle.command_table.specs.declared.command.Command.TheVariants.{EditChangeOffset, EditStore, EditSearch}
-use Rattle.command_table.specs.declared.command.Command.TheVariants.{EditRecall}
+use Rattle.command_table.specs.declared.command.Command.TheVariants.{EditRecall, SystemCollect}
 use Rattle.text_frames.specs.Cells.{position_at, stands_by, row_of}
 use Rattle.text_frames.specs.Lines.{line_start, begins_line}
 use Rattle.text_frames.proofs.Greatest.{greatest_within}
@@ -56,18 +56,18 @@ use Rattle.viewer_tracks.specs.Columns.{placed_top, placed_bottom, placed_entry,
 use Rattle.viewer_tracks.specs.Columns.{after_close, replaced_at, allocated, StandsAt}
 use Rattle.viewer_tracks.proofs.ColumnLemmas.{open_keeps, change_keeps, close_keeps}
 use Rattle.viewer_tracks.proofs.PlacedLemmas.{open_places, change_places, close_places, seen_placed}
-use Rattle.desktop_definitions.specs.declared.area.Area.{Area}
-use Rattle.desktop_definitions.specs.declared.area.Area.TheVariants.{Filler, Menu, Bar, Body}
+use Rattle.desktop_definitions.specs.declared.region.Region.{Region}
+use Rattle.desktop_definitions.specs.declared.region.Region.TheVariants.{Filler, Menu, Bar, Body}
 use Rattle.desktop_definitions.specs.declared.call.Call.{Call}
 use Rattle.desktop_definitions.specs.declared.viewer.Caret.{Caret}
 use Rattle.desktop_definitions.specs.declared.viewer.Kept.{Kept}
 use Rattle.desktop_definitions.specs.declared.viewer.Selection.{Selection}
-use Rattle.desktop_definitions.specs.Limits.{first_version, most_pattern, too_low, no_file, too_many_files}
+use Rattle.desktop_definitions.specs.Limits.{most_pattern, too_low, no_file, too_many_files}
 use Rattle.desktop_definitions.specs.Limits.{wrong_symbol, no_selection, not_found, no_caret, outside}
 use Rattle.desktop_definitions.specs.Limits.{bad_value, no_command, full, no_viewer as viewer_missing}
 use Rattle.desktop_definitions.specs.Needs.{needs, unless, given}
 use Rattle.desktop_definitions.specs.Tables.{name_cmp, put, has_room}
-use Rattle.desktop_definitions.specs.Desktop.{Desktop, file_of}
+use Rattle.desktop_definitions.specs.Desktop.{Desktop, file_of, held}
 use Rattle.desktop_definitions.specs.Viewers.{viewer_of, text_of}
 use Rattle.desktop_definitions.specs.Viewers.{main_of, menu_of, main_length}
 use Rattle.desktop_definitions.specs.Viewers.{newest, selected, rows_of, with_org, with_caret, unselected}
@@ -77,24 +77,24 @@ use Rattle.desktop_definitions.specs.Change.{caret_shown, deletion, more_written
 use Rattle.desktop_definitions.specs.Opening.{menu_line, opening_on, dropped}
 use Rattle.desktop_definitions.specs.Log.{all_logged}
 use Rattle.desktop_definitions.specs.Looks.{IsLook, AreLooks, SetsLook, font_set, colour_set, offset_set}
-use Rattle.desktop_definitions.specs.Shown.{position_in}
+use Rattle.desktop_definitions.specs.Shown.{caret_position}
 use Rattle.desktop_definitions.specs.Effects.{opened_on_copy, file_opened, document_opened, log_opened, put_away}
 use Rattle.desktop_definitions.specs.Effects.{brought_back, parted, viewer_copied, log_cleared, directory_logged}
 use Rattle.desktop_definitions.specs.Effects.{files_deleted, deleting_line, storing_line, without_file, menu_name}
 use Rattle.desktop_definitions.specs.Effects.{stored, stored_as, look_set}
-use Rattle.desktop_definitions.specs.Effects.{selection_set, found_at, pattern_after, searched}
+use Rattle.desktop_definitions.specs.Effects.{selection_set, found_at, pattern_after, searched, collected}
 use Rattle.desktop_definitions.specs.Keys.{typed, pressed, without_character_before, with_copied, escaped}
-use Rattle.desktop_definitions.specs.Gesture.{is_on_display, area_at, part_of, left, frame_row, text_position}
+use Rattle.desktop_definitions.specs.Gesture.{is_on_display, region_at, part_of, left, frame_row, text_position}
 use Rattle.desktop_definitions.specs.Gesture.{menu_position, resized, carried, scrolled_to_row, scrolled_to_share}
 use Rattle.desktop_definitions.specs.Gesture.{is_some_stretch, drawn_in, copied_to, looks_taken, taken_out}
-use Rattle.desktop_definitions.specs.Gesture.{sent_to_caret, tool_opened, stretch_drawn, pointed, IsAreaOf}
+use Rattle.desktop_definitions.specs.Gesture.{sent_to_caret, tool_opened, stretch_drawn, pointed, IsRegionOf}
 use Rattle.text_core.specs.Attributes.{look_at}
 use Rattle.desktop_definitions.specs.declared.reply.Reply.{Reply}
 use Rattle.desktop_definitions.specs.declared.reply.Reply.TheVariants.{Done, No}
 use Rattle.desktop_definitions.specs.Call.{text_called, seen_at_marker, meant, name_of, number_of as number_called}
 use Rattle.desktop_definitions.specs.Call.{names_of}
 use Rattle.desktop_definitions.specs.Commands.{command_at, commanded, called}
-use Rattle.desktop_definitions.specs.Step.{filed, fits, marked, settled, raw, step_in, step}
+use Rattle.desktop_definitions.specs.Step.{filed, fits, marked, settled, raw, step_in}
 use Rattle.desktop_definitions.specs.Sound.{IsShaped, IsSound, IsCaret, IsKeptPlace, times_there}
 use Rattle.desktop_laws.specs.LookedLaws.{look_at_looks, relooked_is_look, copied_looks, taken_looks, typed_looks}
 use Rattle.desktop_laws.specs.LookedLaws.{looks_stay, shape_stays, written_shaped, files_looks, put_looks, no_looks}
@@ -161,14 +161,14 @@ IsFileName s = IfSome (name_in s) (λ name. IsTrue (is_name name))
 
 number_named : (negative : Bool) (bs : List ℕ) → IfSome (number_form negative bs) IsFileName
 number_named negative bs = tested (list_all is_digit bs) (list_all is_name_byte bs) where
-  sized : (fits : Bool) → IsFileName (if fits then Int (value negative (number_of bs)) else Invalid)
+  sized : (fits : Bool) → IsFileName (if fits then Int (value negative (numeral bs)) else Invalid)
   sized true = tt
   sized false = tt
 
-  tested : (digits more : Bool) → IfSome (let o : Option Symbol = if digits then Some (number_symbol negative (number_of
+  tested : (digits more : Bool) → IfSome (let o : Option Symbol = if digits then Some (number_symbol negative (numeral
       bs))
       else (if more then Some Invalid else None) in o) IsFileName
-  tested true more = sized (nat_le (number_of bs) (greatest_size negative))
+  tested true more = sized (nat_le (numeral bs) (greatest_size negative))
   tested false true = tt
   tested false false = tt
 
@@ -337,6 +337,10 @@ module _ (d : Desktop) (shaped : IsShaped d) where
   unfolding directory_logged
   directory_shaped = all_logged_shaped d _ shaped
 
+  collected_shaped : IsShaped (collected d)
+  unfolding collected
+  collected_shaped = written_shaped (held d) shaped
+
   deleted_shaped : (names : List (List ℕ)) → IfOk (files_deleted d names) IsShaped
   unfolding files_deleted
   deleted_shaped names = by_test IsShaped (can_be_deleted (keys_of d.files) names) no_file
@@ -417,7 +421,7 @@ module _ (d : Desktop) (shaped : IsShaped d) where
   searched_shaped v placed =
       let pattern : List ℕ = pattern_after d in
       let with_pattern : Desktop = record d { pattern = pattern } in
-      let start : ℕ = unwrap_or (position_in v d.caret) 0 in
+      let start : ℕ = unwrap_or (caret_position v d.caret) 0 in
       let put_caret : ℕ → Result Desktop ℕ = λ p. Ok (caret_shown with_pattern v (p + length pattern)) in
       by_test IsShaped (nat_lt 0 (length pattern)) no_selection
       (needs (found_at (bytes_of (main_of d v)) pattern start) not_found put_caret)
@@ -497,6 +501,7 @@ module _ (d : Desktop) (shaped : IsShaped d) where
   commanded_shaped EditRecall call placed =
       by_need IsShaped d.caret no_caret (λ c. Ok (put_at_caret d d.deleted c))
       (λ c is. put_at_caret_shaped d shaped d.deleted c (shaped.marks.caret_stands c is) shaped.looks.deleted)
+  commanded_shaped SystemCollect call placed = collected_shaped d shaped
 
   called_shaped : (version v : ℕ) (in_menu : Bool) (p : ℕ) → IsPlaced v d.columns
       → IfOk (called version d v in_menu p) IsShaped
@@ -693,16 +698,16 @@ module _ (d : Desktop) (shaped : IsShaped d) where
   drawn_within v x0 y0 x1 y1 = let le : min (max (text_position d v x0 y0) (text_position d v x1 y1) + 1)
       (length (main_of d v)) ≤ length (main_of d v) = omega arith in le
 
-  -- ---- areas
+  -- ---- regions
 
-  part_is : (x y : ℕ) (found : Option ℕ) → seen_at d.columns x y ≡ found → IsAreaOf d y (part_of d x y found)
+  part_is : (x y : ℕ) (found : Option ℕ) → seen_at d.columns x y ≡ found → IsRegionOf d y (part_of d x y found)
   part_is x y None is = tt
   part_is x y (Some v) is = by_row (y + 1 == placed_top d.columns v) refl (x == left d v) where
     stands : StandsAt d.columns v x y
     stands = seen_placed d.columns v x y shaped.places.columns_hold is
 
     by_row : (top : Bool) → (y + 1 == placed_top d.columns v) ≡ top → (bar : Bool)
-        → IsAreaOf d y (if top then Menu v else (if bar then Bar v else Body v))
+        → IsRegionOf d y (if top then Menu v else (if bar then Bar v else Body v))
     by_row true at bar = stands.placed
     by_row false at true = (stands.placed, row_low (eqb-false (y + 1) (placed_top d.columns v) at)) where
       row_low : ¬ (y + 1 ≡ placed_top d.columns v) → frame_row d v y < rows_of d v
@@ -711,12 +716,12 @@ module _ (d : Desktop) (shaped : IsShaped d) where
       row_low : ¬ (y + 1 ≡ placed_top d.columns v) → frame_row d v y < rows_of d v
       row_low other = let from = stands.from in let before = stands.before in omega (arith, from, before, other)
 
-  area_is : (x y : ℕ) → IsAreaOf d y (area_at d x y)
-  unfolding area_at
-  area_is x y = part_is x y (seen_at d.columns x y) refl
+  region_is : (x y : ℕ) → IsRegionOf d y (region_at d x y)
+  unfolding region_at
+  region_is x y = part_is x y (seen_at d.columns x y) refl
 
-  pointed_shaped : (version : ℕ) (area : Area) (keys : Keys) (x0 y0 x1 y1 : ℕ) → IsAreaOf d y0 area
-      → IfOk (pointed version d area keys x0 y0 x1 y1) IsShaped
+  pointed_shaped : (version : ℕ) (region : Region) (keys : Keys) (x0 y0 x1 y1 : ℕ) → IsRegionOf d y0 region
+      → IfOk (pointed version d region keys x0 y0 x1 y1) IsShaped
   unfolding pointed
   pointed_shaped version Filler Middle x0 y0 x1 y1 is = tool_opened_shaped x0 y0
   pointed_shaped version Filler Left x0 y0 x1 y1 is = shaped
@@ -789,8 +794,8 @@ module _ (d : Desktop) (shaped : IsShaped d) where
       y)
   raw_shaped version (Point keys x0 y0 x1 y1) is =
       by_test IsShaped (is_on_display x0 y0 && is_on_display x1 y1) outside
-      (pointed version d (area_at d x0 y0) keys x0 y0 x1 y1)
-      (λ on. pointed_shaped version (area_at d x0 y0) keys x0 y0 x1 y1 (area_is x0 y0))
+      (pointed version d (region_at d x0 y0) keys x0 y0 x1 y1)
+      (λ on. pointed_shaped version (region_at d x0 y0) keys x0 y0 x1 y1 (region_is x0 y0))
   raw_shaped version (File name bytes) is =
       by_test IsShaped (has_room d.files name) too_many_files (Ok (filed d name (plain bytes)))
       (λ room. filed_shaped d name (plain bytes) shaped is.0 room (plain_looks bytes))
@@ -809,7 +814,8 @@ settled_sound d (Ok new) sound shaped = (elim (fits (dropped new)) as (λ b. fit
       | false ↦ λ unfit. sound
     ]) refl
 
-pub steps_keep_sound : (d : Desktop) (event : Event) → IsSound d → IsEvent event → IsSound (step d event).0
-unfolding step step_in
-steps_keep_sound d event sound is =
-    settled_sound d (raw first_version d event) sound (raw_shaped d sound.shaped first_version event is)
+pub steps_keep_sound : (version : ℕ) (d : Desktop) (event : Event) → IsSound d → IsEvent event
+    → IsSound (step_in version d event).0
+unfolding step_in
+steps_keep_sound version d event sound is =
+    settled_sound d (raw version d event) sound (raw_shaped d sound.shaped version event is)

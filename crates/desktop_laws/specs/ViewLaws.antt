@@ -22,7 +22,7 @@ use Rattle.viewer_tracks.specs.declared.display.Track.{Track}
 use Rattle.viewer_tracks.specs.declared.display.Track.TheVariants.{User, System}
 use Rattle.viewer_tracks.specs.declared.display.TheConstants.{ROWS}
 use Rattle.viewer_tracks.specs.Display.{left_of}
-use Rattle.viewer_tracks.specs.Viewers.{Entry as Standing, IsTrack, viewer_of as standing_at, times_in}
+use Rattle.viewer_tracks.specs.Viewers.{Entry as Standing, IsTrack, entry_viewer as standing_at, times_in}
 use Rattle.viewer_tracks.specs.Columns.{Columns, IsColumns, IsPlaced, times_on, topmost, shown}
 use Rattle.viewer_tracks.specs.Columns.{placed_bottom, placed_top}
 use Rattle.desktop_definitions.specs.declared.viewer.Viewer.{Viewer}
@@ -36,7 +36,7 @@ use Rattle.desktop_definitions.specs.Desktop.{KeptDesktop}
 use Rattle.desktop_definitions.specs.Seen.{seen, seen_text, seen_table}
 use Rattle.desktop_definitions.specs.Viewers.{viewer_in, viewer_or_none, text_in}
 use Rattle.desktop_definitions.specs.Change.{bytes_of}
-use Rattle.desktop_definitions.specs.Listing.{name_in, viewer_entry}
+use Rattle.desktop_definitions.specs.Listing.{listed_name, viewer_entry}
 use Rattle.desktop_definitions.specs.Sound.{ArePlaces, AreMarks}
 use Rattle.desktop_laws.specs.TextLaws.{text_in_seen}
 
@@ -159,36 +159,37 @@ from_place (y ∷ l) zero x is = let same : y ≡ x = cc is in ap (λ z. z ∷ l
 from_place (y ∷ l) (suc n) x is = from_place l n x is
 
 name_from : (c : ℕ × Look) (menu : Text ℕ)
-    → name_in (c ∷ menu) ≡ (if not (c.0 == space) then c.0 ∷ name_in menu else [])
+    → listed_name (c ∷ menu) ≡ (if not (c.0 == space) then c.0 ∷ listed_name menu else [])
 name_from c menu = take_while-cons (λ b. not (b == space)) c.0 (bytes_of menu)
 
-module _ (menu : Text ℕ) (before : List ℕ) (from : ℕ) (so_far : before ++ name_in (drop from menu) ≡ name_in menu) where
+module _ (menu : Text ℕ) (before : List ℕ) (from : ℕ)
+    (so_far : before ++ listed_name (drop from menu) ≡ listed_name menu) where
   pub name_more : (after : List ℕ) (to : ℕ) (c : ℕ × Look) → slice_get menu from ≡ Some c → (c.0 == space) ≡ false
-      → to ≡ from + 1 → after ≡ before ++ c.0 ∷ [] → after ++ name_in (drop to menu) ≡ name_in menu
+      → to ≡ from + 1 → after ≡ before ++ c.0 ∷ [] → after ++ listed_name (drop to menu) ≡ listed_name menu
   name_more after to c is other next grown =
       let step : suc from ≡ to = omega (arith, next) in
-      let here : name_in (drop from menu) ≡ c.0 ∷ name_in (drop to menu) =
-      ap name_in (from_place menu from c is) ∙ name_from c (drop (suc from) menu)
-      ∙ ap (λ b. if not b then c.0 ∷ name_in (drop (suc from) menu) else []) other
-      ∙ ap (λ n. c.0 ∷ name_in (drop n menu)) step in
+      let here : listed_name (drop from menu) ≡ c.0 ∷ listed_name (drop to menu) =
+      ap listed_name (from_place menu from c is) ∙ name_from c (drop (suc from) menu)
+      ∙ ap (λ b. if not b then c.0 ∷ listed_name (drop (suc from) menu) else []) other
+      ∙ ap (λ n. c.0 ∷ listed_name (drop n menu)) step in
       rw (grown, append_assoc) (ap (λ (rest : List ℕ). before ++ rest) (sym here) ∙ so_far)
 
-  pub name_at_space : (c : ℕ × Look) → slice_get menu from ≡ Some c → (c.0 == space) ≡ true → before ≡ name_in menu
+  pub name_at_space : (c : ℕ × Look) → slice_get menu from ≡ Some c → (c.0 == space) ≡ true → before ≡ listed_name menu
   name_at_space c is last =
-      let here : name_in (drop from menu) ≡ [] =
-      ap name_in (from_place menu from c is) ∙ name_from c (drop (suc from) menu)
-      ∙ ap (λ b. if not b then c.0 ∷ name_in (drop (suc from) menu) else []) last in
+      let here : listed_name (drop from menu) ≡ [] =
+      ap listed_name (from_place menu from c is) ∙ name_from c (drop (suc from) menu)
+      ∙ ap (λ b. if not b then c.0 ∷ listed_name (drop (suc from) menu) else []) last in
       sym (append-nil before) ∙ ap (λ (rest : List ℕ). before ++ rest) (sym here) ∙ so_far
 
-  pub name_at_end : from ≡ length menu → before ≡ name_in menu
+  pub name_at_end : from ≡ length menu → before ≡ listed_name menu
   name_at_end last =
-      let here : name_in (drop from menu) ≡ [] = ap name_in (drop_all from menu (omega (arith, last))) in
+      let here : listed_name (drop from menu) ≡ [] = ap listed_name (drop_all from menu (omega (arith, last))) in
       sym (append-nil before) ∙ ap (λ (rest : List ℕ). before ++ rest) (sym here) ∙ so_far
 
 -- ---- the list of a track's viewers
 
 pub viewer_entry_seen : (characters : List ℕ) (d : KeptDesktop) (track : Track) (v : ℕ) (name : List ℕ) (len : ℕ)
-    → name ≡ name_in (seen_text characters (text_in d.texts (viewer_or_none d.viewers v).menu))
+    → name ≡ listed_name (seen_text characters (text_in d.texts (viewer_or_none d.viewers v).menu))
     → len ≡ length (flat (text_in d.texts (viewer_or_none d.viewers v).main))
     → ViewerEntry (left_of track) (placed_bottom d.columns v) (placed_top d.columns v) name len
     ≡ viewer_entry (seen characters d) track v
@@ -196,8 +197,8 @@ unfolding seen
 viewer_entry_seen characters d track v name len named long =
     let menu = (viewer_or_none d.viewers v).menu in
     let main = (viewer_or_none d.viewers v).main in
-    let same_name : name ≡ name_in (text_in (seen_table characters d.texts) menu) =
-    named ∙ ap name_in (sym (text_in_seen characters d.texts menu)) in
+    let same_name : name ≡ listed_name (text_in (seen_table characters d.texts) menu) =
+    named ∙ ap listed_name (sym (text_in_seen characters d.texts menu)) in
     let same_len : len ≡ length (text_in (seen_table characters d.texts) main) =
     long ∙ sym (length_seen_text characters (text_in d.texts main))
     ∙ ap length (sym (text_in_seen characters d.texts main)) in

@@ -4,7 +4,7 @@ ghost use Rattle.event_bytes.specs.declared.event.Event.{Event};
 ghost use Rattle.event_bytes.specs.Spelling.{IsEvent};
 ghost use Rattle.desktop_definitions.specs.Desktop.{Desktop, KeptDesktop, empty_desktop};
 ghost use Rattle.desktop_definitions.specs.Seen.{seen};
-ghost use Rattle.desktop_definitions.specs.Step.{step, steps};
+ghost use Rattle.desktop_definitions.specs.Step.{step, step_in, steps, steps_in};
 ghost use Rattle.desktop_definitions.specs.Sound.{IsSound, IsOver};
 
 /// The empty desktop is sound.
@@ -12,15 +12,18 @@ pub fn empty_is_sound()
     ensures { IsSound empty_desktop }
 {}
 
-/// An event leaves a sound desktop sound, whatever the reply is.
+/// An event leaves a sound desktop sound in every version, whatever the reply is.
 pub fn steps_keep_sound()
-    ensures { (d : Desktop) (event : Event) → IsSound d → IsEvent event → IsSound (step d event).0 }
+    ensures { (version : ℕ) (d : Desktop) (event : Event) → IsSound d → IsEvent event
+        → IsSound (step_in version d event).0 }
 {}
 
 /// The desktop after events and one event more is the desktop after that event, from where the others led.
 pub fn steps_of_more()
-    ensures { (d : Desktop) (events : List Event) (event : Event)
+    ensures newest { (d : Desktop) (events : List Event) (event : Event)
         → steps d (events ++ event ∷ []) ≡ (step (steps d events) event).0 }
+    ensures each { (version : ℕ) (d : Desktop) (events : List Event) (event : Event)
+        → steps_in version d (events ++ event ∷ []) ≡ (step_in version (steps_in version d events) event).0 }
 {}
 
 /// A desktop over its characters is seen as before once there are more of them.

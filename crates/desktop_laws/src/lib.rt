@@ -1,8 +1,8 @@
 //! Laws of the desktop's definitions.
 //!
 //! What the code above needs to know of `desktop_definitions`, shown for every desktop and every event, so that a
-//! change of code shows none of it again. Three of them are promises of public calls: the empty desktop is sound, events one
-//! after another are one list of events, and characters that are added change nothing of what is seen.
+//! change of code shows none of it again. Three of them are promises of public calls: the empty desktop is sound,
+//! events one after another are one list of events, and characters that are added change nothing of what is seen.
 #![tactic(auto)]
 
 mod laws;

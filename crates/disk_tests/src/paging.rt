@@ -156,7 +156,7 @@ fn settled<D: Disk>(alloc: Global, disk: &mut D) -> Result<(u32, (u32, u32, u32)
     if pages.len() < KEPT || pages.len() - pages.rest().len() as u32 > KEPT {
         return Err("too few".into());
     }
-    pages.settle(KEPT);
+    pages.settle(BASE, KEPT);
     let counted = count_over(disk, &mut pages, false);
     Ok((added, counted, pages.held()))
 }

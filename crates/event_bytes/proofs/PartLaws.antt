@@ -4,7 +4,7 @@ use Rattle.std.proofs.Common.{◌++◌, length, take, drop, Option, Some, None, 
 use Rattle.std.proofs.Common.{arith, length-append}
 use Rattle.std.proofs.lemmas.Bool.{ltb-true, ltb-false, lt-ltb, le-ltb}
 use Rattle.std.proofs.lemmas.List.{take-append-drop, length-take, take_at, drop_at}
-use Rattle.event_bytes.specs.Parts.{Reader, ◌>>=◌, when, byte, word, counted, byte_at, word_at, bytes_at, counted_at}
+use Rattle.event_bytes.specs.Parts.{Reader, ◌>>=◌, when, byte, word, counted, byte_at, pair_at, bytes_at, counted_at}
 use Rattle.event_bytes.specs.Parts.{Takes, IsPart}
 
 abbrev pub given : {A : Type 0} → A → Option A
@@ -225,11 +225,11 @@ word_of high low small small' =
     (let e : (high * 256 + low) / 256 % 256 ≡ high = omega (arith, small, small') in e)
     (let e : (high * 256 + low) % 256 ≡ low = omega (arith, small, small') in e)
 
-pub word_part : IsPart word (λ n. n < 2 ^ 16) word_at
-unfolding word_at byte_at
+pub word_part : IsPart word (λ n. n < 2 ^ 16) pair_at
+unfolding pair_at byte_at
 word_part = record { takes = from; again = back }
   where
-    from : (bytes : List ℕ) (x : ℕ) (rest : List ℕ) → word_at bytes ≡ Some (x, rest)
+    from : (bytes : List ℕ) (x : ℕ) (rest : List ℕ) → pair_at bytes ≡ Some (x, rest)
         → Takes word (λ n. n < 2 ^ 16) bytes x rest
     from bytes x rest e =
         let (high, high_is, e1) = bind_some (byte_at bytes) _ _ e in
@@ -244,7 +244,7 @@ word_part = record { takes = from; again = back }
         subst (λ (y : ℕ × List ℕ). Takes word (λ n. n < 2 ^ 16) bytes y.0 y.1)
         (some_is {A = ℕ × List ℕ} (high.0 * 256 + low.0, low.1) (x, rest) e2) here
 
-    back : (n : ℕ) (rest : List ℕ) → n < 2 ^ 16 → word_at (word n ++ rest) ≡ Some (n, rest)
+    back : (n : ℕ) (rest : List ℕ) → n < 2 ^ 16 → pair_at (word n ++ rest) ≡ Some (n, rest)
     back n rest small =
         let high : n / 256 % 256 < 256 = omega arith in
         let low : n % 256 < 256 = omega arith in

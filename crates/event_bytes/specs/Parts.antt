@@ -39,8 +39,8 @@ unfoldable pub byte_at : Reader ℕ
 byte_at [] = None
 byte_at (b ∷ bs) = if nat_lt b 256 then Some (b, bs) else None
 
-unfoldable pub word_at : Reader ℕ
-word_at bytes = do
+unfoldable pub pair_at : Reader ℕ
+pair_at bytes = do
   high ← byte_at bytes
   low ← byte_at high.1
   Some (high.0 * 256 + low.0, low.1)

@@ -2,7 +2,7 @@
 use Rattle.std.specs.Prelude.{ℕ, if◌then◌else◌, ◌==◌, List, Some, None}
 use Rattle.event_bytes.specs.Bytes.{is_name, is_file_bytes, is_typed_bytes}
 use Rattle.event_bytes.specs.Keys.{key_of, keys_of}
-use Rattle.event_bytes.specs.Parts.{Reader, ◌>>=◌, when, byte_at, word_at, counted_at}
+use Rattle.event_bytes.specs.Parts.{Reader, ◌>>=◌, when, byte_at, pair_at, counted_at}
 use Rattle.event_bytes.specs.declared.keys.Key.{Key as KeyOf}
 use Rattle.event_bytes.specs.declared.keys.Keys.{Keys}
 use Rattle.event_bytes.specs.declared.event.Cell.{Cell}
@@ -14,10 +14,10 @@ unfoldable pub name_at : Reader (List ℕ)
 name_at bytes = when is_name (counted_at byte_at) bytes
 
 unfoldable pub file_bytes_at : Reader (List ℕ)
-file_bytes_at bytes = when is_file_bytes (counted_at word_at) bytes
+file_bytes_at bytes = when is_file_bytes (counted_at pair_at) bytes
 
 unfoldable pub typed_bytes_at : Reader (List ℕ)
-typed_bytes_at bytes = when is_typed_bytes (counted_at word_at) bytes
+typed_bytes_at bytes = when is_typed_bytes (counted_at pair_at) bytes
 
 unfoldable pub file_at : Reader (List ℕ × List ℕ)
 file_at bytes = do

@@ -1,7 +1,7 @@
 //! The event that bytes begin with.
 ghost use Rattle.std.specs.Prelude.{◌≡◌, ◌≤◌, length, Some, IfSome};
 ghost use Rattle.std.specs.Option.{option_map};
-ghost use Rattle.event_bytes.specs.Parts.{value_and_rest, byte_at, word_at, bytes_at, counted_at};
+ghost use Rattle.event_bytes.specs.Parts.{value_and_rest, byte_at, pair_at, bytes_at, counted_at};
 ghost use Rattle.event_bytes.specs.Spelling.{spelling, Begins};
 ghost use Rattle.event_bytes.specs.Reading.{name_at, file_bytes_at, typed_bytes_at, file_at, key_at, keys_at, cell_at};
 ghost use Rattle.event_bytes.specs.Reading.{drag_at, typed_body_at, key_body_at, mark_body_at, point_body_at};
@@ -205,9 +205,9 @@ fn byte_from(bytes: &[u8]) -> Option<(u8, &[u8])>
 }
 
 /// A number in two bytes, the higher first, and the rest.
-#[tactic(auto, unfolding(crate::specs::Parts::word_at))]
+#[tactic(auto, unfolding(crate::specs::Parts::pair_at))]
 fn word_from(bytes: &[u8]) -> Option<(u16, &[u8])>
-    ensures { value_and_rest result ≡ word_at bytes.now }
+    ensures { value_and_rest result ≡ pair_at bytes.now }
 {
     let (high, rest) = byte_from(bytes)?;
     let (low, rest) = byte_from(rest)?;

@@ -1,4 +1,4 @@
--- The table of gestures, area by area.
+-- The table of gestures, region by region.
 use Rattle.std.specs.Prelude.{◌≡◌, ◌||◌, not, ℕ, Bool, true, List, [], Option, Some, None, is_none}
 use Rattle.std.specs.Prelude.{Result, Ok, IfOk}
 use Rattle.std.proofs.lemmas.Result.{IfOk-weaker}
@@ -7,10 +7,10 @@ use Rattle.event_bytes.specs.declared.keys.Keys.{Keys}
 use Rattle.event_bytes.specs.declared.keys.Keys.TheVariants.{Left, LeftMiddle, LeftRight, Middle, Right, RightLeft}
 use Rattle.event_bytes.specs.declared.keys.Keys.TheVariants.{RightMiddle}
 use Rattle.desktop_definitions.specs.declared.reply.Reply.{Reply}
-use Rattle.desktop_definitions.specs.declared.area.Area.{Area}
-use Rattle.desktop_definitions.specs.declared.area.Area.TheVariants.{Filler, Menu, Bar, Body}
+use Rattle.desktop_definitions.specs.declared.region.Region.{Region}
+use Rattle.desktop_definitions.specs.declared.region.Region.TheVariants.{Filler, Menu, Bar, Body}
 use Rattle.desktop_definitions.specs.declared.viewer.Selection.{Selection}
-use Rattle.desktop_definitions.specs.Limits.{first_version, outside}
+use Rattle.desktop_definitions.specs.Limits.{outside}
 use Rattle.desktop_definitions.specs.Needs.{unless}
 use Rattle.desktop_definitions.specs.Unread.{gesture_needs_no_byte, gesture_brings, grown}
 use Rattle.desk_core.specs.Row.{SettlesUnread, SettlesBringing}
@@ -18,12 +18,12 @@ use Rattle.desktop_definitions.specs.Desktop.{Desktop, KeptDesktop}
 use Rattle.desktop_definitions.specs.Seen.{seen}
 use Rattle.desktop_definitions.specs.Step.{settled}
 use Rattle.desktop_definitions.specs.Outcome.{IsAnswered}
-use Rattle.desktop_definitions.specs.Gesture.{area_at, frame_row, pointed, scrolled_to_row, scrolled_to_share}
+use Rattle.desktop_definitions.specs.Gesture.{region_at, frame_row, pointed, scrolled_to_row, scrolled_to_share}
 use Rattle.desk_core.specs.Mouse.{done_in_filler, done_in_menu, done_in_bar, done_at, done_with}
 use Rattle.desktop_definitions.specs.Viewers.{newest}
 use Rattle.desktop_laws.specs.KeyLaws.{copied_to_none, looks_taken_none}
 use Rattle.desk_core.specs.declared.stop.Stop.{Stop}
-use Rattle.desk_core.proofs.PositionLemmas.{area_seen}
+use Rattle.desk_core.proofs.PositionLemmas.{region_seen}
 
 -- ---- what isn't in the table
 
@@ -32,13 +32,13 @@ unfolding done_in_filler
 filler_rest d Middle x y other = absurd (other refl)
 filler_rest d keys x y other = refl
 
-pub menu_rest : (d : Desktop) (keys : Keys) (v x y : ℕ) → ¬ (keys ≡ Left) → ¬ (keys ≡ LeftMiddle)
-    → ¬ (keys ≡ Middle) → done_in_menu d keys v x y ≡ Ok d
+pub menu_rest : (version : ℕ) (d : Desktop) (keys : Keys) (v x y : ℕ) → ¬ (keys ≡ Left) → ¬ (keys ≡ LeftMiddle)
+    → ¬ (keys ≡ Middle) → done_in_menu version d keys v x y ≡ Ok d
 unfolding done_in_menu
-menu_rest d Left v x y one two three = absurd (one refl)
-menu_rest d LeftMiddle v x y one two three = absurd (two refl)
-menu_rest d Middle v x y one two three = absurd (three refl)
-menu_rest d keys v x y one two three = refl
+menu_rest version d Left v x y one two three = absurd (one refl)
+menu_rest version d LeftMiddle v x y one two three = absurd (two refl)
+menu_rest version d Middle v x y one two three = absurd (three refl)
+menu_rest version d keys v x y one two three = refl
 
 pub bar_rest : (d : Desktop) (keys : Keys) (v row : ℕ) → ¬ (keys ≡ Left) → ¬ (keys ≡ Middle) → ¬ (keys ≡ Right)
     → done_in_bar d keys v row ≡ Ok d
@@ -48,14 +48,14 @@ bar_rest d Middle v row one two three = absurd (two refl)
 bar_rest d Right v row one two three = absurd (three refl)
 bar_rest d keys v row one two three = refl
 
-pub at_rest : (d : Desktop) (keys : Keys) (v p : ℕ) → ¬ (keys ≡ Left) → ¬ (keys ≡ LeftMiddle)
-    → ¬ (keys ≡ LeftRight) → ¬ (keys ≡ Middle) → done_at d keys v p ≡ Ok d
+pub at_rest : (version : ℕ) (d : Desktop) (keys : Keys) (v p : ℕ) → ¬ (keys ≡ Left) → ¬ (keys ≡ LeftMiddle)
+    → ¬ (keys ≡ LeftRight) → ¬ (keys ≡ Middle) → done_at version d keys v p ≡ Ok d
 unfolding done_at
-at_rest d Left v p one two three four = absurd (one refl)
-at_rest d LeftMiddle v p one two three four = absurd (two refl)
-at_rest d LeftRight v p one two three four = absurd (three refl)
-at_rest d Middle v p one two three four = absurd (four refl)
-at_rest d keys v p one two three four = refl
+at_rest version d Left v p one two three four = absurd (one refl)
+at_rest version d LeftMiddle v p one two three four = absurd (two refl)
+at_rest version d LeftRight v p one two three four = absurd (three refl)
+at_rest version d Middle v p one two three four = absurd (four refl)
+at_rest version d keys v p one two three four = refl
 
 pub with_rest : (d : Desktop) (keys : Keys) (s : Selection) → ¬ (keys ≡ Right) → ¬ (keys ≡ RightLeft)
     → ¬ (keys ≡ RightMiddle) → done_with d keys s ≡ Ok d
@@ -65,82 +65,84 @@ with_rest d RightLeft s one two three = absurd (two refl)
 with_rest d RightMiddle s one two three = absurd (three refl)
 with_rest d keys s one two three = refl
 
--- ---- each area
+-- ---- each region
 
-pub pointed_filler : (d : Desktop) (keys : Keys) (x0 y0 x1 y1 : ℕ)
-    → done_in_filler d keys x0 y0 ≡ pointed first_version d Filler keys x0 y0 x1 y1
+pub pointed_filler : (version : ℕ) (d : Desktop) (keys : Keys) (x0 y0 x1 y1 : ℕ)
+    → done_in_filler d keys x0 y0 ≡ pointed version d Filler keys x0 y0 x1 y1
 unfolding pointed done_in_filler
-pointed_filler d Middle x0 y0 x1 y1 = refl
-pointed_filler d keys x0 y0 x1 y1 = refl
+pointed_filler version d Middle x0 y0 x1 y1 = refl
+pointed_filler version d keys x0 y0 x1 y1 = refl
 
-pub pointed_menu : (d : Desktop) (keys : Keys) (v x0 y0 x1 y1 : ℕ)
-    → done_in_menu d keys v x1 y1 ≡ pointed first_version d (Menu v) keys x0 y0 x1 y1
+pub pointed_menu : (version : ℕ) (d : Desktop) (keys : Keys) (v x0 y0 x1 y1 : ℕ)
+    → done_in_menu version d keys v x1 y1 ≡ pointed version d (Menu v) keys x0 y0 x1 y1
 unfolding pointed done_in_menu
-pointed_menu d Middle v x0 y0 x1 y1 = refl
-pointed_menu d keys v x0 y0 x1 y1 = refl
+pointed_menu version d Middle v x0 y0 x1 y1 = refl
+pointed_menu version d keys v x0 y0 x1 y1 = refl
 
-pub pointed_bar : (d : Desktop) (keys : Keys) (v row x0 y0 x1 y1 : ℕ) → row ≡ frame_row d v y0
-    → done_in_bar d keys v row ≡ pointed first_version d (Bar v) keys x0 y0 x1 y1
+pub pointed_bar : (version : ℕ) (d : Desktop) (keys : Keys) (v row x0 y0 x1 y1 : ℕ) → row ≡ frame_row d v y0
+    → done_in_bar d keys v row ≡ pointed version d (Bar v) keys x0 y0 x1 y1
 unfolding pointed done_in_bar
-pointed_bar d Left v row x0 y0 x1 y1 is = ap (λ r. Ok (scrolled_to_row d v r)) is
-pointed_bar d Middle v row x0 y0 x1 y1 is = ap (λ r. Ok (scrolled_to_share d v r)) is
-pointed_bar d keys v row x0 y0 x1 y1 is = refl
+pointed_bar version d Left v row x0 y0 x1 y1 is = ap (λ r. Ok (scrolled_to_row d v r)) is
+pointed_bar version d Middle v row x0 y0 x1 y1 is = ap (λ r. Ok (scrolled_to_share d v r)) is
+pointed_bar version d keys v row x0 y0 x1 y1 is = refl
 
--- what is done where both cells are on the display, and the first is in that area
-pub pointed_there : (H : Type 0) (old new : List ℕ) (d after : KeptDesktop) (keys : Keys) (x0 y0 x1 y1 : ℕ)
-    (result : Result Reply Stop) {inside : Bool} {area : Area} {outcome : Result Desktop ℕ} → inside ≡ true
-    → area ≡ area_at d x0 y0 → outcome ≡ pointed first_version (seen old d) area keys x0 y0 x1 y1
+-- what is done where both cells are on the display, and the first is in that region
+pub pointed_there : (version : ℕ) (H : Type 0) (old new : List ℕ) (d after : KeptDesktop) (keys : Keys)
+    (x0 y0 x1 y1 : ℕ)
+    (result : Result Reply Stop) {inside : Bool} {region : Region} {outcome : Result Desktop ℕ} → inside ≡ true
+    → region ≡ region_at d x0 y0 → outcome ≡ pointed version (seen old d) region keys x0 y0 x1 y1
     → IfOk result (λ reply. IsAnswered H old new d after (settled (seen old d) outcome) reply)
     → IfOk result (λ reply. IsAnswered H old new d after (settled (seen old d)
-    (unless inside outside (pointed first_version (seen old d) (area_at (seen old d) x0 y0) keys x0 y0 x1 y1))) reply)
-pointed_there H old new d after keys x0 y0 x1 y1 result inside here is answered =
+    (unless inside outside (pointed version (seen old d) (region_at (seen old d) x0 y0) keys x0 y0 x1 y1))) reply)
+pointed_there version H old new d after keys x0 y0 x1 y1 result inside here is answered =
     let x = seen old d in
     subst (λ (o : Result Desktop ℕ). IfOk result (λ reply. IsAnswered H old new d after (settled x o) reply))
-    (is ∙ ap (λ (a : Area). pointed first_version x a keys x0 y0 x1 y1) (here ∙ sym (area_seen old d x0 y0))
-    ∙ sym (ap (λ (b : Bool). unless b outside (pointed first_version x (area_at x x0 y0) keys x0 y0 x1 y1)) inside))
+    (is ∙ ap (λ (a : Region). pointed version x a keys x0 y0 x1 y1) (here ∙ sym (region_seen old d x0 y0))
+    ∙ sym (ap (λ (b : Bool). unless b outside (pointed version x (region_at x x0 y0) keys x0 y0 x1 y1)) inside))
     answered
 
 -- ---- a text
 
-pub pointed_rest : (d : Desktop) (keys : Keys) (v x0 y0 x1 y1 : ℕ) → ¬ (keys ≡ Left) → ¬ (keys ≡ LeftMiddle)
+pub pointed_rest : (version : ℕ) (d : Desktop) (keys : Keys) (v x0 y0 x1 y1 : ℕ) → ¬ (keys ≡ Left)
+    → ¬ (keys ≡ LeftMiddle)
     → ¬ (keys ≡ LeftRight) → ¬ (keys ≡ Right) → ¬ (keys ≡ RightLeft) → ¬ (keys ≡ RightMiddle) → ¬ (keys ≡ Middle)
-    → pointed first_version d (Body v) keys x0 y0 x1 y1 ≡ Ok d
+    → pointed version d (Body v) keys x0 y0 x1 y1 ≡ Ok d
 unfolding pointed
-pointed_rest d Left v x0 y0 x1 y1 a b c e f h i = absurd (a refl)
-pointed_rest d LeftMiddle v x0 y0 x1 y1 a b c e f h i = absurd (b refl)
-pointed_rest d LeftRight v x0 y0 x1 y1 a b c e f h i = absurd (c refl)
-pointed_rest d Right v x0 y0 x1 y1 a b c e f h i = absurd (e refl)
-pointed_rest d RightLeft v x0 y0 x1 y1 a b c e f h i = absurd (f refl)
-pointed_rest d RightMiddle v x0 y0 x1 y1 a b c e f h i = absurd (h refl)
-pointed_rest d Middle v x0 y0 x1 y1 a b c e f h i = absurd (i refl)
-pointed_rest d keys v x0 y0 x1 y1 a b c e f h i = refl
+pointed_rest version d Left v x0 y0 x1 y1 a b c e f h i = absurd (a refl)
+pointed_rest version d LeftMiddle v x0 y0 x1 y1 a b c e f h i = absurd (b refl)
+pointed_rest version d LeftRight v x0 y0 x1 y1 a b c e f h i = absurd (c refl)
+pointed_rest version d Right v x0 y0 x1 y1 a b c e f h i = absurd (e refl)
+pointed_rest version d RightLeft v x0 y0 x1 y1 a b c e f h i = absurd (f refl)
+pointed_rest version d RightMiddle v x0 y0 x1 y1 a b c e f h i = absurd (h refl)
+pointed_rest version d Middle v x0 y0 x1 y1 a b c e f h i = absurd (i refl)
+pointed_rest version d keys v x0 y0 x1 y1 a b c e f h i = refl
 
 -- ---- where no character is read
 
-needs_none : (d : KeptDesktop) (inside : Bool) (area there : Area) (keys : Keys) → inside ≡ true → area ≡ there
-    → (not inside || gesture_needs_no_byte d there keys) ≡ true → gesture_needs_no_byte d area keys ≡ true
-needs_none d inside area there keys is same none =
+needs_none : (d : KeptDesktop) (inside : Bool) (region there : Region) (keys : Keys) → inside ≡ true → region ≡ there
+    → (not inside || gesture_needs_no_byte d there keys) ≡ true → gesture_needs_no_byte d region keys ≡ true
+needs_none d inside region there keys is same none =
     (λ k. not (sym is k) || gesture_needs_no_byte d (same k) keys) ∙ none
 
--- the row of an area is that of both cells
-pub unread_there : (d after : KeptDesktop) (keys : Keys) (x0 y0 x1 y1 : ℕ) (result : Result Reply Stop)
-    (row : Desktop → Result Desktop ℕ) {inside : Bool} {area : Area} → inside ≡ true → area ≡ area_at d x0 y0
-    → (not inside || gesture_needs_no_byte d (area_at d x0 y0) keys) ≡ true
-    → ((all : List ℕ) → row (seen all d) ≡ pointed first_version (seen all d) area keys x0 y0 x1 y1)
-    → (gesture_needs_no_byte d area keys ≡ true
-    → IfOk result (SettlesBringing (gesture_brings area keys) (λ all. row (seen all d)) d after))
-    → IfOk result (SettlesBringing (gesture_brings (area_at d x0 y0) keys) (λ all. unless inside outside
-    (pointed first_version (seen all d) (area_at (seen all d) x0 y0) keys x0 y0 x1 y1)) d after)
-unread_there d after keys x0 y0 x1 y1 result row {inside} {area} there here none is so =
-    IfOk-weaker result (SettlesBringing (gesture_brings area keys) (λ all. row (seen all d)) d after) _
+-- the row of a region is that of both cells
+pub unread_there : (version : ℕ) (d after : KeptDesktop) (keys : Keys) (x0 y0 x1 y1 : ℕ) (result : Result Reply Stop)
+    (row : Desktop → Result Desktop ℕ) {inside : Bool} {region : Region} → inside ≡ true → region ≡ region_at d x0 y0
+    → (not inside || gesture_needs_no_byte d (region_at d x0 y0) keys) ≡ true
+    → ((all : List ℕ) → row (seen all d) ≡ pointed version (seen all d) region keys x0 y0 x1 y1)
+    → (gesture_needs_no_byte d region keys ≡ true
+    → IfOk result (SettlesBringing (gesture_brings region keys) (λ all. row (seen all d)) d after))
+    → IfOk result (SettlesBringing (gesture_brings (region_at d x0 y0) keys) (λ all. unless inside outside
+    (pointed version (seen all d) (region_at (seen all d) x0 y0) keys x0 y0 x1 y1)) d after)
+unread_there version d after keys x0 y0 x1 y1 result row {inside} {region} there here none is so =
+    IfOk-weaker result (SettlesBringing (gesture_brings region keys) (λ all. row (seen all d)) d after) _
     (λ reply settles all long.
-    ap (λ (a : Area). (seen (grown all (gesture_brings a keys) reply) after, reply)) (sym here)
+    ap (λ (a : Region). (seen (grown all (gesture_brings a keys) reply) after, reply)) (sym here)
     ∙ settles all long ∙ ap (settled (seen all d))
-    (is all ∙ ap (λ (a : Area). pointed first_version (seen all d) a keys x0 y0 x1 y1)
-    (here ∙ sym (area_seen all d x0 y0))
+    (is all ∙ ap (λ (a : Region). pointed version (seen all d) a keys x0 y0 x1 y1)
+    (here ∙ sym (region_seen all d x0 y0))
     ∙ sym (ap (λ (b : Bool). unless b outside
-    (pointed first_version (seen all d) (area_at (seen all d) x0 y0) keys x0 y0 x1 y1)) there)))
-    (so (needs_none d inside area (area_at d x0 y0) keys there here none))
+    (pointed version (seen all d) (region_at (seen all d) x0 y0) keys x0 y0 x1 y1)) there)))
+    (so (needs_none d inside region (region_at d x0 y0) keys there here none))
 
 -- nothing but the tool text brings characters
 pub filler_brings : (keys : Keys) → ¬ (keys ≡ Middle) → gesture_brings Filler keys ≡ []
@@ -153,24 +155,26 @@ none_is None h = refl
 none_is (Some a) h = absurd (cc h)
 
 -- what takes the newest selection is refused without one, wherever the position is
-pub done_anywhere : (all : List ℕ) (d : KeptDesktop) (keys : Keys) (v p q : ℕ)
-    → gesture_needs_no_byte d (Body v) keys ≡ true → done_at (seen all d) keys v p ≡ done_at (seen all d) keys v q
+pub done_anywhere : (version : ℕ) (all : List ℕ) (d : KeptDesktop) (keys : Keys) (v p q : ℕ)
+    → gesture_needs_no_byte d (Body v) keys ≡ true → done_at version (seen all d) keys v p
+    ≡ done_at version (seen all d) keys v q
 unfolding done_at gesture_needs_no_byte seen
-done_anywhere all d Left v p q h = absurd (cc h)
-done_anywhere all d LeftMiddle v p q h =
+done_anywhere version all d Left v p q h = absurd (cc h)
+done_anywhere version all d LeftMiddle v p q h =
     let none = none_is (newest d) h in
     copied_to_none (seen all d) none v p ∙ sym (copied_to_none (seen all d) none v q)
-done_anywhere all d LeftRight v p q h =
+done_anywhere version all d LeftRight v p q h =
     let none = none_is (newest d) h in
     looks_taken_none (seen all d) none v p ∙ sym (looks_taken_none (seen all d) none v q)
-done_anywhere all d Middle v p q h = absurd (cc h)
-done_anywhere all d keys v p q h = refl
+done_anywhere version all d Middle v p q h = absurd (cc h)
+done_anywhere version all d keys v p q h = refl
 
 -- at the position that is nearest to a cell
-pub unread_anywhere : (d after : KeptDesktop) (keys : Keys) (v p : ℕ) (place : Desktop → ℕ) (result : Result Reply Stop)
+pub unread_anywhere : (version : ℕ) (d after : KeptDesktop) (keys : Keys) (v p : ℕ)
+    (place : Desktop → ℕ) (result : Result Reply Stop)
     → gesture_needs_no_byte d (Body v) keys ≡ true
-    → IfOk result (SettlesUnread (λ x. done_at x keys v p) d after)
-    → IfOk result (SettlesUnread (λ x. done_at x keys v (place x)) d after)
-unread_anywhere d after keys v p place result none settles =
-    IfOk-weaker result (SettlesUnread (λ x. done_at x keys v p) d after) _ (λ reply is all long.
-    is all long ∙ ap (settled (seen all d)) (done_anywhere all d keys v p (place (seen all d)) none)) settles
+    → IfOk result (SettlesUnread (λ x. done_at version x keys v p) d after)
+    → IfOk result (SettlesUnread (λ x. done_at version x keys v (place x)) d after)
+unread_anywhere version d after keys v p place result none settles =
+    IfOk-weaker result (SettlesUnread (λ x. done_at version x keys v p) d after) _ (λ reply is all long.
+    is all long ∙ ap (settled (seen all d)) (done_anywhere version all d keys v p (place (seen all d)) none)) settles

@@ -2,31 +2,40 @@
 use Rattle.std.specs.Prelude.{◌≡◌, ℕ, true, List, [], Result, Ok, Err, IfOk}
 use Rattle.std.proofs.Common.{sym, ap, ◌∙◌}
 use Rattle.event_bytes.specs.declared.event.Event.{Event}
+use Rattle.event_bytes.specs.declared.event.Event.TheVariants.{File}
 use Rattle.desktop_definitions.specs.declared.reply.Reply.{Reply}
-use Rattle.desktop_definitions.specs.Limits.{first_version}
+use Rattle.desktop_definitions.specs.Limits.{newest_version}
 use Rattle.desktop_definitions.specs.Desktop.{Desktop, KeptDesktop}
 use Rattle.desktop_definitions.specs.Seen.{seen}
-use Rattle.desktop_definitions.specs.Step.{raw, step, step_in}
+use Rattle.desktop_definitions.specs.Step.{raw, step_in}
 use Rattle.desktop_definitions.specs.Unread.{needs_no_byte, brought, grown, StepsUnread}
 use Rattle.desk_core.specs.declared.stop.Stop.{Stop}
 use Rattle.desk_core.specs.Row.{SettlesUnread, SettlesBringing}
 use Rattle.desk_core.proofs.UnreadLemmas.{brings_none}
 
 -- one whose row brings these characters
-pub bringing_event : (d after : KeptDesktop) (event : Event) (bytes : List ℕ) (result : Result Reply Stop)
+pub bringing_event : (version : ℕ) (d after : KeptDesktop) (event : Event) (bytes : List ℕ) (result : Result Reply Stop)
     → bytes ≡ brought d event
     → (needs_no_byte d event ≡ true
-    → IfOk result (SettlesBringing bytes (λ all. raw first_version (seen all d) event) d after))
-    → IfOk result (StepsUnread d after event)
-unfolding step step_in StepsUnread
-bringing_event d after event bytes (Ok reply) is settles = λ h all long.
+    → IfOk result (SettlesBringing bytes (λ all. raw version (seen all d) event) d after))
+    → IfOk result (StepsUnread version d after event)
+unfolding step_in StepsUnread
+bringing_event version d after event bytes (Ok reply) is settles = λ h all long.
     ap (λ (l : List ℕ). (seen (grown all l reply) after, reply)) (sym is) ∙ settles h all long
-bringing_event d after event bytes (Err stop) is settles = tt
+bringing_event version d after event bytes (Err stop) is settles = tt
 
 -- one whose row brings none
-pub unread_event : (d after : KeptDesktop) (event : Event) (result : Result Reply Stop) → [] ≡ brought d event
-    → (needs_no_byte d event ≡ true → IfOk result (SettlesUnread (λ x. raw first_version x event) d after))
-    → IfOk result (StepsUnread d after event)
-unread_event d after event result is settles =
-    bringing_event d after event [] result is
-    (λ h. brings_none (λ (x : Desktop). raw first_version x event) d after result (settles h))
+pub unread_event : (version : ℕ) (d after : KeptDesktop) (event : Event) (result : Result Reply Stop)
+    → [] ≡ brought d event
+    → (needs_no_byte d event ≡ true → IfOk result (SettlesUnread (λ x. raw version x event) d after))
+    → IfOk result (StepsUnread version d after event)
+unread_event version d after event result is settles =
+    bringing_event version d after event [] result is
+    (λ h. brings_none (λ (x : Desktop). raw version x event) d after result (settles h))
+
+-- a file is put in every version alike
+pub file_unread : (version : ℕ) (d after : KeptDesktop) (name bytes : List ℕ) (result : Result Reply Stop)
+    → IfOk result (StepsUnread newest_version d after (File name bytes))
+    → IfOk result (StepsUnread version d after (File name bytes))
+unfolding StepsUnread step_in raw
+file_unread version d after name bytes result so = so

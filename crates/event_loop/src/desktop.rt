@@ -11,9 +11,10 @@ ghost use Rattle.desk_image.specs.Streams.{IsImageFault};
 ghost use Rattle.desktop_definitions.specs.declared.reply.Reply.TheVariants.{No};
 ghost use Rattle.desktop_definitions.specs.Desktop.{KeptDesktop, empty_desktop, file_of};
 ghost use Rattle.desktop_definitions.specs.Seen.{seen};
-ghost use Rattle.desktop_definitions.specs.Step.{step};
+ghost use Rattle.desktop_definitions.specs.Step.{step_in};
+ghost use Rattle.command_table.specs.Versions.{version_number};
 ghost use Rattle.desktop_definitions.specs.Unread.{StepsUnread, ListsUnread};
-ghost use Rattle.desktop_definitions.specs.Sound.{IsKeptWhole, IsOver, Grows};
+ghost use Rattle.desktop_definitions.specs.Sound.{IsKeptWhole, IsOver};
 ghost use Rattle.desktop_definitions.specs.Outcome.{IsReply, IsUnchanged, IsSameSource};
 ghost use Rattle.desktop_definitions.specs.Listing.{entries_of};
 ghost use Rattle.desktop_definitions.specs.Shown.{shown_screen};
@@ -26,6 +27,7 @@ ghost use Rattle.screen_cells.specs.Lines.{AreLinesOf};
 use crate::events::act;
 use crate::stale::{forget, stale_of};
 use char_file::{CharSource, Fault};
+use command_table::Version;
 use desk_core::desk::{Desk, empty_desk};
 use desk_core::files::{entries, file_of};
 use desk_core::stop::{NoMemory, Stop};
@@ -41,7 +43,7 @@ use std::marker::Model;
 use text_core::Text;
 use viewer_tracks::Track;
 
-/// A desktop: texts by number, the viewers that show them, files by name, and how many characters were ever written.
+/// A desktop: texts by number, the viewers that show them, files by name, and how many characters count as written.
 ///
 /// A clause sees it as it is kept (`KeptDesktop` in `specs/Desktop.antt` of `desktop_definitions`), each text as pieces
 /// that name characters. These stand in a source, among which the desktop is `seen`. Each call that makes or reads
@@ -95,31 +97,32 @@ impl Desktop {
         Ok(Desktop { desk })
     }
 
-    /// Does the event, by this profile's rules, and returns Done, or No with the code of a refusal, which leaves the
-    /// desktop and the length of the source. The source has just the characters that were written, before and after any
-    /// reply. Where the event reads no character (`needs_no_byte`), reply and desktop rest on no source.
+    /// Does the event, by this profile's rules with the commands of that version, and returns Done, or No with the code
+    /// of a refusal, which leaves the desktop and the length of the source. The source has just the characters that
+    /// count as written, before and after any reply: they were added to, or were exchanged for those that the desktop
+    /// holds. Where the event reads no character (`needs_no_byte`), reply and desktop rest on no source.
     ///
     /// NoMemory where an allocation is refused; Fault where a character could not be read. The desktop isn't used again
     /// after either.
     pub fn step<S: CharSource>(
         &mut self,
+        version: Version,
         alloc: Global,
         event: &Event,
         source: &mut S,
     ) -> Result<Reply, Stop>
         requires { IsOver (S.characters source.old) self.old }
         ensures done { IfOk result (λ reply. S.honest source.old → (seen (S.characters source.new) self.new, reply)
-            ≡ step (seen (S.characters source.old) self.old) event.now) }
-        ensures unread { IfOk result (StepsUnread self.old self.new event.now) }
+            ≡ step_in (version_number version) (seen (S.characters source.old) self.old) event.now) }
+        ensures unread { IfOk result (StepsUnread (version_number version) self.old self.new event.now) }
         ensures over { OnOk result (IsOver (S.characters source.new) self.new) }
         ensures replies { IfOk result IsReply }
         ensures refusal { (code : ℕ) → result ≡ Ok (No code)
             → IsUnchanged (S.characters source.old) (S.characters source.new) self.old self.new }
-        ensures grows { S.honest source.old → Grows (S.characters source.old) (S.characters source.new) }
         ensures source { IsSameSource S.failures S.honest S.same_ground source.old source.new }
         ensures faults { FailsAs Stop.Fault IsStop result (S.failures source.old) (S.failures source.new) }
     {
-        act(&mut self.desk, alloc, event, source)
+        act(&mut self.desk, version, alloc, event, source)
     }
 
     /// The text of the file of that name. None exactly where there is no file of that name.
@@ -134,7 +137,7 @@ impl Desktop {
     }
 
     /// An entry for each file, by rising names; one for each viewer of the user track and then of the system track,
-    /// from the bottom up; and at last one for how many characters were ever written.
+    /// from the bottom up; and at last one for how many characters count as written.
     ///
     /// Nothing but the names of viewers is read. NoMemory where an allocation is refused; Fault where a character could
     /// not be read. The desktop stays, whatever is returned.
@@ -154,17 +157,18 @@ impl Desktop {
         Ok(entries)
     }
 
-    /// Gives up the lines of texts that the event may change. Those that are left are so of the texts after it.
+    /// Gives up the lines of texts that the event may change, whatever version it is stepped by. Those that are left
+    /// are so of the texts after it.
     pub fn forget_stale(&self, event: &Event, lines: &mut KeptLines)
-        ensures { (characters : List ℕ) → IsOver characters self.now
+        ensures { (version : ℕ) (characters : List ℕ) → IsOver characters self.now
             → AreLinesOf (text_of (seen characters self.now)) lines.old
-            → AreLinesOf (text_of (step (seen characters self.now) event.now).0) lines.new }
+            → AreLinesOf (text_of (step_in version (seen characters self.now) event.now).0) lines.new }
     {
         forget(lines, stale_of(&self.desk, event));
     }
 
-    /// Paints what the desktop shows: its viewers, with the caret and what is selected, and the marker. `lines` has what
-    /// is kept of the screens before: a row whose line is kept isn't read, and the lines of the others are kept.
+    /// Paints what the desktop shows: its viewers, with the caret and what is selected, and the marker. `lines` has
+    /// what is kept of the screens before: a row whose line is kept isn't read, and the lines of the others are kept.
     ///
     /// NoMemory where an allocation is refused; Fault where a character could not be read, and the screen may then show
     /// anything. The desktop stays, whatever is returned.
@@ -200,7 +204,7 @@ impl Desktop {
         put_image(&self.desk, sink)
     }
 
-    /// How many characters were ever written, at most 4,194,304.
+    /// How many characters count as written, at most 4,194,304.
     pub fn written(&self) -> u32
         ensures { (characters : List ℕ) → result ≡ (seen characters self.now).written }
     {

@@ -1,7 +1,8 @@
 //! What each kind of event does.
 ghost use Rattle.std.specs.Prelude.{◌<◌, IfOk};
 ghost use Rattle.event_bytes.specs.declared.event.Event.TheVariants.{File};
-ghost use Rattle.desktop_definitions.specs.Limits.{first_version};
+ghost use Rattle.desktop_definitions.specs.Limits.{newest_version};
+ghost use Rattle.command_table.specs.Versions.{version_number};
 ghost use Rattle.desktop_definitions.specs.Step.{raw};
 ghost use Rattle.desktop_definitions.specs.Unread.{StepsUnread};
 ghost use Rattle.desktop_definitions.specs.Sound.{IsOver};
@@ -18,6 +19,7 @@ ghost use Rattle.desktop_definitions.specs.Sound.{IsKeptWhole};
 
 use crate::gestures::point;
 use char_file::CharSource;
+use command_table::Version;
 use desk_core::desk::Desk;
 use desk_core::files::{has_room, length_of, put};
 use desk_core::held::within_limits;
@@ -29,17 +31,18 @@ use piece_ring::DEFAULT_LOOK;
 use std::alloc::Global;
 use text_core::Text;
 
-/// Does the event.
+/// Does the event, in a version of the table of commands.
 pub fn act<S: CharSource>(
     desk: &mut Desk,
+    version: Version,
     alloc: Global,
     event: &Event,
     source: &mut S,
 ) -> Result<Reply, Stop>
     requires { IsOver (S.characters source.old) (kept desk.old) }
-    ensures answered { IfOk result (Settles S.CharSource (λ d. raw first_version d event.now)
+    ensures answered { IfOk result (Settles S.CharSource (λ d. raw (version_number version) d event.now)
         source.old source.new (kept desk.old) (kept desk.new)) }
-    ensures unread { IfOk result (StepsUnread (kept desk.old) (kept desk.new) event.now) }
+    ensures unread { IfOk result (StepsUnread (version_number version) (kept desk.old) (kept desk.new) event.now) }
     ensures uses { Uses S.CharSource result source.old source.new }
 {
     match event {
@@ -52,12 +55,12 @@ pub fn act<S: CharSource>(
             y0,
             x1,
             y1,
-        } => point(desk, alloc, *keys, (*x0, *y0), (*x1, *y1), source),
+        } => point(desk, version, alloc, *keys, (*x0, *y0), (*x1, *y1), source),
         Event::File { name, bytes } => put_file(desk, alloc, name, bytes, source),
     }
 }
 
-/// The file of that name becomes these bytes.
+/// The file of that name becomes these bytes, in each version alike.
 fn put_file<S: CharSource>(
     desk: &mut Desk,
     alloc: Global,
@@ -66,9 +69,10 @@ fn put_file<S: CharSource>(
     source: &mut S,
 ) -> Result<Reply, Stop>
     requires { IsOver (S.characters source.old) (kept desk.old) }
-    ensures answered { IfOk result (Settles S.CharSource (λ d. raw first_version d (File name.now bytes.now))
+    ensures answered { IfOk result (Settles S.CharSource (λ d. raw newest_version d (File name.now bytes.now))
         source.old source.new (kept desk.old) (kept desk.new)) }
-    ensures unread { IfOk result (StepsUnread (kept desk.old) (kept desk.new) (File name.now bytes.now)) }
+    ensures unread { IfOk result (StepsUnread newest_version (kept desk.old) (kept desk.new)
+        (File name.now bytes.now)) }
     ensures uses { Uses S.CharSource result source.old source.new }
 {
     let bytes = bytes.as_bytes();

@@ -1,15 +1,16 @@
-//! What the mouse does, by the area in which its keys went down. A gesture that isn't in the table is done and changes
-//! nothing.
+//! What the mouse does, by the region in which its keys went down. A gesture that isn't in the table is done and
+//! changes nothing.
 ghost use Rattle.std.specs.Prelude.{◌≡◌, ◌<◌, ◌≤◌, ◌&&◌, ◌||◌, not, length, true, false, IfOk};
 ghost use Rattle.piece_ring.specs.Flat.{flat};
 ghost use Rattle.viewer_tracks.specs.declared.display.TheConstants.{ROWS, COLUMNS};
 ghost use Rattle.viewer_tracks.specs.Columns.{IsPlaced};
-ghost use Rattle.desktop_definitions.specs.declared.area.Area.TheVariants.{Filler, Menu, Bar, Body};
+ghost use Rattle.desktop_definitions.specs.declared.region.Region.TheVariants.{Filler, Menu, Bar, Body};
 ghost use Rattle.desktop_definitions.specs.Needs.{unless};
-ghost use Rattle.desktop_definitions.specs.Limits.{first_version, outside};
+ghost use Rattle.desktop_definitions.specs.Limits.{outside};
+ghost use Rattle.command_table.specs.Versions.{version_number};
 ghost use Rattle.desktop_definitions.specs.Viewers.{text_in, viewer_or_none, rows_of};
 ghost use Rattle.desktop_definitions.specs.Commands.{called};
-ghost use Rattle.desktop_definitions.specs.Gesture.{is_on_display, area_at, menu_position, text_position};
+ghost use Rattle.desktop_definitions.specs.Gesture.{is_on_display, region_at, menu_position, text_position};
 ghost use Rattle.desktop_definitions.specs.Gesture.{stretch_drawn, pointed};
 ghost use Rattle.desktop_definitions.specs.Seen.{seen};
 ghost use Rattle.desktop_definitions.specs.Unread.{gesture_needs_no_byte, gesture_brings};
@@ -19,22 +20,24 @@ ghost use Rattle.desk_core.specs.Row.{Settles, SettlesUnread, SettlesBringing, U
 ghost use Rattle.desk_core.specs.Mouse.{done_in_filler, done_in_menu, done_in_bar, done_at, done_with};
 
 use char_file::CharSource;
+use command_table::Version;
 use desk_commands::calls::call;
 use desk_commands::documents::open_tool;
 use desk_core::desk::Desk;
 use desk_core::marks::are_on_display;
 use desk_core::stop::Stop;
 use desk_input::bars::{scroll_to_row, scroll_to_share, scroll_to_top};
-use desk_input::places::{area_at, frame_row, menu_position, stretch_drawn, text_position};
+use desk_input::places::{frame_row, menu_position, region_under, stretch_drawn, text_position};
 use desk_input::stretches::{copy_to, send_to_caret, take_looks, take_out};
-use desktop_definitions::{Area, Reply, Selection, codes};
+use desktop_definitions::{Region, Reply, Selection, codes};
 use event_bytes::Keys;
 use std::alloc::Global;
 
 /// The keys went down at the cell `from`, as column and row, and up at `to`. Refused where one of them is outside
-/// the display.
+/// the display. The version is that of the table of commands, of which one may be called.
 pub fn point<S: CharSource>(
     desk: &mut Desk,
+    version: Version,
     alloc: Global,
     keys: Keys,
     from: (u8, u8),
@@ -44,28 +47,28 @@ pub fn point<S: CharSource>(
     requires over { IsOver (S.characters source.old) (kept desk.old) }
     ensures answered { IfOk result (Settles S.CharSource (λ d.
         unless (is_on_display from.0 from.1 && is_on_display to.0 to.1) outside
-        (pointed first_version d (area_at d from.0 from.1) keys from.0 from.1 to.0 to.1))
+        (pointed (version_number version) d (region_at d from.0 from.1) keys from.0 from.1 to.0 to.1))
         source.old source.new (kept desk.old) (kept desk.new)) }
     ensures unread { (not (is_on_display from.0 from.1 && is_on_display to.0 to.1)
-        || gesture_needs_no_byte (kept desk.old) (area_at (kept desk.old) from.0 from.1) keys) ≡ true
-        → IfOk result (SettlesBringing (gesture_brings (area_at (kept desk.old) from.0 from.1) keys) (λ all.
+        || gesture_needs_no_byte (kept desk.old) (region_at (kept desk.old) from.0 from.1) keys) ≡ true
+        → IfOk result (SettlesBringing (gesture_brings (region_at (kept desk.old) from.0 from.1) keys) (λ all.
         let d = seen all (kept desk.old) in
         unless (is_on_display from.0 from.1 && is_on_display to.0 to.1) outside
-        (pointed first_version d (area_at d from.0 from.1) keys from.0 from.1 to.0 to.1))
+        (pointed (version_number version) d (region_at d from.0 from.1) keys from.0 from.1 to.0 to.1))
         (kept desk.old) (kept desk.new)) }
     ensures uses { Uses S.CharSource result source.old source.new }
 {
     if !are_on_display(from, to) {
         return Ok(Reply::No(codes::OUTSIDE));
     }
-    match area_at(desk, from.0, from.1) {
-        Area::Filler => point_filler(desk, alloc, keys, from, source),
-        Area::Menu(id) => point_menu(desk, alloc, keys, id, to, source),
-        Area::Bar(id) => {
+    match region_under(desk, from.0, from.1) {
+        Region::Filler => point_filler(desk, alloc, keys, from, source),
+        Region::Menu(id) => point_menu(desk, version, alloc, keys, id, to, source),
+        Region::Bar(id) => {
             let row = frame_row(desk, id, from.1);
             point_bar(desk, keys, id, row, source)
         }
-        Area::Body(id) => point_text(desk, alloc, keys, id, from, to, source),
+        Region::Body(id) => point_text(desk, version, alloc, keys, id, from, to, source),
     }
 }
 
@@ -97,6 +100,7 @@ fn point_filler<S: CharSource>(
 #[tactic(auto, unfolding(desk_core::specs::Mouse::done_in_menu, desktop_definitions::specs::Unread::gesture_needs_no_byte))]
 fn point_menu<S: CharSource>(
     desk: &mut Desk,
+    version: Version,
     alloc: Global,
     keys: Keys,
     id: u8,
@@ -107,17 +111,18 @@ fn point_menu<S: CharSource>(
     requires row { cell.1 < ROWS }
     requires placed { IsPlaced id (kept desk.old).columns }
     requires over { IsOver (S.characters source.old) (kept desk.old) }
-    ensures answered { IfOk result (Settles S.CharSource (λ d. done_in_menu d keys id cell.0 cell.1)
+    ensures answered { IfOk result
+        (Settles S.CharSource (λ d. done_in_menu (version_number version) d keys id cell.0 cell.1)
         source.old source.new (kept desk.old) (kept desk.new)) }
     ensures unread { gesture_needs_no_byte (kept desk.old) (Menu id) keys ≡ true
-        → IfOk result (SettlesUnread (λ d. done_in_menu d keys id cell.0 cell.1)
+        → IfOk result (SettlesUnread (λ d. done_in_menu (version_number version) d keys id cell.0 cell.1)
         (kept desk.old) (kept desk.new)) }
     ensures uses { Uses S.CharSource result source.old source.new }
 {
     match keys {
         Keys::Left => desk.resize(id, cell.1, source),
         Keys::LeftMiddle => desk.carry(id, cell.0, cell.1, source),
-        Keys::Middle => call_in_menu(desk, alloc, id, cell.0, source),
+        Keys::Middle => call_in_menu(desk, version, alloc, id, cell.0, source),
         _ => Ok(Reply::Done),
     }
 }
@@ -125,6 +130,7 @@ fn point_menu<S: CharSource>(
 /// The word that a viewer's menu shows nearest to a column is called.
 fn call_in_menu<S: CharSource>(
     desk: &mut Desk,
+    version: Version,
     alloc: Global,
     id: u8,
     x: u8,
@@ -133,12 +139,12 @@ fn call_in_menu<S: CharSource>(
     requires placed { IsPlaced id (kept desk.old).columns }
     requires over { IsOver (S.characters source.old) (kept desk.old) }
     ensures answered { IfOk result (Settles S.CharSource
-        (λ d. called first_version d id true (menu_position d id x))
+        (λ d. called (version_number version) d id true (menu_position d id x))
         source.old source.new (kept desk.old) (kept desk.new)) }
     ensures uses { Uses S.CharSource result source.old source.new }
 {
     let pos = menu_position(desk, id, x, source)?;
-    call(desk, alloc, id, true, pos, source)
+    call(desk, version, alloc, id, true, pos, source)
 }
 
 /// In the scroll bar of a viewer, at a row of its main frame.
@@ -172,6 +178,7 @@ fn point_bar<S: CharSource>(
 #[tactic(auto, unfolding(desktop_definitions::specs::Unread::gesture_needs_no_byte))]
 fn point_text<S: CharSource>(
     desk: &mut Desk,
+    version: Version,
     alloc: Global,
     keys: Keys,
     id: u8,
@@ -183,16 +190,16 @@ fn point_text<S: CharSource>(
     requires some { 0 < rows_of (kept desk.old) id }
     requires over { IsOver (S.characters source.old) (kept desk.old) }
     ensures answered { IfOk result (Settles S.CharSource
-        (λ d. pointed first_version d (Body id) keys from.0 from.1 to.0 to.1)
+        (λ d. pointed (version_number version) d (Body id) keys from.0 from.1 to.0 to.1)
         source.old source.new (kept desk.old) (kept desk.new)) }
     ensures unread { gesture_needs_no_byte (kept desk.old) (Body id) keys ≡ true → IfOk result (SettlesUnread
-        (λ d. pointed first_version d (Body id) keys from.0 from.1 to.0 to.1)
+        (λ d. pointed (version_number version) d (Body id) keys from.0 from.1 to.0 to.1)
         (kept desk.old) (kept desk.new)) }
     ensures uses { Uses S.CharSource result source.old source.new }
 {
     match keys {
         Keys::Left | Keys::LeftMiddle | Keys::LeftRight | Keys::Middle => point_cell(
-            desk, alloc, keys, id, to, source,
+            desk, version, alloc, keys, id, to, source,
         ),
         Keys::Right | Keys::RightLeft | Keys::RightMiddle => draw(
             desk, alloc, keys, id, from, to, source,
@@ -204,6 +211,7 @@ fn point_text<S: CharSource>(
 /// At the position that a viewer shows nearest to a cell.
 fn point_cell<S: CharSource>(
     desk: &mut Desk,
+    version: Version,
     alloc: Global,
     keys: Keys,
     id: u8,
@@ -213,21 +221,23 @@ fn point_cell<S: CharSource>(
     requires placed { IsPlaced id (kept desk.old).columns }
     requires some { 0 < rows_of (kept desk.old) id }
     requires over { IsOver (S.characters source.old) (kept desk.old) }
-    ensures answered { IfOk result (Settles S.CharSource (λ d. done_at d keys id (text_position d id cell.0 cell.1))
+    ensures answered { IfOk result (Settles S.CharSource
+        (λ d. done_at (version_number version) d keys id (text_position d id cell.0 cell.1))
         source.old source.new (kept desk.old) (kept desk.new)) }
     ensures unread { gesture_needs_no_byte (kept desk.old) (Body id) keys ≡ true → IfOk result (SettlesUnread
-        (λ d. done_at d keys id (text_position d id cell.0 cell.1))
+        (λ d. done_at (version_number version) d keys id (text_position d id cell.0 cell.1))
         (kept desk.old) (kept desk.new)) }
     ensures uses { Uses S.CharSource result source.old source.new }
 {
     let pos = text_position(desk, id, cell.0, cell.1, source)?;
-    point_position(desk, alloc, keys, id, pos, source)
+    point_position(desk, version, alloc, keys, id, pos, source)
 }
 
 /// At a position of a viewer's main text.
 #[tactic(auto, unfolding(desk_core::specs::Mouse::done_at, desktop_definitions::specs::Unread::gesture_needs_no_byte))]
 fn point_position<S: CharSource>(
     desk: &mut Desk,
+    version: Version,
     alloc: Global,
     keys: Keys,
     id: u8,
@@ -238,17 +248,17 @@ fn point_position<S: CharSource>(
     requires place { pos ≤ length (flat (text_in (kept desk.old).texts
         (viewer_or_none (kept desk.old).viewers id).main)) }
     requires over { IsOver (S.characters source.old) (kept desk.old) }
-    ensures answered { IfOk result (Settles S.CharSource (λ d. done_at d keys id pos)
+    ensures answered { IfOk result (Settles S.CharSource (λ d. done_at (version_number version) d keys id pos)
         source.old source.new (kept desk.old) (kept desk.new)) }
     ensures unread { gesture_needs_no_byte (kept desk.old) (Body id) keys ≡ true → IfOk result (SettlesUnread
-        (λ d. done_at d keys id pos) (kept desk.old) (kept desk.new)) }
+        (λ d. done_at (version_number version) d keys id pos) (kept desk.old) (kept desk.new)) }
     ensures uses { Uses S.CharSource result source.old source.new }
 {
     match keys {
         Keys::Left => desk.set_caret(id, pos, source),
         Keys::LeftMiddle => copy_to(desk, alloc, id, pos, source),
         Keys::LeftRight => take_looks(desk, alloc, id, pos, source),
-        Keys::Middle => call(desk, alloc, id, false, pos, source),
+        Keys::Middle => call(desk, version, alloc, id, false, pos, source),
         _ => Ok(Reply::Done),
     }
 }

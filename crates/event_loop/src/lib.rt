@@ -12,6 +12,7 @@ mod events;
 mod gestures;
 mod stale;
 
+pub use command_table::{NEWEST, Version};
 pub use desk_core::stop::{NoMemory, Stop};
 pub use desk_image::{ByteSink, ByteSource, ImageFault};
 pub use desktop::Desktop;

@@ -1,12 +1,12 @@
 //! Which texts an event may change, and lines that are given up for it.
 ghost use Rattle.std.specs.Prelude.{◌≡◌, ◌&&◌, ℕ, List, Option, false, if◌then◌else◌};
 ghost use Rattle.piece_ring.specs.Text.{Text as AText};
-ghost use Rattle.desktop_definitions.specs.declared.area.Area.TheVariants.{Filler, Menu, Body};
+ghost use Rattle.desktop_definitions.specs.declared.region.Region.TheVariants.{Filler, Menu, Body};
 ghost use Rattle.desktop_definitions.specs.declared.viewer.Viewer.{Viewer as AViewer};
 ghost use Rattle.desktop_definitions.specs.declared.viewer.Caret.{Caret as ACaret};
 ghost use Rattle.desktop_definitions.specs.declared.viewer.Selection.{Selection as ASelection};
 ghost use Rattle.desktop_definitions.specs.Viewers.{newest};
-ghost use Rattle.desktop_definitions.specs.Gesture.{is_on_display, area_at};
+ghost use Rattle.desktop_definitions.specs.Gesture.{is_on_display, region_at};
 ghost use Rattle.stale_texts.specs.declared.stale.Stale.TheVariants.{Nothing};
 ghost use Rattle.stale_texts.specs.Stale.{is_stale, stale_in, stale_at_caret, stale_selected, stale_by_key};
 ghost use Rattle.stale_texts.specs.Stale.{stale_by_gesture, stale_of};
@@ -15,9 +15,9 @@ ghost use Rattle.desk_core.specs.Kept.{kept};
 
 use desk_core::desk::Desk;
 use desk_core::marks::are_on_display;
-use desk_core::viewers::{Viewers, viewer_or_none};
-use desk_input::places::area_at;
-use desktop_definitions::{Area, Caret, Selection};
+use desk_core::viewers::{ViewerTable, viewer_or_none};
+use desk_input::places::region_under;
+use desktop_definitions::{Caret, Region, Selection};
 use event_bytes::{Event, Key, Keys};
 use screen_cells::KeptLines;
 use stale_texts::Stale;
@@ -45,19 +45,19 @@ pub fn stale_of(desk: &Desk, event: &Event) -> Stale
 fn stale_by_point(desk: &Desk, keys: Keys, from: (u8, u8), to: (u8, u8)) -> Stale
     ensures { result ≡ (if is_on_display from.0 from.1 && is_on_display to.0 to.1
         then stale_by_gesture (kept desk.now).viewers (kept desk.now).caret (newest (kept desk.now))
-        (area_at (kept desk.now) from.0 from.1) keys else Nothing) }
+        (region_at (kept desk.now) from.0 from.1) keys else Nothing) }
 {
     if !are_on_display(from, to) {
         return Stale::Nothing;
     }
-    let area = area_at(desk, from.0, from.1);
-    stale_by_gesture(&desk.viewers, desk.caret, desk.newest(), area, keys)
+    let region = region_under(desk, from.0, from.1);
+    stale_by_gesture(&desk.viewers, desk.caret, desk.newest(), region, keys)
 }
 
 /// Which texts a key of the keyboard may change.
 #[tactic(auto, unfolding(stale_texts::specs::Stale::stale_by_key))]
 fn stale_by_key(
-    viewers: &Viewers,
+    viewers: &ViewerTable,
     caret: Option<Caret>,
     newest: Option<Selection>,
     key: Key,
@@ -71,21 +71,21 @@ fn stale_by_key(
     }
 }
 
-/// Which texts the keys of the mouse may change in an area.
+/// Which texts the keys of the mouse may change in a region.
 fn stale_by_gesture(
-    viewers: &Viewers,
+    viewers: &ViewerTable,
     caret: Option<Caret>,
     newest: Option<Selection>,
-    area: Area,
+    region: Region,
     keys: Keys,
 ) -> Stale
-    ensures { result ≡ stale_by_gesture viewers.now.items caret newest area keys }
+    ensures { result ≡ stale_by_gesture viewers.now.items caret newest region keys }
 {
-    match area {
-        Area::Filler => stale_in_filler(keys),
-        Area::Menu(_) => stale_in_menu(keys),
-        Area::Bar(_) => Stale::Nothing,
-        Area::Body(id) => stale_in_text(viewers, caret, newest, id, keys),
+    match region {
+        Region::Filler => stale_in_filler(keys),
+        Region::Menu(_) => stale_in_menu(keys),
+        Region::Bar(_) => Stale::Nothing,
+        Region::Body(id) => stale_in_text(viewers, caret, newest, id, keys),
     }
 }
 
@@ -116,7 +116,7 @@ fn stale_in_menu(keys: Keys) -> Stale
 /// Which texts the keys of the mouse may change in the main text of a viewer.
 #[tactic(auto, unfolding(stale_texts::specs::Stale::stale_by_gesture))]
 fn stale_in_text(
-    viewers: &Viewers,
+    viewers: &ViewerTable,
     caret: Option<Caret>,
     newest: Option<Selection>,
     id: u8,
@@ -134,14 +134,14 @@ fn stale_in_text(
 }
 
 /// The main text of a viewer.
-fn stale_in(viewers: &Viewers, id: u8) -> Stale
+fn stale_in(viewers: &ViewerTable, id: u8) -> Stale
     ensures { result ≡ stale_in viewers.now.items id }
 {
     Stale::Text(viewer_or_none(viewers, id).main)
 }
 
 /// The text in which the caret stands.
-fn stale_at_caret(viewers: &Viewers, caret: Option<Caret>) -> Stale
+fn stale_at_caret(viewers: &ViewerTable, caret: Option<Caret>) -> Stale
     ensures { result ≡ stale_at_caret viewers.now.items caret }
 {
     match caret {
@@ -151,7 +151,7 @@ fn stale_at_caret(viewers: &Viewers, caret: Option<Caret>) -> Stale
 }
 
 /// The text of a selection.
-fn stale_selected(viewers: &Viewers, selection: Option<Selection>) -> Stale
+fn stale_selected(viewers: &ViewerTable, selection: Option<Selection>) -> Stale
     ensures { result ≡ stale_selected viewers.now.items selection }
 {
     match selection {

@@ -45,6 +45,9 @@ At the marker:\r\
 Edit.Store  Edit.Search\r\
 System.Copy  System.Close\r\
 Edit.Open *\r\
+\r\
+For more room:\r\
+System.Collect\r\
 ";
 
 /// Makes the document with the words of all commands, and opens it in a viewer.

@@ -3,7 +3,7 @@ use Rattle.std.proofs.Common.{◌≡◌, inl, inr, ℕ, ◌≤◌, List, [], ◌
 use Rattle.std.proofs.Common.{refl, sym, ◌∙◌, ap, subst, arith, append_assoc, append-nil}
 use Rattle.std.specs.List.{AllByRecursion}
 use Rattle.sector_disk.specs.declared.disk.Disk.{Ghosts}
-use Rattle.sector_disk.specs.Trail.{Content, Trail, now, IsImage, LeavesOnly}
+use Rattle.sector_disk.specs.Trail.{Content, Trail, now, IsCrashImage, LeavesOnly}
 use Rattle.sector_disk.proofs.Touching.{weakened}
 use Rattle.desktop_definitions.specs.Desktop.{Desktop}
 use Rattle.store_layout.specs.Meaning.{Means, MeansEither}
@@ -129,12 +129,12 @@ module _ {D : Type 0} (d : Ghosts D) where
           (after (session_of first) (request_of line)).desktop (led_to s done) (led_to s (done ++ line ∷ [])) c
           (sym as_large) (led_here s (session_of first) done session)
           (led_on s (session_of first) done (line ∷ []) session)
-          (serves.any_moment.each t above below c (subst (λ m. IsImage m c) (on.kept t below) image)))
+          (serves.any_moment.each t above below c (subst (λ m. IsCrashImage m c) (on.kept t below) image)))
           (λ c image. moved (d.size mid.disk) size mid.desktop (led_to s (done ++ line ∷ [])) c
           (sym as_large ∙ sym serves.as_large)
           (ap (λ (t : Session). t.desktop) serves.session ∙ led_on s (session_of first) done (line ∷ []) session)
           (lasting_means d mid serves.lasts c
-          (subst (λ m. IsImage m c) (on.kept (d.trail mid.disk).clock (omega arith)) image)))
+          (subst (λ m. IsCrashImage m c) (on.kept (d.trail mid.disk).clock (omega arith)) image)))
 
       all_answered : (done lines : List (List ℕ)) (first mid : StoreView D)
           → AreAnswered size s trail from (d.trail first.disk).clock done → session_of first ≡ after_all s done

@@ -16,13 +16,13 @@ use Rattle.store_layout.specs.Meaning.{Means, MeansEither}
 use Rattle.store_layout.specs.declared.layout.TheConstants.{JOURNAL_EVENTS}
 use Rattle.desk_journal.specs.Checkpointing.{LeavesDesktop}
 use Rattle.desk_journal.specs.Device.{IsOnlyRead, IsSameDevice}
-use Rattle.desk_journal.specs.Posting.{LeavesEither, TurnsAway, IsLast}
+use Rattle.desk_journal.specs.Posting.{LeavesEither, Needs, TurnsAway, IsLast}
 use Rattle.desk_journal.specs.View.{StoreView, IsDurable}
 use Rattle.desk_journal.proofs.Passing.{at_start, shows_means}
 use Rattle.script_lines.specs.declared.request.Request.{Request}
 use Rattle.script_lines.specs.declared.request.Request.TheVariants.{Post, Checkpoint, Show, Listing, Display, Malformed}
 use Rattle.script_lines.specs.Request.{request_of}
-use Rattle.desk_journal.specs.Session.{Session, is_full, is_last, is_worn, renewed, stepped}
+use Rattle.desk_journal.specs.Session.{Session, is_due, is_last, is_worn, renewed, stepped}
 use Rattle.oberon_main.specs.Answers.{after, after_all}
 use Rattle.desk_journal.specs.Session.{session_of}
 use Rattle.oberon_main.specs.Surviving.{posted, accepted, LinesAreSteps, MeansPrefix, KeepsAnswered, Withstands, Spares}
@@ -40,8 +40,8 @@ pub stepped_once : (s : Session) (event : Event) → is_worn s ≡ false
     → (after s (Post event)).desktop ≡ (step s.desktop event).0
 unfolding after
 stepped_once s event room = ap (λ (t : Session). t.desktop)
-    (cond-false (is_worn s) s (stepped (if is_full s then renewed s else s) event) room)
-    ∙ ap (λ d. (step d event).0) (either_way (is_full s))
+    (cond-false (is_worn s) s (stepped (if is_due s then renewed s else s) event) room)
+    ∙ ap (λ d. (step d event).0) (either_way (is_due s))
   where
     either_way : (b : Bool) → (if b then renewed s else s).desktop ≡ s.desktop
     either_way true = refl
@@ -50,7 +50,7 @@ stepped_once s event room = ap (λ (t : Session). t.desktop)
 pub not_stepped : (s : Session) (event : Event) → is_worn s ≡ true → (after s (Post event)).desktop ≡ s.desktop
 unfolding after
 not_stepped s event worn = ap (λ (t : Session). t.desktop)
-    (cond-true (is_worn s) s (stepped (if is_full s then renewed s else s) event) worn)
+    (cond-true (is_worn s) s (stepped (if is_due s then renewed s else s) event) worn)
 
 renewing : (s : Session) (b : Bool) → (if b then s else renewed s).desktop ≡ s.desktop
 renewing s true = refl
@@ -280,9 +280,9 @@ module _ {D : Type 0} (d : Ghosts D) where
     as_large = device.as_large;
   }
 
-  -- in the last epoch, with a full journal, nothing changes
+  -- in the last epoch, where a checkpoint is due, nothing changes
   pub post_withstands : (event : Event) (refused : Type 0) (old new : StoreView D) → old.must_reopen ≡ false
-      → LeavesEither d event old new → TurnsAway refused (IsLast old × (JOURNAL_EVENTS ≤ old.events)) old new
+      → LeavesEither d event old new → TurnsAway refused (IsLast old × Needs old) old new
       → IsSameDevice d old.disk new.disk → Withstands d (Post event) old new
   post_withstands event refused old new usable leaves turned device = elim (true_or_false (is_worn (session_of old))) [
     | inl worn ↦

@@ -45,7 +45,8 @@ module _ {D : Type 0} (d : Ghosts D) where
 
   -- a crash now leaves what the store shows
   abbrev pub Lasts : StoreView D → Type 0
-  Lasts store = Leaves (now (d.trail store.disk)) (Shows (d.size store.disk) store.epoch store.events store.desktop)
+  Lasts store = Leaves (now (d.trail store.disk)) (Shows (d.size store.disk) store.layout store.epoch store.events
+      store.desktop)
 
   -- at every moment a crash leaves the desktop before the line or the one after it
   abbrev pub LeavesLine : List ℕ → StoreView D → StoreView D → Type 0

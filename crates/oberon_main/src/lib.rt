@@ -10,7 +10,7 @@ mod laws;
 mod playing;
 mod report;
 
-pub use desk_journal::{Error, STORE_SECTORS, Store};
+pub use desk_journal::{Error, STORE_SECTORS, Store, Version};
 pub use laws::lines_are_steps;
 pub use playing::{PlayEnd, play, play_bounded};
 pub use report::{check, refuse, status};

@@ -17,9 +17,9 @@ use sector_disk::Disk;
 pub fn check<W: AnswerWriter, D: Disk>(writer: &mut W, store: &Store<D>) -> PlayEnd
     requires { store.now.must_reopen ≡ false }
     ensures done { result ≡ ends.Done → Appends (W.contents writer.old) (W.contents writer.new)
-        (check_line 1 store.now.epoch store.now.events) }
+        (check_line store.now.layout store.now.epoch store.now.events) }
     ensures output { result ≡ ends.Output → AppendsFront (W.contents writer.old) (W.contents writer.new)
-        (check_line 1 store.now.epoch store.now.events) }
+        (check_line store.now.layout store.now.epoch store.now.events) }
     ensures named { (result ≡ ends.Done) ⊎ (result ≡ ends.Output) }
     ensures cause { CountsOutput result (W.failures writer.old) (W.failures writer.new) }
 {

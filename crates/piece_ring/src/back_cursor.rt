@@ -32,9 +32,9 @@ impl<'a> Model for BackCursor<'a> {
 }
 
 impl<'a> BackCursor<'a> {
-    /// The offset and the look of the character that the cursor stands after, before which it then
-    /// stands. None at the beginning of the ring, where it stays. It follows a link between pieces
-    /// only where it stands before the first character of one.
+    /// The offset and the look of the character that the cursor stands after, before which it then stands. None at the
+    /// beginning of the ring, where it stays. It follows a link between pieces only where it stands before the first
+    /// character of one.
     pub fn previous(&mut self) -> Option<(u32, Look)>
         ensures { MatchOption result ((self.old ≡ []) × (self.new ≡ []))
             (λ c. self.old ≡ self.new ++ c ∷ []) }

@@ -1,6 +1,5 @@
-//! A list of pieces in a chain of nodes: first the trailer, a node without characters, then a node
-//! for each piece. This layer has no raw pointer: it names nodes by their spots and indexes, and
-//! goes through the calls of `Chain`.
+//! A list of pieces in a chain of nodes: first the trailer, a node without characters, then a node for each piece. This
+//! layer has no raw pointer: it names nodes by their spots and indexes, and goes through the calls of `Chain`.
 ghost use Rattle.std.specs.Prelude.{ℕ, ◌≡◌, ◌+◌, ◌-◌, ◌<◌, ◌≤◌, ◌∷◌, [], ◌++◌, ◌^◌, length, Some, slice_get, IfOk};
 ghost use Rattle.std.specs.Prelude.{OnErr, take};
 ghost use Rattle.piece_ring.specs.BackCursor.{IsBackCursor, text_before};
@@ -15,13 +14,13 @@ ghost use Rattle.piece_ring.specs.Text.{inserted, deleted, stretch, looks_change
 
 use crate::chain::{Chain, Spot};
 use crate::piece::{EMPTY, Look, Piece};
-use crate::place::{Found, Place, Seam};
+use crate::place::{Found, RingPlace, Seam};
 use crate::spare::Spare;
 use crate::stretch::Stretch;
 use std::alloc::{AllocError as NoMemory, Global};
 
-/// The trailer and the nodes of the pieces, with the number of the pieces and of their characters,
-/// and the kept place, from which walks start: the piece before the seam `kept`, or the trailer.
+/// The trailer and the nodes of the pieces, with the number of the pieces and of their characters, and the kept place,
+/// from which walks start: the piece before the seam `kept`, or the trailer.
 pub(crate) struct PieceList {
     pub(crate) chain: Chain,
     pub(crate) trailer: Spot,
@@ -142,8 +141,8 @@ impl PieceList {
         }
     }
 
-    /// The piece that has the character at `pos`, which is before `from`, by a walk towards the
-    /// beginning. The piece before `from` is the first link of the walk.
+    /// The piece that has the character at `pos`, which is before `from`, by a walk towards the beginning. The piece
+    /// before `from` is the first link of the walk.
     fn find_back(&self, from: Seam, pos: u32) -> Found
         requires from { IsSeam self.now.chain.nodes from }
         requires order { pos < from.pos }
@@ -162,8 +161,8 @@ impl PieceList {
         }
     }
 
-    /// The piece that has the character at `pos`, by a walk from the kept place, or from the
-    /// beginning or the end where that is nearer.
+    /// The piece that has the character at `pos`, by a walk from the kept place, or from the beginning or the end where
+    /// that is nearer.
     pub(crate) fn find(&self, pos: u32) -> Found
         requires { pos < self.now.len }
         ensures found { IsFound self.now.chain.nodes pos result }
@@ -194,18 +193,18 @@ impl PieceList {
     }
 
     /// The seam at `pos`, or the piece that has it inside.
-    fn place(&self, pos: u32) -> Place
+    fn place(&self, pos: u32) -> RingPlace
         requires { pos ≤ self.now.len }
         ensures { IsPlace self.now.chain.nodes pos result }
     {
         if pos == self.len {
-            return Place::Between(self.end());
+            return RingPlace::Between(self.end());
         }
         let found = self.find(pos);
         if found.before.pos == pos {
-            return Place::Between(found.before);
+            return RingPlace::Between(found.before);
         }
-        Place::Inside(found)
+        RingPlace::Inside(found)
     }
 
     /// The seam before the piece that has `pos` inside, and that piece without the characters from
@@ -217,8 +216,8 @@ impl PieceList {
             ≡ take pos (text_of self.now.chain.nodes) }
     {
         match self.place(pos) {
-            Place::Between(seam) => (seam, EMPTY),
-            Place::Inside(found) => {
+            RingPlace::Between(seam) => (seam, EMPTY),
+            RingPlace::Inside(found) => {
                 let Seam { at, index, pos: _ } = found.after;
                 let piece = self.chain.piece(at, index);
                 let len = pos - found.before.pos;
@@ -288,8 +287,7 @@ impl PieceList {
         self.kept
     }
 
-    /// The seam at `pos`. Where it takes a node to cut a piece there, the node is taken before
-    /// anything is changed.
+    /// The seam at `pos`. Where it takes a node to cut a piece there, the node is taken before anything is changed.
     pub(crate) fn seam_at(&mut self, alloc: Global, pos: u32) -> Result<Seam, NoMemory>
         requires { pos ≤ self.old.len }
         ensures same { text_of self.new.chain.nodes ≡ text_of self.old.chain.nodes }
@@ -299,8 +297,8 @@ impl PieceList {
         ensures refused { OnErr result (self.new.chain.nodes ≡ self.old.chain.nodes) }
     {
         match self.place(pos) {
-            Place::Between(seam) => Ok(seam),
-            Place::Inside(found) => {
+            RingPlace::Between(seam) => Ok(seam),
+            RingPlace::Inside(found) => {
                 let spare = Spare::new(alloc)?;
                 Ok(self.divide(pos, found, spare))
             }
@@ -318,8 +316,8 @@ impl PieceList {
             → IsSeam self.new.chain.nodes s }
     {
         match self.place(pos) {
-            Place::Between(seam) => seam,
-            Place::Inside(found) => self.divide(pos, found, spare),
+            RingPlace::Between(seam) => seam,
+            RingPlace::Inside(found) => self.divide(pos, found, spare),
         }
     }
 
@@ -412,8 +410,8 @@ impl PieceList {
         self.kept = from;
     }
 
-    /// Makes one piece of the two that meet at `seam`, where `second` continues `first`, and frees
-    /// the node at `next`, which holds the second.
+    /// Makes one piece of the two that meet at `seam`, where `second` continues `first`, and frees the node at `next`,
+    /// which holds the second.
     fn unite(&mut self, alloc: &Global, seam: Seam, next: Spot, first: Piece, second: Piece)
         requires seam { IsSeam self.old.chain.nodes seam }
         requires started { 0 < seam.index }
@@ -442,8 +440,8 @@ impl PieceList {
         };
     }
 
-    /// Makes one piece of the two that meet at `seam`, if the second continues the first in the
-    /// file and has its look. It takes no memory.
+    /// Makes one piece of the two that meet at `seam`, if the second continues the first in the file and has its look.
+    /// It takes no memory.
     pub(crate) fn merge(&mut self, alloc: &Global, seam: Seam)
         requires { IsSeam self.old.chain.nodes seam }
         ensures same { text_of self.new.chain.nodes ≡ text_of self.old.chain.nodes }
@@ -475,8 +473,8 @@ impl PieceList {
         ensures pieces { UnitesAtMost (pieces_of self.old.chain.nodes) (pieces_of self.new.chain.nodes) }
     {
         match self.place(pos) {
-            Place::Between(seam) => self.merge(alloc, seam),
-            Place::Inside(_) => {}
+            RingPlace::Between(seam) => self.merge(alloc, seam),
+            RingPlace::Inside(_) => {}
         }
     }
 

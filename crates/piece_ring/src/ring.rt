@@ -69,8 +69,7 @@ impl Ring {
         self.list.locate(pos);
     }
 
-    /// Cuts the piece that has `pos` inside, so that a piece begins there. The text stays, also if
-    /// memory was refused.
+    /// Cuts the piece that has `pos` inside, so that a piece begins there. The text stays, also if memory was refused.
     pub fn split_at(&mut self, alloc: Global, pos: u32) -> Result<(), NoMemory>
         requires { pos ≤ length (flat self.old.pieces) }
         ensures same { flat self.new.pieces ≡ flat self.old.pieces }
@@ -82,8 +81,8 @@ impl Ring {
         Ok(())
     }
 
-    /// Takes the characters from `beg` up to before `end` out. Their pieces move, and no character
-    /// is copied. If memory is refused the text stays.
+    /// Takes the characters from `beg` up to before `end` out. Their pieces move, and no character is copied. If memory
+    /// is refused the text stays.
     pub fn cut(&mut self, alloc: Global, beg: u32, end: u32) -> Result<Ring, NoMemory>
         requires order { beg ≤ end }
         requires within { end ≤ length (flat self.old.pieces) }
@@ -166,8 +165,8 @@ impl Ring {
         Ok(())
     }
 
-    /// Puts a piece at the end as it is, also where it could be one with the piece before it. If
-    /// memory is refused the pieces stay.
+    /// Puts a piece at the end as it is, also where it could be one with the piece before it. If memory is refused the
+    /// pieces stay.
     pub fn push(&mut self, alloc: Global, piece: Piece) -> Result<(), NoMemory>
         requires whole { IsWhole piece }
         requires fits { length (flat self.old.pieces) + piece.len < 2 ^ 32 }
@@ -191,9 +190,8 @@ impl Ring {
         }
     }
 
-    /// Changes the looks of the characters from `beg` up to before `end`, in the fields that `sel`
-    /// names: bit 0 the font, bit 1 the colour, bit 2 the offset. Other bits are ignored. If memory
-    /// is refused the text stays.
+    /// Changes the looks of the characters from `beg` up to before `end`, in the fields that `sel` names: bit 0 the
+    /// font, bit 1 the colour, bit 2 the offset. Other bits are ignored. If memory is refused the text stays.
     pub fn set_looks(
         &mut self,
         alloc: Global,
@@ -221,8 +219,8 @@ impl Ring {
         Ok(())
     }
 
-    /// A cursor before the character at `pos`, or at the end. It follows no link if the kept place
-    /// is there, and never more than there are pieces.
+    /// A cursor before the character at `pos`, or at the end. It follows no link if the kept place is there, and never
+    /// more than there are pieces.
     pub fn cursor(&self, pos: u32) -> Cursor<'_>
         requires { pos ≤ length (flat self.now.pieces) }
         ensures text { flat result.left ≡ drop pos (flat self.now.pieces) }

@@ -14,7 +14,8 @@ use Rattle.viewer_tracks.specs.Columns.{Columns, no_viewers, shown}
 use Rattle.screen_pictures.specs.declared.cell.Cell.{Cell}
 use Rattle.screen_cells.specs.declared.shown.Shown.{Shown}
 use Rattle.screen_cells.specs.declared.strip.Strip.{Strip}
-use Rattle.screen_pictures.specs.Picture.{Viewer, picture, filler, filler_cell, track_cell, seen_cell, marked, is_at}
+use Rattle.screen_pictures.specs.Picture.{Viewer, picture, filler, filler_cell, track_cell, seen_cell, with_marker}
+use Rattle.screen_pictures.specs.Picture.{is_at}
 use Rattle.screen_cells.specs.Shown.{as_read, strip_cell}
 use Rattle.screen_pictures.specs.Screen.{screen_of, values}
 use Rattle.screen_cells.specs.Rows.{painted_row, strips_cell}
@@ -64,7 +65,7 @@ pub strips_painted : (columns : Columns) (viewers : List Viewer) (marker : Optio
     → values COLUMNS (strips_cell user system marker y) ≡ painted_row columns viewers marker y
 unfolding picture
 strips_painted columns viewers marker y user system in_user in_system =
-    values_same COLUMNS _ _ (λ x within. ap (marked (is_at marker x y)) (by_track x (nat_lt x SYSTEM_LEFT)))
+    values_same COLUMNS _ _ (λ x within. ap (with_marker (is_at marker x y)) (by_track x (nat_lt x SYSTEM_LEFT)))
   where
     by_track : (x : ℕ) (left : Bool)
         → (if left then strip_cell user x else strip_cell system (x - SYSTEM_LEFT))
@@ -132,10 +133,11 @@ pub picture_without_viewers : (viewers : List Viewer) (marker : Option (ℕ × �
     → picture no_viewers viewers marker x y ≡ filler_cell (is_at marker x y)
 unfolding picture
 picture_without_viewers viewers marker x y =
-    ap (λ seen. marked (is_at marker x y) (seen_cell no_viewers viewers (track_at x) (x - left_of (track_at x)) y seen))
+    ap (λ seen. with_marker (is_at marker x y)
+    (seen_cell no_viewers viewers (track_at x) (x - left_of (track_at x)) y seen))
     (seen_nowhere (nat_lt x SYSTEM_LEFT) y)
     ∙ marked_filler (is_at marker x y)
   where
-    marked_filler : (b : Bool) → marked b filler ≡ filler_cell b
+    marked_filler : (b : Bool) → with_marker b filler ≡ filler_cell b
     marked_filler true = refl
     marked_filler false = refl

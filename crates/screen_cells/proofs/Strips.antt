@@ -8,13 +8,13 @@ use Rattle.viewer_tracks.proofs.Positions.{position_or_len_map}
 use Rattle.std.specs.List.{find, position_or_len}
 use Rattle.std.proofs.lemmas.Bool.Decides.{nat_tests}
 use Rattle.piece_ring.specs.declared.piece.Look.{Look}
-use Rattle.text_frames.specs.declared.frame.Selection.{Selection}
+use Rattle.text_frames.specs.declared.frame.FrameSelection.{FrameSelection}
 use Rattle.text_frames.specs.Row.{row_cells}
 use Rattle.screen_pictures.specs.Picture.{Viewer, bar_cell, menu_cell, text_cell, frame_cell, viewer_cell, caret_at}
 
 -- a row below the menu
 pub frame_shown : (v : Viewer) (width bottom top y column row : ℕ) (line : List (ℕ × Look × ℕ))
-    (caret : Option (ℕ × ℕ)) (selection : Option Selection) → y + 1 < top
+    (caret : Option (ℕ × ℕ)) (selection : Option FrameSelection) → y + 1 < top
     → row ≡ top - 2 - y → line ≡ row_cells (width - 1) v.main v.frame.org row
     → caret ≡ caret_at (width - 1) (top - bottom - 1) v.main v.frame.org v.frame.caret → selection ≡ v.frame.selection
     → (if column == 0 then bar_cell else text_cell line caret selection (column - 1) row)

@@ -10,8 +10,8 @@ use Rattle.screen_cells.specs.declared.walk.Walk.{Walk}
 use Rattle.screen_cells.specs.Shown.{IsShowable}
 use Rattle.screen_cells.specs.Walks.{IsWalk, IsKept}
 
-module _ (honest later : Type 0) (characters rest : List ℕ) (already : later → honest) (same : honest → rest ≡ characters)
-    (as_long : length rest ≡ length characters) where
+module _ (honest later : Type 0) (characters rest : List ℕ) (already : later → honest)
+    (same : honest → rest ≡ characters) (as_long : length rest ≡ length characters) where
   pub walk_still : (walk : Walk) → IsWalk honest characters walk → IsWalk later rest walk
   walk_still walk is = record {
     showable = rw as_long is.showable;

@@ -4,7 +4,7 @@ use Rattle.viewer_tracks.specs.declared.display.TheConstants.{COLUMNS, SYSTEM_LE
 use Rattle.viewer_tracks.specs.Columns.{Columns}
 use Rattle.screen_pictures.specs.declared.cell.Cell.{Cell}
 use Rattle.screen_cells.specs.declared.strip.Strip.{Strip}
-use Rattle.screen_pictures.specs.Picture.{Viewer, picture, is_at, marked}
+use Rattle.screen_pictures.specs.Picture.{Viewer, picture, is_at, with_marker}
 use Rattle.screen_pictures.specs.Screen.{values}
 use Rattle.screen_cells.specs.Shown.{strip_cell}
 
@@ -15,4 +15,5 @@ painted_row columns viewers marker y = values COLUMNS (λ x. picture columns vie
 -- the cell at column x of row y, where the tracks show these strips
 abbrev pub strips_cell : Strip → Strip → Option (ℕ × ℕ) → ℕ → ℕ → Cell
 strips_cell user system marker y x =
-    marked (is_at marker x y) (if nat_lt x SYSTEM_LEFT then strip_cell user x else strip_cell system (x - SYSTEM_LEFT))
+    with_marker (is_at marker x y)
+    (if nat_lt x SYSTEM_LEFT then strip_cell user x else strip_cell system (x - SYSTEM_LEFT))

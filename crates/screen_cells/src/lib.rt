@@ -2,7 +2,8 @@
 //!
 //! A clause sees a `Screen` as the list of its rows from the bottom up, a row being the list of its cells from the left
 //! (`Screen.antt` of `screen_pictures`). What a cell shows is said in its `Picture.antt`, and how a screen is printed
-//! in its `Printed.antt`. Nothing here takes memory.
+//! in its `Printed.antt`. `KeptLines` has the lines that were painted, from one screen to the next: only its `prepare`
+//! takes memory.
 #![tactic(auto)]
 
 mod laws;

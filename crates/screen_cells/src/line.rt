@@ -7,13 +7,13 @@ use arrayvec::ArrayVec;
 use screen_pictures::Cell;
 
 /// A row's number and colon, its 80 bytes and a line feed.
-pub(crate) type Line = ArrayVec<u8, 84>;
+pub(crate) type PrintedLine = ArrayVec<u8, 84>;
 
 /// The bytes of a row.
 type RowBytes = ArrayVec<u8, 80>;
 
 /// The line of a row's characters.
-pub(crate) fn character_line(y: u8, row: &[Cell]) -> Line
+pub(crate) fn character_line(y: u8, row: &[Cell]) -> PrintedLine
     requires two_digits { y < 100 }
     requires fits { length row.now ≤ 80 }
     ensures { result.items ≡ character_line y row.now }
@@ -22,7 +22,7 @@ pub(crate) fn character_line(y: u8, row: &[Cell]) -> Line
 }
 
 /// The line of a row's marks.
-pub(crate) fn mark_line(y: u8, row: &[Cell]) -> Line
+pub(crate) fn mark_line(y: u8, row: &[Cell]) -> PrintedLine
     requires two_digits { y < 100 }
     requires fits { length row.now ≤ 80 }
     ensures { result.items ≡ mark_line y row.now }
@@ -62,12 +62,12 @@ fn letters(row: &[Cell]) -> RowBytes
 }
 
 /// A line with a row's number and its bytes, without blanks at their end.
-fn row_line(y: u8, bytes: &[u8], blank: u8) -> Line
+fn row_line(y: u8, bytes: &[u8], blank: u8) -> PrintedLine
     requires two_digits { y < 100 }
     requires fits { length bytes.now ≤ 80 }
     ensures { result.items ≡ row_line y blank bytes.now }
 {
-    let mut line = Line::new();
+    let mut line = PrintedLine::new();
     line.push(b'0' + y / 10);
     line.push(b'0' + y % 10);
     line.push(b':');

@@ -10,7 +10,7 @@ ghost use Rattle.screen_cells.specs.Lines.{IsSlotOf, IsCaretOf, AreLinesOf, IsNu
 ghost use Rattle.screen_cells.specs.Walks.{IsWalk};
 
 use crate::shown::Shown;
-use crate::strip::Line;
+use crate::strip::StripLine;
 use crate::walk::Walk;
 use std::alloc::{AllocError, Global};
 use std::vec::Vec;
@@ -31,7 +31,7 @@ pub(crate) struct LineKey {
 #[derive(Drop)]
 pub(crate) struct KeptLine {
     pub(crate) key: LineKey,
-    pub(crate) cells: Line,
+    pub(crate) cells: StripLine,
 }
 
 /// Which caret it is: before that position of the text of that number, in a frame of so many columns and rows that
@@ -110,7 +110,8 @@ impl KeptLines {
 /// Makes a place for a line of each row.
 fn fill(slots: &mut Vec<Slot>) -> Result<(), AllocError>
     ensures ready { OnOk result (ROWS ≤ length slots.new.items) }
-    ensures lines { (texts : ℕ → AText ℕ) → All (IsSlotOf texts) slots.old.items → All (IsSlotOf texts) slots.new.items }
+    ensures lines { (texts : ℕ → AText ℕ) → All (IsSlotOf texts) slots.old.items
+        → All (IsSlotOf texts) slots.new.items }
 {
     while slots.len() < ROWS as usize {
         slots.push(None)?;
@@ -162,16 +163,16 @@ fn forget_caret(caret: &mut Option<KeptCaret>, number: u16)
 }
 
 /// The same cells.
-fn copy_of(cells: &Line) -> Line
+fn copy_of(cells: &StripLine) -> StripLine
     ensures { result.items ≡ cells.now.items }
 {
-    let mut copy = Line::new();
+    let mut copy = StripLine::new();
     copy.try_extend_from_slice(cells.as_slice()).unwrap();
     copy
 }
 
 /// The cells of the line that is kept, where it is the one of that key.
-fn cells_of(slot: &Slot, key: LineKey) -> Option<Line>
+fn cells_of(slot: &Slot, key: LineKey) -> Option<StripLine>
     ensures none { IfNone result (¬ HasLine key slot.now) }
     ensures some { IfSome result (λ cells. HasLine key slot.now) }
     ensures cells { IfSome result (λ cells. IfSome slot.now (λ line. cells.items ≡ line.cells.items)) }
@@ -189,7 +190,7 @@ pub(crate) fn menu_cells<S: CharSource>(
     width: u8,
     slot: &mut Slot,
     source: &mut S,
-) -> Result<Line, Fault>
+) -> Result<StripLine, Fault>
     requires fits { width ≤ 50 }
     requires showable { IsShowable (length (S.characters source.old)) shown.now }
     ensures cells { IfOk result (λ cells. S.honest source.old → (texts : ℕ → AText ℕ)
@@ -231,7 +232,7 @@ pub(crate) fn frame_cells<S: CharSource>(
     row: u8,
     slot: &mut Slot,
     source: &mut S,
-) -> Result<Line, Fault>
+) -> Result<StripLine, Fault>
     requires columns { w ≤ 50 }
     requires rows { walk.old.h ≤ 31 }
     requires row { row < walk.old.h }
@@ -278,8 +279,8 @@ fn caret_kept(caret: Option<KeptCaret>, key: CaretKey) -> Option<KeptCaret>
     }
 }
 
-/// The cell of a viewer's main frame of `w` columns and `h` rows at which its caret stands, if it has one that is shown;
-/// it is read where it isn't kept, and then kept. `Fault`: the source failed in this call.
+/// The cell of a viewer's main frame of `w` columns and `h` rows at which its caret stands, if it has one that is
+/// shown; it is read where it isn't kept, and then kept. `Fault`: the source failed in this call.
 pub(crate) fn caret_cell<S: CharSource>(
     shown: &Shown<'_>,
     w: u8,

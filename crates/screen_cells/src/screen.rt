@@ -3,7 +3,7 @@ ghost use Rattle.piece_ring.specs.Text.{Text as AText};
 ghost use Rattle.std.specs.Prelude.{◌≡◌, ◌<◌, ◌-◌, ℕ, if◌then◌else◌, nat_lt, length, map, All, OnOk};
 ghost use Rattle.sector_disk.specs.Trail.{CountsFault};
 ghost use Rattle.char_file.specs.Source.{OnlyReads};
-ghost use Rattle.screen_pictures.specs.Picture.{filler, marked, picture};
+ghost use Rattle.screen_pictures.specs.Picture.{filler, with_marker, picture};
 ghost use Rattle.screen_cells.specs.Shown.{IsShowable, as_read, strip_cell};
 ghost use Rattle.screen_pictures.specs.Screen.{screen_of, cell_at, column_at, values};
 ghost use Rattle.screen_cells.specs.Rows.{painted_row, strips_cell};
@@ -197,7 +197,7 @@ fn strips_cell(user: &Strip, system: &Strip, x: u8) -> Cell
 
 /// A cell with the marker on it, or as it is.
 fn marked(cell: Cell, has_marker: bool) -> Cell
-    ensures { result ≡ marked has_marker cell }
+    ensures { result ≡ with_marker has_marker cell }
 {
     if has_marker {
         return Cell {

@@ -4,7 +4,7 @@ ghost use Rattle.std.specs.Prelude.{IfOk, OnOk, IfSome};
 ghost use Rattle.std.specs.List.{position_or_len};
 ghost use Rattle.readers_scanners.specs.Words.{CountsFault, OnlyReads};
 ghost use Rattle.viewer_tracks.specs.Display.{left_of};
-ghost use Rattle.viewer_tracks.specs.Viewers.{viewer_at, number_of};
+ghost use Rattle.viewer_tracks.specs.Viewers.{viewer_at, id_number};
 ghost use Rattle.viewer_tracks.specs.Columns.{shown as shown_track, StandsAt};
 ghost use Rattle.screen_pictures.specs.Bytes.{shown_byte};
 ghost use Rattle.screen_pictures.specs.Picture.{cell_with, filler, is_at, is_selected, text_cell};
@@ -21,14 +21,14 @@ use crate::walk::{Walk, walk_of};
 use arrayvec::ArrayVec;
 use piece_ring::{DEFAULT_LOOK, Look};
 use screen_pictures::{Cell, Mark};
-use text_frames::{CharSource, Fault, Selection};
+use text_frames::{CharSource, Fault, FrameSelection};
 use viewer_tracks::{COLUMNS, ROWS, SYSTEM_LEFT, Track, Tracks, ViewerId};
 
 /// What fills a cell of a line: a character's byte and look, and its position in the text.
 pub(crate) type Filled = (u8, Look, u32);
 
 /// The filled cells of a line, from the left.
-pub(crate) type Line = ArrayVec<Filled, 50>;
+pub(crate) type StripLine = ArrayVec<Filled, 50>;
 
 /// What a track shows in a row.
 #[derive(Drop)]
@@ -36,7 +36,7 @@ pub(crate) enum Strip {
     /// No viewer.
     Filler,
     /// The menu of a viewer.
-    Menu(Line),
+    Menu(StripLine),
     /// A row of a viewer's main frame, with its bar.
     Frame(FrameRow),
 }
@@ -44,10 +44,10 @@ pub(crate) enum Strip {
 /// A row of a main frame.
 #[derive(Drop)]
 pub(crate) struct FrameRow {
-    pub(crate) line: Line,
+    pub(crate) line: StripLine,
     /// The cell of the frame at which the caret stands.
     pub(crate) caret: Option<(u8, u8)>,
-    pub(crate) selection: Option<Selection>,
+    pub(crate) selection: Option<FrameSelection>,
     /// The number of the row, from the top of the frame.
     pub(crate) row: u8,
 }
@@ -117,7 +117,7 @@ fn text_mark(has_caret: bool, is_selected: bool) -> Mark
 }
 
 /// Whether what fills a cell is a selected character.
-fn is_selected(selection: Option<Selection>, c: Option<Filled>) -> bool
+fn is_selected(selection: Option<FrameSelection>, c: Option<Filled>) -> bool
     ensures { result ≡ is_selected selection c }
 {
     let Some(selection) = selection else {
@@ -164,7 +164,7 @@ fn shown_byte(byte: u8) -> u8
 /// The viewer that is seen in a row of a track.
 fn seen(tracks: &Tracks, track: Track, y: u8) -> Option<ViewerId>
     requires { y < ROWS }
-    ensures seen { number_of result ≡ viewer_at (shown_track tracks.now track) y }
+    ensures seen { id_number result ≡ viewer_at (shown_track tracks.now track) y }
     ensures stands { IfSome result (λ v. StandsAt tracks.now v.0 (left_of track) y) }
 {
     match track {

@@ -11,7 +11,7 @@ use Rattle.piece_ring.specs.declared.piece.Look.{Look}
 use Rattle.piece_ring.specs.Look.{default_look}
 use Rattle.piece_ring.specs.Text.{Text}
 use Rattle.text_frames.specs.declared.frame.Frame.{Frame}
-use Rattle.text_frames.specs.declared.frame.Selection.{Selection}
+use Rattle.text_frames.specs.declared.frame.FrameSelection.{FrameSelection}
 use Rattle.text_frames.specs.Cells.{cell_of}
 use Rattle.text_frames.specs.Row.{row_cells}
 use Rattle.viewer_tracks.specs.declared.display.Track.{Track}
@@ -57,13 +57,13 @@ abbrev pub bar_cell : Cell
 bar_cell = cell_with vertical_bar None Bar
 
 -- what fills the cell is a selected character
-abbrev pub is_selected : Option Selection → Option (ℕ × Look × ℕ) → Bool
+abbrev pub is_selected : Option FrameSelection → Option (ℕ × Look × ℕ) → Bool
 is_selected None c = false
 is_selected (Some s) None = false
 is_selected (Some s) (Some c) = nat_le s.beg c.2 && nat_lt c.2 s.end
 
 -- a cell of the main text, whose row shows this line, with the cell of the caret
-abbrev pub text_cell : List (ℕ × Look × ℕ) → Option (ℕ × ℕ) → Option Selection → ℕ → ℕ → Cell
+abbrev pub text_cell : List (ℕ × Look × ℕ) → Option (ℕ × ℕ) → Option FrameSelection → ℕ → ℕ → Cell
 text_cell line caret selection column row =
     let c = slice_get line column in
     cell_with space c (mark_of false (is_at caret column row) (is_selected selection c) InText)
@@ -109,10 +109,10 @@ track_cell columns viewers track column y =
     seen_cell columns viewers track column y (viewer_at (shown columns track) y)
 
 -- a cell with the marker on it, or as it is
-abbrev pub marked : Bool → Cell → Cell
-marked here cell = if here then record cell { mark = Marker } else cell
+abbrev pub with_marker : Bool → Cell → Cell
+with_marker here cell = if here then record cell { mark = Marker } else cell
 
 -- the cell, with these columns, viewers and this marker
 unfoldable pub picture : Columns → List Viewer → Option (ℕ × ℕ) → ℕ → ℕ → Cell
 picture columns viewers marker x y =
-    marked (is_at marker x y) (track_cell columns viewers (track_at x) (x - left_of (track_at x)) y)
+    with_marker (is_at marker x y) (track_cell columns viewers (track_at x) (x - left_of (track_at x)) y)

@@ -6,8 +6,7 @@ ghost use Rattle.screen_pictures.specs.Picture.{filler_cell};
 use piece_ring::{DEFAULT_LOOK, Look};
 
 /// What is at a cell: the marker, a caret or a selected character, the first of these that is there, or else the part
-/// of
-/// the display that the cell belongs to.
+/// of the display that the cell belongs to.
 #[derive(Clone, Copy, Debug, PartialEq, Eq)]
 pub enum Mark {
     /// The marker, wherever it is.

@@ -8,7 +8,7 @@ use Rattle.std.proofs.lemmas.Bool.{cases_lt, cond-true}
 use Rattle.std.proofs.lemmas.Bool.Decides.{nat_tests}
 use Rattle.std.proofs.lemmas.Fmt.{decimal_digit, decimal_step}
 use Rattle.event_bytes.specs.Bytes.{is_digit}
-use Rattle.script_lines.specs.Words.{◌>>=◌, one_more, number_from, number_of}
+use Rattle.script_lines.specs.Words.{◌>>=◌, one_more, number_from, to_number}
 
 -- ---- one digit
 
@@ -117,8 +117,8 @@ first_high : (b : ℕ) → is_digit b ≡ true → b ≤ 57
 unfolding is_digit
 first_high b h = grind (arith, nat_tests)
 
-spelled_is : (text : List ℕ) (n : ℕ) → number_of text ≡ Some n → (n ≤ 255) × (text ≡ decimal n)
-unfolding number_of
+spelled_is : (text : List ℕ) (n : ℕ) → to_number text ≡ Some n → (n ≤ 255) × (text ≡ decimal n)
+unfolding to_number
 spelled_is [] n is = absurd cc
 spelled_is (b ∷ bs) n is =
     let first : (is_digit b ≡ true) × (number_from (b - 48) bs ≡ Some n) = is_first b (number_from (b - 48) bs) n is in
@@ -147,9 +147,9 @@ last_from m [] b = some_again (one_more m b)
 last_from m (x ∷ xs) b = step_through (one_more m x) (λ k. number_from k (xs ++ b ∷ [])) (λ k. number_from k xs)
     (λ k. one_more k b) (λ k. last_from k xs b)
 
-last_of : (xs : List ℕ) (b : ℕ) (m k : ℕ) → number_of xs ≡ Some m → one_more m b ≡ Some k
-    → number_of (xs ++ b ∷ []) ≡ Some k
-unfolding number_of
+last_of : (xs : List ℕ) (b : ℕ) (m k : ℕ) → to_number xs ≡ Some m → one_more m b ≡ Some k
+    → to_number (xs ++ b ∷ []) ≡ Some k
+unfolding to_number
 last_of [] b m k is more = absurd cc
 last_of (x ∷ xs) b m k is more =
     let first : (is_digit x ≡ true) × (number_from (x - 48) xs ≡ Some m) = is_first x (number_from (x - 48) xs) m is in
@@ -160,14 +160,14 @@ is_digit_of : (n : ℕ) → n < 10 → is_digit (48 + n) ≡ true
 unfolding is_digit
 is_digit_of n small = grind (arith, nat_tests)
 
-one_digit : (n : ℕ) → n < 10 → number_of (decimal n) ≡ Some n
-unfolding number_of number_from
+one_digit : (n : ℕ) → n < 10 → to_number (decimal n) ≡ Some n
+unfolding to_number number_from
 one_digit n small =
     let same : 48 + n - 48 ≡ n = omega arith in
-    ap number_of (decimal_digit n small)
+    ap to_number (decimal_digit n small)
     ∙ cond-true (is_digit (48 + n)) (Some (48 + n - 48)) None (is_digit_of n small) ∙ ap (λ (k : ℕ). Some k) same
 
-digit_more : (n : ℕ) → 10 ≤ n → n ≤ 255 → number_of (decimal (n / 10)) ≡ Some (n / 10) → number_of (decimal n) ≡ Some n
+digit_more : (n : ℕ) → 10 ≤ n → n ≤ 255 → to_number (decimal (n / 10)) ≡ Some (n / 10) → to_number (decimal n) ≡ Some n
 digit_more n large small front =
     let more : IsMore (n / 10) (48 + n % 10) n = record {
       low = omega arith;
@@ -176,20 +176,20 @@ digit_more n large small front =
       value = omega arith;
       small = small;
     } in
-    ap number_of (decimal_step n large (omega (arith, small)))
+    ap to_number (decimal_step n large (omega (arith, small)))
     ∙ last_of (decimal (n / 10)) (48 + n % 10) (n / 10) n front (more_is (n / 10) (48 + n % 10) n more)
 
-two_digits : (n : ℕ) → n < 100 → number_of (decimal n) ≡ Some n
+two_digits : (n : ℕ) → n < 100 → to_number (decimal n) ≡ Some n
 two_digits n small = elim (cases_lt n 10) [
   | inl one ↦ one_digit n one
   | inr large ↦ digit_more n large (omega (arith, small)) (one_digit (n / 10) (omega (arith, small)))
 ]
 
-is_spelled : (n : ℕ) → n ≤ 255 → number_of (decimal n) ≡ Some n
+is_spelled : (n : ℕ) → n ≤ 255 → to_number (decimal n) ≡ Some n
 is_spelled n small = elim (cases_lt n 10) [
   | inl one ↦ one_digit n one
   | inr large ↦ digit_more n large small (two_digits (n / 10) (omega (arith, small)))
 ]
 
-pub only_decimals : (text : List ℕ) (n : ℕ) → (number_of text ≡ Some n) ↔ ((n ≤ 255) × (text ≡ decimal n))
-only_decimals text n = (spelled_is text n, λ is. ap number_of is.1 ∙ is_spelled n is.0)
+pub only_decimals : (text : List ℕ) (n : ℕ) → (to_number text ≡ Some n) ↔ ((n ≤ 255) × (text ≡ decimal n))
+only_decimals text n = (spelled_is text n, λ is. ap to_number is.1 ∙ is_spelled n is.0)

@@ -7,7 +7,7 @@ use Rattle.event_bytes.specs.Bytes.{lies_within, is_name, is_file_bytes, is_type
 use Rattle.event_bytes.specs.declared.event.Event.TheVariants.{Typed, Key, Mark, Point, File}
 use Rattle.script_lines.specs.declared.request.Request.{Request}
 use Rattle.script_lines.specs.declared.request.Request.TheVariants.{Post, Checkpoint, Show, Listing, Display, Malformed}
-use Rattle.script_lines.specs.Words.{word, argument, ◌>>=◌, leading, number_of, key_named, keys_named}
+use Rattle.script_lines.specs.Words.{word, argument, ◌>>=◌, leading, to_number, key_named, keys_named}
 use Rattle.script_lines.specs.Percent.{meant}
 
 -- from the space to the tilde
@@ -41,18 +41,18 @@ key_of name = do
 -- the cell by column and row
 abbrev pub mark_of : List ℕ → Option Request
 mark_of text = do
-  x ← leading number_of text
-  y ← number_of x.1
+  x ← leading to_number text
+  y ← to_number x.1
   Some (Post (Mark x.0 y))
 
 -- the keys, the cell where they go down and the cell where they go up
 abbrev pub point_of : List ℕ → Option Request
 point_of text = do
   keys ← leading keys_named text
-  x0 ← leading number_of keys.1
-  y0 ← leading number_of x0.1
-  x1 ← leading number_of y0.1
-  y1 ← number_of x1.1
+  x0 ← leading to_number keys.1
+  y0 ← leading to_number x0.1
+  x1 ← leading to_number y0.1
+  y1 ← to_number x1.1
   Some (Post (Point keys.0 x0.0 y0.0 x1.0 y1))
 
 -- the file's name and its bytes

@@ -49,9 +49,9 @@ number_from n (b ∷ bs) = do
   number_from more bs
 
 -- the number from 0 to 255 that decimal digits without leading zeros spell
-unfoldable pub number_of : List ℕ → Option ℕ
-number_of [] = None
-number_of (b ∷ bs) = if is_digit b then number_from (b - 48) bs else None
+unfoldable pub to_number : List ℕ → Option ℕ
+to_number [] = None
+to_number (b ∷ bs) = if is_digit b then number_from (b - 48) bs else None
 
 -- ---- keys
 

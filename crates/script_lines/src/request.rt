@@ -24,7 +24,7 @@ pub enum Request {
     Checkpoint,
     /// The text of the file.
     Show(Name),
-    /// All files and viewers, and how many characters were ever written.
+    /// All files and viewers, and how many characters count as written.
     Listing,
     /// The screen.
     Display,

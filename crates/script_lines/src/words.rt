@@ -2,7 +2,7 @@
 ghost use Rattle.std.specs.Prelude.{◌≡◌, ◌<◌, length, position, IfSome};
 ghost use Rattle.std.specs.Option.{option_map};
 ghost use Rattle.event_bytes.specs.Parts.{value_and_rest};
-ghost use Rattle.script_lines.specs.Words.{is_space, word, argument, leading, one_more, number_from, number_of};
+ghost use Rattle.script_lines.specs.Words.{is_space, word, argument, leading, one_more, number_from, to_number};
 ghost use Rattle.script_lines.specs.Words.{key_named, keys_named};
 
 use event_bytes::{Key, Keys, is_digit};
@@ -29,7 +29,7 @@ fn first_space(line: &[u8]) -> Option<usize>
 
 /// The number that the word before the first space spells, and what stands after the space.
 pub fn leading_number(text: &[u8]) -> Option<(u8, &[u8])>
-    ensures { value_and_rest result ≡ leading number_of text.now }
+    ensures { value_and_rest result ≡ leading to_number text.now }
 {
     let (word, rest) = split_word(text);
     let rest = rest?;
@@ -46,9 +46,9 @@ pub fn leading_keys(text: &[u8]) -> Option<(Keys, &[u8])>
 }
 
 /// The number from 0 to 255 that decimal digits without leading zeros spell.
-#[tactic(auto, unfolding(crate::specs::Words::number_of, event_bytes::specs::Bytes::is_digit))]
+#[tactic(auto, unfolding(crate::specs::Words::to_number, event_bytes::specs::Bytes::is_digit))]
 pub fn number(text: &[u8]) -> Option<u8>
-    ensures { result ≡ number_of text.now }
+    ensures { result ≡ to_number text.now }
 {
     let (first, rest) = text.split_first()?;
     if !is_digit(*first) {

@@ -2,8 +2,8 @@
 use Rattle.std.proofs.Common.{◌≡◌, inl, inr, ℕ, ◌≤◌, List, [], ◌∷◌, ◌++◌, length, sym, ◌∙◌, ap, arith}
 use Rattle.std.proofs.lemmas.Bool.{cases_lt}
 use Rattle.std.proofs.lemmas.Bool.Decides.{nat_tests}
-use Rattle.sector_disk.specs.declared.call.Call.{Call}
-use Rattle.sector_disk.specs.declared.call.Call.TheVariants.{Write, Sync}
+use Rattle.sector_disk.specs.declared.call.DiskCall.{DiskCall}
+use Rattle.sector_disk.specs.declared.call.DiskCall.TheVariants.{Write, Sync}
 use Rattle.sector_disk.specs.declared.sectors.Sectors.{Sectors}
 use Rattle.sector_disk.specs.Trail.{written, settled}
 use Rattle.sector_disk.specs.Memory.{trail_of, IsLastSync}
@@ -11,7 +11,7 @@ use Rattle.sector_disk.specs.Sectors.{seen, held, IsKept}
 use Rattle.sector_disk.proofs.Replay.{long, past, now_after}
 
 -- a write
-module _ (calls new : List Call) (n : ℕ) (bytes : List ℕ) (is : new ≡ calls ++ Write n bytes ∷ []) where
+module _ (calls new : List DiskCall) (n : ℕ) (bytes : List ℕ) (is : new ≡ calls ++ Write n bytes ∷ []) where
   wrote_since : (s : ℕ) → s ≤ length calls → IsLastSync (trail_of calls) s → IsLastSync (trail_of new) s
   wrote_since s early was = record {
     within = omega (arith, long calls new (Write n bytes) is);
@@ -39,7 +39,7 @@ module _ (calls new : List Call) (n : ℕ) (bytes : List ℕ) (is : new ≡ call
   }
 
 -- a sync
-module _ (calls new : List Call) (is : new ≡ calls ++ Sync ∷ []) where
+module _ (calls new : List DiskCall) (is : new ≡ calls ++ Sync ∷ []) where
   pub kept_synced : (old sectors : Sectors) → seen sectors ≡ settled (seen old) → held sectors ≡ (seen old).reads
       → IsKept calls old → IsKept new sectors
   kept_synced old sectors reads settles was = record {

@@ -4,7 +4,7 @@ use Rattle.std.specs.Prelude.{◌≡◌, ◌==◌, ℕ, List, true, if◌then◌
 use Rattle.std.specs.Option.{is_some, unwrap_or}
 use Rattle.std.specs.Ordering.{nat_cmp}
 use Rattle.std.specs.BTreeMap.{get}
-use Rattle.sector_disk.specs.declared.call.Call.{Call}
+use Rattle.sector_disk.specs.declared.call.DiskCall.{DiskCall}
 use Rattle.sector_disk.specs.declared.sectors.Sectors.{Sectors}
 use Rattle.sector_disk.specs.Trail.{Content, Moment, now}
 use Rattle.sector_disk.specs.Memory.{zeros, trail_of, IsLastSync}
@@ -33,7 +33,7 @@ pub record IsOpened (old new : Sectors) (n : ℕ) : Type 0 where
   pub room : is_some (get nat_cmp new.latest n) ≡ true
 
 -- what is kept is what these calls left
-pub record IsKept (calls : List Call) (sectors : Sectors) : Type 0 where
+pub record IsKept (calls : List DiskCall) (sectors : Sectors) : Type 0 where
   pub moment : ℕ
   pub last_sync : IsLastSync (trail_of calls) moment
   pub reads : seen sectors ≡ now (trail_of calls)

@@ -1,7 +1,7 @@
 //! A list of calls that contracts alone see. It has no bytes, so a disk may be called any number of times.
 ghost use Rattle.std.specs.Prelude.{◌≡◌, List, [], ◌∷◌, ◌++◌};
 ghost use Rattle.std.specs.Borrow.{ftrue};
-ghost use Rattle.sector_disk.specs.declared.call.Call.{Call};
+ghost use Rattle.sector_disk.specs.declared.call.DiskCall.{DiskCall};
 
 use std::marker::{Model, PhantomData};
 
@@ -9,7 +9,7 @@ use std::marker::{Model, PhantomData};
 #[derive(Drop)]
 pub struct CallList {
     marker: PhantomData<u8>,
-    pub ghost items: { List Call },
+    pub ghost items: { List DiskCall },
 }
 
 impl Model for CallList {
@@ -17,7 +17,7 @@ impl Model for CallList {
 }
 
 impl CallList {
-    ghost use Rattle.sector_disk.specs.declared.call.Call.TheVariants.{Write, Sync};
+    ghost use Rattle.sector_disk.specs.declared.call.DiskCall.TheVariants.{Write, Sync};
 
     /// No call yet.
     pub(crate) fn new() -> CallList

@@ -22,9 +22,9 @@ use Rattle.piece_ring.specs.Text.{Text, deleted}
 use Rattle.desktop_definitions.specs.declared.viewer.Viewer.{Viewer}
 use Rattle.desktop_definitions.specs.declared.viewer.Caret.{Caret}
 use Rattle.desktop_definitions.specs.declared.viewer.Selection.{Selection}
-use Rattle.desktop_definitions.specs.declared.area.Area.{Area}
-use Rattle.desktop_definitions.specs.declared.area.Area.TheVariants.{Filler, Menu, Bar, Body}
-use Rattle.desktop_definitions.specs.Limits.{first_version, no_caret, no_selection, outside, too_many_files, full}
+use Rattle.desktop_definitions.specs.declared.region.Region.{Region}
+use Rattle.desktop_definitions.specs.declared.region.Region.TheVariants.{Filler, Menu, Bar, Body}
+use Rattle.desktop_definitions.specs.Limits.{no_caret, no_selection, outside, too_many_files, full}
 use Rattle.text_frames.specs.Cells.{position_at, row_of}
 use Rattle.desktop_definitions.specs.declared.reply.Reply.{Reply}
 use Rattle.desktop_definitions.specs.declared.reply.Reply.TheVariants.{Done, No}
@@ -36,14 +36,14 @@ use Rattle.desktop_definitions.specs.Viewers.{viewer_of, newest, text_of, with_o
 use Rattle.desktop_definitions.specs.Viewers.{selected, main_of}
 use Rattle.desktop_definitions.specs.Needs.{needs, unless}
 use Rattle.desktop_definitions.specs.Change.{edited, followed, after_change, insertion, deletion, looks_set, showing}
-use Rattle.desktop_definitions.specs.Change.{bytes_of, in_look, caret_shown, put_in, put_at_caret, cut_out, more_written}
+use Rattle.desktop_definitions.specs.Change.{bytes_of, in_look, caret_shown, put_in, put_at_caret, cut_out}
 use Rattle.desktop_definitions.specs.Changed.{texts_shown}
 use Rattle.desktop_definitions.specs.Keys.{typed, pressed, without_character_before, with_copied, escaped}
 use Rattle.desktop_definitions.specs.Opening.{dropped}
-use Rattle.desktop_definitions.specs.Gesture.{is_on_display, area_at, pointed, resized, scrolled_to_row}
+use Rattle.desktop_definitions.specs.Gesture.{is_on_display, region_at, pointed, resized, scrolled_to_row}
 use Rattle.desktop_definitions.specs.Gesture.{scrolled_to_share, copied_to, looks_taken, taken_out, sent_to_caret}
 use Rattle.desktop_definitions.specs.Gesture.{drawn_in, is_some_stretch}
-use Rattle.desktop_definitions.specs.Step.{filed, marked, fits, settled, raw, step, step_in}
+use Rattle.desktop_definitions.specs.Step.{filed, marked, fits, settled, raw, step_in}
 use Rattle.desktop_laws.specs.ChangeLaws.{followed_shown, org_shown}
 use Rattle.desktop_laws.specs.PlaceLaws.{at_is}
 use Rattle.desktop_laws.specs.RowLaws.{shown_rest}
@@ -193,7 +193,8 @@ module _ (version n : ℕ) (d : Desktop) where
 
   caret_apart : (c : Caret) → d.caret ≡ Some c → is_stale (stale_at_caret d.viewers d.caret) n ≡ false
       → ((viewer_of d c.viewer).main == n) ≡ false
-  caret_apart c here = subst (λ o. is_stale (stale_at_caret d.viewers o) n ≡ false → ((viewer_of d c.viewer).main == n) ≡ false)
+  caret_apart c here = subst
+      (λ o. is_stale (stale_at_caret d.viewers o) n ≡ false → ((viewer_of d c.viewer).main == n) ≡ false)
       (sym here) (λ apart. apart)
 
   newest_apart : (s : Selection) → newest d ≡ Some s → is_stale (stale_selected d.viewers (newest d)) n ≡ false
@@ -208,7 +209,8 @@ module _ (version n : ℕ) (d : Desktop) where
       let is = leaves_put_at n d (in_look d.look bytes) c (caret_apart c here apart) in
       record { text = is.text; numbers = is.numbers; viewers = is.viewers })
 
-  pressed_leaves : (key : Key) → is_stale (stale_by_key d.viewers d.caret (newest d) key) n ≡ false → LeavesIn n d (pressed d key)
+  pressed_leaves : (key : Key) → is_stale (stale_by_key d.viewers d.caret (newest d) key) n ≡ false
+      → LeavesIn n d (pressed d key)
   unfolding pressed stale_by_key escaped
   pressed_leaves Back apart = needed d.caret no_caret _
       (λ c here. leaves_without n d c (caret_apart c here apart))
@@ -258,14 +260,16 @@ module _ (version n : ℕ) (d : Desktop) where
         | false ↦ apart
       ]
 
-  sent_leaves : (s : Selection) → is_stale (stale_at_caret d.viewers d.caret) n ≡ false → LeavesIn n d (sent_to_caret d s)
+  sent_leaves : (s : Selection) → is_stale (stale_at_caret d.viewers d.caret) n ≡ false
+      → LeavesIn n d (sent_to_caret d s)
   unfolding sent_to_caret
   sent_leaves s apart = provided (is_some_stretch s) no_selection _ (needed d.caret no_caret _ (λ c here.
       leaves_then n d (drawn_in d s) _ (leaves_drawn n d s)
       (leaves_put_at n (drawn_in d s) (selected d s) c (drawn_apart s c.viewer (caret_apart c here apart)))))
 
-  pointed_leaves : (area : Area) (keys : Keys) (x0 y0 x1 y1 : ℕ)
-      → is_stale (stale_by_gesture d.viewers d.caret (newest d) area keys) n ≡ false → LeavesIn n d (pointed version d area keys x0 y0 x1 y1)
+  pointed_leaves : (region : Region) (keys : Keys) (x0 y0 x1 y1 : ℕ)
+      → is_stale (stale_by_gesture d.viewers d.caret (newest d) region keys) n ≡ false
+      → LeavesIn n d (pointed version d region keys x0 y0 x1 y1)
   unfolding pointed stale_by_gesture resized
   pointed_leaves Filler Left x0 y0 x1 y1 apart = leaves_all n d
   pointed_leaves Filler LeftMiddle x0 y0 x1 y1 apart = leaves_all n d
@@ -311,9 +315,10 @@ module _ (version n : ℕ) (d : Desktop) where
   raw_leaves (Mark x y) apart = provided (is_on_display x y) outside _
       (record { text = refl; numbers = refl; viewers = refl })
   raw_leaves (Point keys x0 y0 x1 y1) apart = (elim (is_on_display x0 y0 && is_on_display x1 y1) as
-      (λ b. is_stale (if b then stale_by_gesture d.viewers d.caret (newest d) (area_at d x0 y0) keys else Nothing) n ≡ false
-      → LeavesIn n d (unless b outside (pointed version d (area_at d x0 y0) keys x0 y0 x1 y1))) [
-        | true ↦ λ apart. pointed_leaves (area_at d x0 y0) keys x0 y0 x1 y1 apart
+      (λ b. is_stale (if b then stale_by_gesture d.viewers d.caret (newest d) (region_at d x0 y0) keys else Nothing) n
+      ≡ false
+      → LeavesIn n d (unless b outside (pointed version d (region_at d x0 y0) keys x0 y0 x1 y1))) [
+        | true ↦ λ apart. pointed_leaves (region_at d x0 y0) keys x0 y0 x1 y1 apart
         | false ↦ λ apart. tt
       ]) apart
   raw_leaves (File name bytes) apart = provided (has_room d.files name) too_many_files _
@@ -331,16 +336,16 @@ settled_leaves n d (Ok new) shown is = elim (fits (dropped new)) as
       | false ↦ refl
     ]
 
-pub others_stay : (d : Desktop) (event : Event) (n : ℕ) → IsSound d → is_stale (stale_of d event) n ≡ false
-    → text_of (step d event).0 n ≡ text_of d n
-unfolding step step_in
-others_stay d event n sound apart =
-    settled_leaves n d (raw first_version d event) sound.shown (raw_leaves first_version n d event apart)
+pub others_stay : (version : ℕ) (d : Desktop) (event : Event) (n : ℕ) → IsSound d
+    → is_stale (stale_of d event) n ≡ false → text_of (step_in version d event).0 n ≡ text_of d n
+unfolding step_in
+others_stay version d event n sound apart =
+    settled_leaves n d (raw version d event) sound.shown (raw_leaves version n d event apart)
 
 -- which texts these are doesn't rest on the characters
 pub stale_seen : (characters : List ℕ) (d : KeptDesktop) (event : Event)
     → stale_of (seen characters d) event ≡ stale_of d event
-unfolding seen stale_of area_at
+unfolding seen stale_of region_at
 stale_seen characters d (Typed bytes) = refl
 stale_seen characters d (Pressed key) = refl
 stale_seen characters d (Mark x y) = refl

@@ -9,12 +9,12 @@ use Rattle.event_bytes.specs.declared.keys.Keys.TheVariants.{Left, LeftMiddle, L
 use Rattle.event_bytes.specs.declared.keys.Keys.TheVariants.{Right, RightLeft, RightMiddle}
 use Rattle.desktop_definitions.specs.declared.viewer.Caret.{Caret}
 use Rattle.desktop_definitions.specs.declared.viewer.Selection.{Selection}
-use Rattle.desktop_definitions.specs.declared.area.Area.{Area}
-use Rattle.desktop_definitions.specs.declared.area.Area.TheVariants.{Filler, Menu, Bar, Body}
+use Rattle.desktop_definitions.specs.declared.region.Region.{Region}
+use Rattle.desktop_definitions.specs.declared.region.Region.TheVariants.{Filler, Menu, Bar, Body}
 use Rattle.desktop_definitions.specs.Desktop.{DesktopOf}
 use Rattle.desktop_definitions.specs.declared.viewer.Viewer.{Viewer}
 use Rattle.desktop_definitions.specs.Viewers.{viewer_or_none, newest}
-use Rattle.desktop_definitions.specs.Gesture.{is_on_display, area_at}
+use Rattle.desktop_definitions.specs.Gesture.{is_on_display, region_at}
 use Rattle.stale_texts.specs.declared.stale.Stale.{Stale}
 use Rattle.stale_texts.specs.declared.stale.Stale.TheVariants.{Nothing, Text, All}
 
@@ -46,9 +46,9 @@ stale_by_key viewers caret latest Paste = stale_at_caret viewers caret
 stale_by_key viewers caret latest Cut = stale_selected viewers latest
 stale_by_key viewers caret latest Escape = Nothing
 
--- what the keys of the mouse change in an area: a call may change any text, and where a viewer is opened or carried
+-- what the keys of the mouse change in a region: a call may change any text, and where a viewer is opened or carried
 -- another may be gone; what is put in, taken out or gets a look changes one text; all else changes none
-unfoldable pub stale_by_gesture : List (ℕ × Viewer) → Option Caret → Option Selection → Area → Keys → Stale
+unfoldable pub stale_by_gesture : List (ℕ × Viewer) → Option Caret → Option Selection → Region → Keys → Stale
 stale_by_gesture viewers caret latest Filler Middle = All
 stale_by_gesture viewers caret latest (Menu v) LeftMiddle = All
 stale_by_gesture viewers caret latest (Menu v) Middle = All
@@ -57,7 +57,7 @@ stale_by_gesture viewers caret latest (Body v) LeftRight = stale_selected viewer
 stale_by_gesture viewers caret latest (Body v) Middle = All
 stale_by_gesture viewers caret latest (Body v) RightLeft = stale_in viewers v
 stale_by_gesture viewers caret latest (Body v) RightMiddle = stale_at_caret viewers caret
-stale_by_gesture viewers caret latest area keys = Nothing
+stale_by_gesture viewers caret latest region keys = Nothing
 
 unfoldable pub stale_of : {T : Type 0} → DesktopOf T → Event → Stale
 stale_of d (Typed bytes) = stale_at_caret d.viewers d.caret
@@ -65,5 +65,5 @@ stale_of d (Pressed key) = stale_by_key d.viewers d.caret (newest d) key
 stale_of d (Mark x y) = Nothing
 stale_of d (Point keys x0 y0 x1 y1) =
     if is_on_display x0 y0 && is_on_display x1 y1
-    then stale_by_gesture d.viewers d.caret (newest d) (area_at d x0 y0) keys else Nothing
+    then stale_by_gesture d.viewers d.caret (newest d) (region_at d x0 y0) keys else Nothing
 stale_of d (File name bytes) = Nothing

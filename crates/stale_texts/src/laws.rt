@@ -3,15 +3,16 @@ ghost use Rattle.std.specs.Prelude.{◌≡◌, ℕ, false, List};
 ghost use Rattle.event_bytes.specs.declared.event.Event.{Event};
 ghost use Rattle.desktop_definitions.specs.Desktop.{Desktop, KeptDesktop};
 ghost use Rattle.desktop_definitions.specs.Seen.{seen};
-ghost use Rattle.desktop_definitions.specs.Step.{step};
+ghost use Rattle.desktop_definitions.specs.Step.{step_in};
 ghost use Rattle.desktop_definitions.specs.Viewers.{text_of};
 ghost use Rattle.desktop_definitions.specs.Sound.{IsSound};
 ghost use Rattle.stale_texts.specs.Stale.{is_stale, stale_of};
 
-/// An event leaves each text as it was that isn't among those that it may change, whatever the reply is.
+/// An event leaves each text as it was that isn't among those that it may change, whatever the reply is and by the
+/// commands of whatever version it is stepped.
 pub fn other_texts_stay()
-    ensures { (d : Desktop) (event : Event) (n : ℕ) → IsSound d → is_stale (stale_of d event) n ≡ false
-        → text_of (step d event).0 n ≡ text_of d n }
+    ensures { (version : ℕ) (d : Desktop) (event : Event) (n : ℕ) → IsSound d → is_stale (stale_of d event) n ≡ false
+        → text_of (step_in version d event).0 n ≡ text_of d n }
 {}
 
 /// Which texts an event may change doesn't rest on the characters among which a desktop is seen.

@@ -4,7 +4,7 @@ use Rattle.std.proofs.lemmas.Bool.{cases_lt}
 use Rattle.sector_disk.specs.Trail.{Content}
 use Rattle.desktop_definitions.specs.Desktop.{Desktop}
 use Rattle.store_layout.specs.declared.layout.TheConstants.{JOURNAL_EVENTS, SLOTS}
-use Rattle.store_layout.specs.Layout.{is_open, slot_gate, gate, head, head_of}
+use Rattle.store_layout.specs.Layout.{is_open, slot_gate, gate, area_at, head, head_of}
 use Rattle.store_layout.specs.Meaning.{Standing, Stands, Means, full_sectors}
 use Rattle.store_layout.specs.Footprint.{IsLedTo, IsInUse, AgreesOnFootprint}
 use Rattle.store_layout.specs.StandingLaws.{carried, journal_stays, journal_short, journal_leads}
@@ -74,8 +74,9 @@ module _ (c c' : Content) (a : AgreesOnFootprint c c') where
         sym (a.image slot k here (omega (arith, within, same))));
     area = λ slot k used within.
         (let here = used_there slot used in
-        let same = ap (λ h. h.written) (same_head slot here.two here.opened) in
-        sym (a.area slot k here (subst (λ n. k < full_sectors n) same within)));
+        let same = same_head slot here.two here.opened in
+        subst (λ h. c (area_at h.area k) ≡ c' (area_at h.area k)) (sym same)
+        (sym (a.area slot k here (subst (λ h. k < full_sectors h.written) same within))));
     gates = λ slot k used room led.
         (let here = used_there slot used in
         sym (a.gates slot k here room (led_there k slot here (omega (arith, room)) led)));

@@ -1,3 +1,4 @@
 mod Agreeing
+mod Heads
 mod OneStanding
 mod OneFinding

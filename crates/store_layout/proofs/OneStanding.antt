@@ -38,9 +38,10 @@ module _ (begins : BeginLaw) (unique : UniqueLaw) (size : ℕ) (c : Content) whe
   one_standing : (s s' : Standing) → Stands size c s → Stands size c s' → s ≡ s'
   one_standing s s' one two = λ i. record {
     slot = slots i;
+    version = (sym one.version ∙ ap (λ n. (head c n).version) slots ∙ two.version) i;
     epoch = (sym one.epoch ∙ ap (λ n. (head c n).epoch) slots ∙ two.epoch) i;
     start = one_start unique (head c s'.slot) (image_bytes c s'.slot)
-        (area_bytes c (full_sectors (head c s'.slot).written)) s.start s'.start
+        (area_bytes c (head c s'.slot).area (full_sectors (head c s'.slot).written)) s.start s'.start
         (subst (λ n. HasImage c n s.start) slots one.image) two.image i;
     events = one_journal begins s.events s'.events c s'.slot 0
         (subst (λ n. IsJournal c n 0 s.events) slots one.journal) two.journal i;
@@ -52,10 +53,12 @@ module _ (begins : BeginLaw) (unique : UniqueLaw) (size : ℕ) (c : Content) whe
   pub one_meaning : (d d' : Desktop) → Means size d c → Means size d' c → d ≡ d'
   one_meaning d d' one two = sym one.2 ∙ ap desktop_of (one_standing one.0 two.0 one.1 two.1) ∙ two.2
 
-  pub one_showing : (number count number' count' : ℕ) (d d' : Desktop) → Shows size number count d c
-      → Shows size number' count' d' c → (d' ≡ d) × (number' ≡ number) × (count' ≡ count)
-  one_showing number count number' count' d d' one two = (
+  pub one_showing : (version number count version' number' count' : ℕ) (d d' : Desktop)
+      → Shows size version number count d c → Shows size version' number' count' d' c
+      → (d' ≡ d) × (version' ≡ version) × (number' ≡ number) × (count' ≡ count)
+  one_showing version number count version' number' count' d d' one two = (
     sym two.is ∙ ap desktop_of same ∙ one.is,
+    sym two.version_is ∙ ap (λ s. s.version) same ∙ one.version_is,
     sym two.epoch ∙ ap (λ s. s.epoch) same ∙ one.epoch,
     sym two.events ∙ ap (λ s. length s.events) same ∙ one.events,
   )

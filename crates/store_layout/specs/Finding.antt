@@ -77,7 +77,8 @@ pub record FindsOneThing (size : ℕ) (c : Content) : Type 0 where
 abbrev pub FindingLaw : Type 0
 FindingLaw = (size : ℕ) (c : Content) → FindsOneThing size c
 
--- a content shows one desktop, by one epoch and one number of events
+-- a content shows one desktop, by one version, one epoch and one number of events
 abbrev pub ShowingLaw : Type 0
-ShowingLaw = (size : ℕ) (c : Content) (number count number' count' : ℕ) (d d' : Desktop) → Shows size number count d c
-    → Shows size number' count' d' c → (d' ≡ d) × (number' ≡ number) × (count' ≡ count)
+ShowingLaw = (size : ℕ) (c : Content) (version number count version' number' count' : ℕ) (d d' : Desktop)
+    → Shows size version number count d c → Shows size version' number' count' d' c
+    → (d' ≡ d) × (version' ≡ version) × (number' ≡ number) × (count' ≡ count)

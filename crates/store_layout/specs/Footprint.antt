@@ -19,7 +19,7 @@ pub record IsInUse (c : Content) (slot : ℕ) : Type 0 where
       → (head c idle).epoch < (head c slot).epoch + idle
 
 -- The second content agrees with the first in the label, the gates of the slots, the heads under open gates, and, of
--- the slot in use, in its image to its length, in the sectors of characters that its head names, in the gates of its
+-- the slot in use, in its image to its length, in the sectors of the area that its head names, in the gates of its
 -- journal up to the first closed one, and in the bodies before that.
 pub record AgreesOnFootprint (c c' : Content) : Type 0 where
   pub label : c' LABEL ≡ c LABEL
@@ -27,7 +27,8 @@ pub record AgreesOnFootprint (c c' : Content) : Type 0 where
   pub heads : (slot : ℕ) → slot < SLOTS → is_open (c (slot_gate slot)) ≡ true → c' (slot_head slot) ≡ c (slot_head slot)
   pub image : (slot k : ℕ) → IsInUse c slot → SECTOR_BYTES * k < (head c slot).extent
       → c' (image_at slot + k) ≡ c (image_at slot + k)
-  pub area : (slot k : ℕ) → IsInUse c slot → k < full_sectors (head c slot).written → c' (area_at k) ≡ c (area_at k)
+  pub area : (slot k : ℕ) → IsInUse c slot → k < full_sectors (head c slot).written
+      → c' (area_at (head c slot).area k) ≡ c (area_at (head c slot).area k)
   pub gates : (slot k : ℕ) → IsInUse c slot → k < JOURNAL_EVENTS → IsLedTo c slot k → c' (gate slot k) ≡ c (gate slot k)
   pub bodies : (slot k : ℕ) → IsInUse c slot → k < JOURNAL_EVENTS → IsLedTo c slot (k + 1)
       → c' (body slot k) ≡ c (body slot k)

@@ -1,12 +1,15 @@
 -- What a disk that nothing is pending on stands for, and which sectors each call writes.
-use Rattle.std.specs.Prelude.{◌≡◌, ◌⊎◌, ◌<◌, ◌≤◌, ◌+◌, ◌*◌, ℕ, List, length, take, true, false}
+use Rattle.std.specs.Prelude.{◌≡◌, ◌⊎◌, ◌<◌, ◌≤◌, ◌+◌, ◌-◌, ◌*◌, ℕ, List, length, take}
+use Rattle.std.specs.Prelude.{Bool, true, false}
 use Rattle.sector_disk.specs.Trail.{Content, Trail, now}
 use Rattle.event_bytes.specs.declared.event.Event.{Event}
 use Rattle.event_bytes.specs.Spelling.{Begins}
 use Rattle.desktop_definitions.specs.Desktop.{Desktop}
 use Rattle.sector_disk.specs.declared.disk.TheConstants.{SECTOR_BYTES}
+use Rattle.store_layout.specs.declared.head.Head.{Head}
 use Rattle.store_layout.specs.declared.layout.TheConstants.{JOURNAL_EVENTS, AREA_SECTORS, IMAGE_SECTORS}
-use Rattle.store_layout.specs.Layout.{is_open, slot_gate, slot_head, gate, body, image_at, area_at, head, IsGoodHead}
+use Rattle.store_layout.specs.Layout.{is_open, slot_gate, slot_head, gate, body, image_at, area_at, head}
+use Rattle.store_layout.specs.Layout.{IsGoodHead}
 use Rattle.store_layout.specs.Meaning.{Standing, Stands, desktop_of, HasImage, area_bytes, full_sectors}
 
 -- nothing is pending on the disk, and what it reads shows this
@@ -14,25 +17,37 @@ pub record IsSettled (size : ℕ) (disk : Trail) (s : Standing) : Type 0 where
   pub quiet : (n : ℕ) → (now disk).pending n ≡ false
   pub stands : Stands size (now disk).reads s
 
--- the disk is settled and shows the desktop, by this slot and epoch and so many events
-pub record IsKept (size : ℕ) (disk : Trail) (live number count : ℕ) (desktop : Desktop) : Type 0 where
+-- the disk is settled and shows the desktop, by this slot, version and epoch and so many events
+pub record IsKept (size : ℕ) (disk : Trail) (live version number count : ℕ) (desktop : Desktop) : Type 0 where
   pub standing : Standing
   pub settled : IsSettled size disk standing
   pub slot : standing.slot ≡ live
+  pub version_is : standing.version ≡ version
   pub epoch : standing.epoch ≡ number
   pub events : length standing.events ≡ count
   pub is : desktop_of standing ≡ desktop
 
--- ---- the characters in the area
+-- ---- the characters in an area
 
--- the first n sectors of the area hold the first of these characters
-abbrev pub HasFront : Content → ℕ → List ℕ → Type 0
-HasFront c n characters = area_bytes c n ≡ take (SECTOR_BYTES * n) characters
+-- the first n sectors of an area hold the first of these characters
+abbrev pub HasFront : Content → ℕ → ℕ → List ℕ → Type 0
+HasFront c area n characters = area_bytes c area n ≡ take (SECTOR_BYTES * n) characters
 
--- the head of the slot in use names so many sectors of characters, and they are the front of these
-pub record IsFront (c : Content) (live saved : ℕ) (characters : List ℕ) : Type 0 where
+-- the head of the slot in use names so many sectors of this area, and they are the front of these characters
+pub record IsFront (c : Content) (live area saved : ℕ) (characters : List ℕ) : Type 0 where
+  pub area_is : (head c live).area ≡ area
   pub named : full_sectors (head c live).written ≡ saved
-  pub same : HasFront c saved characters
+  pub same : HasFront c area saved characters
+
+-- The area that a checkpoint writes: that in which the characters stand, behind them, or the other one, whole, where
+-- all characters were exchanged since the slot in use was written.
+abbrev pub chosen_area : Bool → ℕ → ℕ
+chosen_area false area = area
+chosen_area true area = 1 - area
+
+-- from this sector of an area on the head names nothing
+abbrev pub Spares : Head → ℕ → ℕ → Type 0
+Spares h area from = h.area ≡ area → full_sectors h.written ≤ from
 
 -- ---- an event into the journal
 
@@ -56,16 +71,17 @@ OpenGate c slot n = (n ≡ slot_gate slot) × (is_open (c (slot_gate slot)) ≡ 
 abbrev pub InSlot : ℕ → ℕ → Type 0
 InSlot slot n = (n ≡ slot_head slot) ⊎ ((n ≡ gate slot 0) ⊎ ((image_at slot ≤ n) × (n < image_at slot + IMAGE_SECTORS)))
 
--- the sectors of characters from the first that the slot in use doesn't name
-abbrev pub InArea : ℕ → ℕ → Type 0
-InArea saved n = (area_at saved ≤ n) × (n < area_at AREA_SECTORS)
+-- the sectors of an area from this one on
+abbrev pub InArea : ℕ → ℕ → ℕ → Type 0
+InArea area from n = (area_at area from ≤ n) × (n < area_at area AREA_SECTORS)
 
-abbrev pub InCheckpoint : ℕ → ℕ → ℕ → Type 0
-InCheckpoint slot saved n = InSlot slot n ⊎ InArea saved n
+abbrev pub InCheckpoint : ℕ → ℕ → ℕ → ℕ → Type 0
+InCheckpoint slot area from n = InSlot slot n ⊎ InArea area from n
 
--- a slot has this desktop and an empty journal
-pub record IsNewSlot (c : Content) (slot number : ℕ) (desktop : Desktop) : Type 0 where
+-- a slot of this version and epoch has this desktop and an empty journal
+pub record IsNewSlot (c : Content) (slot version number : ℕ) (desktop : Desktop) : Type 0 where
   pub good : IsGoodHead (head c slot)
+  pub version_is : (head c slot).version ≡ version
   pub epoch : (head c slot).epoch ≡ number
   pub image : HasImage c slot desktop
   pub journal : is_open (c (gate slot 0)) ≡ false

@@ -1,6 +1,6 @@
 -- Where the parts of a store stand on its disk, by sector, and what tells a label, an open gate and a head. The numbers
 -- stand in src/layout.rt. A store has two slots, 0 and 1, each with a gate, a head, a journal and an image.
-use Rattle.std.specs.Prelude.{◌≡◌, ℕ, ◌+◌, ◌*◌, ◌≤◌, List, Bool, nat_eq, codes, take, drop}
+use Rattle.std.specs.Prelude.{ℕ, ◌+◌, ◌*◌, ◌≤◌, ◌<◌, ◌==◌, if◌then◌else◌, List, Bool, nat_eq, codes, take, drop}
 use Rattle.std.specs.List.{starts_with}
 use Rattle.std.specs.Int.{w32, from_be_bytes}
 use Rattle.sector_disk.specs.Trail.{Content}
@@ -8,7 +8,8 @@ use Rattle.desk_image.specs.declared.limits.TheConstants.{IMAGE_BYTES}
 use Rattle.desktop_definitions.specs.Limits.{most_written}
 use Rattle.store_layout.specs.declared.head.Head.{Head}
 use Rattle.store_layout.specs.declared.layout.TheConstants.{SLOT_GATES, SLOT_HEADS, JOURNALS, JOURNAL_SECTORS}
-use Rattle.store_layout.specs.declared.layout.TheConstants.{IMAGES, IMAGE_SECTORS, AREA, LAYOUT}
+use Rattle.store_layout.specs.declared.layout.TheConstants.{IMAGES, IMAGE_SECTORS, AREA, AREA_SECTORS, AREAS}
+use Rattle.store_layout.specs.declared.layout.TheConstants.{FIRST_LAYOUT, LAYOUT}
 
 -- the label's sector begins so
 unfoldable pub is_label : List ℕ → Bool
@@ -37,17 +38,22 @@ body slot k = gate slot k + 1
 abbrev pub image_at : ℕ → ℕ
 image_at slot = IMAGES + IMAGE_SECTORS * slot
 
--- sector k of the area of characters
-abbrev pub area_at : ℕ → ℕ
-area_at k = AREA + k
+-- the first sector of an area of characters, and sector k of it, k below AREA_SECTORS
+abbrev pub area_start : ℕ → ℕ
+area_start area = AREA + AREA_SECTORS * area
 
--- a head: four numbers of four bytes, the highest byte first; the rest of the sector isn't read
+abbrev pub area_at : ℕ → ℕ → ℕ
+area_at area k = area_start area + k
+
+-- A head: numbers of four bytes, the highest byte first; the rest of the sector isn't read. One of the first version
+-- has no fifth number, and names area 0.
 unfoldable pub head_of : List ℕ → Head
 head_of bytes = record {
   version = from_be_bytes w32 (take 4 bytes);
   epoch = from_be_bytes w32 (take 4 (drop 4 bytes));
   written = from_be_bytes w32 (take 4 (drop 8 bytes));
   extent = from_be_bytes w32 (take 4 (drop 12 bytes));
+  area = if from_be_bytes w32 (take 4 bytes) == FIRST_LAYOUT then 0 else from_be_bytes w32 (take 4 (drop 16 bytes));
 }
 
 -- the head of a slot
@@ -56,7 +62,9 @@ head c slot = head_of (c (slot_head slot))
 
 -- a head that a slot in use can have
 pub record IsGoodHead (h : Head) : Type 0 where
-  pub version : h.version ≡ LAYOUT
+  pub first : FIRST_LAYOUT ≤ h.version
+  pub newest : h.version ≤ LAYOUT
   pub epoch : 1 ≤ h.epoch
   pub written : h.written ≤ most_written
   pub extent : h.extent ≤ IMAGE_BYTES
+  pub area : h.area < AREAS

@@ -7,12 +7,13 @@ use Rattle.event_bytes.specs.declared.event.Event.{Event}
 use Rattle.event_bytes.specs.Spelling.{Begins}
 use Rattle.desktop_definitions.specs.Desktop.{Desktop, KeptDesktop}
 use Rattle.desktop_definitions.specs.Seen.{seen}
-use Rattle.desktop_definitions.specs.Step.{steps}
+use Rattle.desktop_definitions.specs.Step.{steps_in}
 use Rattle.sector_disk.specs.declared.disk.TheConstants.{SECTOR_BYTES}
 use Rattle.desk_image.specs.Image.{Spells}
 use Rattle.store_layout.specs.declared.head.Head.{Head}
 use Rattle.store_layout.specs.declared.layout.TheConstants.{JOURNAL_EVENTS, LABEL, SLOTS, STORE_SECTORS}
-use Rattle.store_layout.specs.Layout.{is_label, is_open, slot_gate, gate, body, image_at, area_at, head, IsGoodHead}
+use Rattle.store_layout.specs.Layout.{is_label, is_open, slot_gate, gate, body, image_at, area_start, head}
+use Rattle.store_layout.specs.Layout.{IsGoodHead}
 
 -- ---- the journal of a slot
 
@@ -25,7 +26,7 @@ IsJournal c slot k (event ∷ events) = (k < JOURNAL_EVENTS) × (is_open (c (gat
 
 -- ---- the image of a slot
 
--- how many characters fill whole sectors of the area, in sectors; and how many are left over
+-- how many characters fill whole sectors of an area, in sectors; and how many are left over
 abbrev pub full_sectors : ℕ → ℕ
 full_sectors written = written / SECTOR_BYTES
 
@@ -36,11 +37,11 @@ left_over written = written % SECTOR_BYTES
 abbrev pub image_bytes : Content → ℕ → List ℕ
 image_bytes c slot = stored c (image_at slot) (head c slot).extent
 
--- the characters in the first n sectors of the area
-abbrev pub area_bytes : Content → ℕ → List ℕ
-area_bytes c n = stored c (area_at 0) (SECTOR_BYTES * n)
+-- the characters in the first n sectors of an area
+abbrev pub area_bytes : Content → ℕ → ℕ → List ℕ
+area_bytes c area n = stored c (area_start area) (SECTOR_BYTES * n)
 
--- A head, the bytes of an image and the characters of the area make a desktop: that of the image, as it is seen among
+-- A head, the bytes of an image and the characters of its area make a desktop: that of the image, as it is seen among
 -- the characters of the area and those at the front of the image.
 pub record Makes (h : Head) (image area : List ℕ) (start : Desktop) : Type 0 where
   pub kept : KeptDesktop
@@ -51,7 +52,7 @@ pub record Makes (h : Head) (image area : List ℕ) (start : Desktop) : Type 0 w
 -- a slot starts from this desktop
 abbrev pub HasImage : Content → ℕ → Desktop → Type 0
 HasImage c slot start = Makes (head c slot) (image_bytes c slot)
-    (area_bytes c (full_sectors (head c slot).written)) start
+    (area_bytes c (head c slot).area (full_sectors (head c slot).written)) start
 
 -- ---- which slot is in use
 
@@ -62,15 +63,17 @@ IsOlder c epoch idle = IsGoodHead (head c idle) × ((head c idle).epoch < epoch 
 
 -- ---- the whole
 
--- what a content shows: the live slot, its epoch, the desktop that it starts from, and the events since
+-- What a content shows: the live slot, its version and epoch, the desktop that it starts from, and the events since.
+-- They are stepped by the version of the slot in whose journal they stand.
 pub record Standing : Type 0 where
   pub slot : ℕ
+  pub version : ℕ
   pub epoch : ℕ
   pub start : Desktop
   pub events : List Event
 
 abbrev pub desktop_of : Standing → Desktop
-desktop_of s = steps s.start s.events
+desktop_of s = steps_in s.version s.start s.events
 
 -- A disk of this size with this content shows that.
 pub record Stands (size : ℕ) (c : Content) (s : Standing) : Type 0 where
@@ -79,6 +82,7 @@ pub record Stands (size : ℕ) (c : Content) (s : Standing) : Type 0 where
   pub two : s.slot < SLOTS
   pub live : is_open (c (slot_gate s.slot)) ≡ true
   pub good : IsGoodHead (head c s.slot)
+  pub version : (head c s.slot).version ≡ s.version
   pub epoch : (head c s.slot).epoch ≡ s.epoch
   pub other : (idle : ℕ) → s.slot + idle ≡ 1 → is_open (c (slot_gate idle)) ≡ true → IsOlder c s.epoch idle
   pub image : HasImage c s.slot s.start
@@ -92,14 +96,21 @@ Means size desktop c = (s : Standing) × Stands size c s × (desktop_of s ≡ de
 abbrev pub MeansEither : ℕ → Desktop → Desktop → Content → Type 0
 MeansEither size before after c = Means size before c ⊎ Means size after c
 
--- it means the desktop, by a slot of this epoch and a journal of so many events
-pub record Shows (size number count : ℕ) (desktop : Desktop) (c : Content) : Type 0 where
+-- it means the desktop, by a slot of this version and epoch and a journal of so many events
+pub record Shows (size version number count : ℕ) (desktop : Desktop) (c : Content) : Type 0 where
   pub standing : Standing
   pub stands : Stands size c standing
+  pub version_is : standing.version ≡ version
   pub epoch : standing.epoch ≡ number
   pub events : length standing.events ≡ count
   pub is : desktop_of standing ≡ desktop
 
 -- one event more
 abbrev pub and_then : Standing → Event → Standing
-and_then s event = record { slot = s.slot; epoch = s.epoch; start = s.start; events = s.events ++ event ∷ [] }
+and_then s event = record {
+  slot = s.slot;
+  version = s.version;
+  epoch = s.epoch;
+  start = s.start;
+  events = s.events ++ event ∷ [];
+}

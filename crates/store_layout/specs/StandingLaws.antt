@@ -7,16 +7,18 @@ use Rattle.sector_disk.specs.Stored.{stored, stored_same}
 use Rattle.event_bytes.specs.declared.event.Event.{Event}
 use Rattle.event_bytes.specs.Spelling.{Begins}
 use Rattle.desktop_definitions.specs.Desktop.{Desktop}
+use Rattle.desktop_definitions.specs.Limits.{most_written}
 use Rattle.sector_disk.specs.declared.disk.TheConstants.{SECTOR_BYTES}
 use Rattle.store_layout.specs.declared.head.Head.{Head}
 use Rattle.store_layout.specs.declared.layout.TheConstants.{JOURNAL_EVENTS, LABEL, SLOTS}
 use Rattle.store_layout.specs.Bits.{true_or_false, clash}
-use Rattle.store_layout.specs.Layout.{is_label, is_open, slot_gate, slot_head, gate, body, image_at, area_at}
+use Rattle.store_layout.specs.Layout.{is_label, is_open, slot_gate, slot_head, gate, body, image_at, area_start}
+use Rattle.store_layout.specs.Layout.{area_at}
 use Rattle.store_layout.specs.Layout.{head, head_of, IsGoodHead}
 use Rattle.store_layout.specs.Meaning.{IsJournal, Standing, desktop_of, Stands, Means, Makes, HasImage, IsOlder}
 use Rattle.store_layout.specs.Meaning.{full_sectors}
 use Rattle.store_layout.specs.Footprint.{IsLedTo, IsInUse}
-use Rattle.store_layout.specs.Kept.{IsNewSlot, IsFront, HasFront, InSlot, InArea, InCheckpoint}
+use Rattle.store_layout.specs.Kept.{IsNewSlot, IsFront, HasFront, Spares, InSlot, InArea, InCheckpoint}
 
 -- a sector that the standing doesn't rest on
 pub record IsApart (c : Content) (s : Standing) (n : ℕ) : Type 0 where
@@ -24,7 +26,7 @@ pub record IsApart (c : Content) (s : Standing) (n : ℕ) : Type 0 where
   pub gates : (slot : ℕ) → slot < SLOTS → n ≢ slot_gate slot
   pub heads : (slot : ℕ) → slot < SLOTS → is_open (c (slot_gate slot)) ≡ true → n ≢ slot_head slot
   pub image : (k : ℕ) → SECTOR_BYTES * k < (head c s.slot).extent → n ≢ image_at s.slot + k
-  pub area : (k : ℕ) → k < full_sectors (head c s.slot).written → n ≢ area_at k
+  pub area : (k : ℕ) → k < full_sectors (head c s.slot).written → n ≢ area_at (head c s.slot).area k
   pub journal : (k : ℕ) → k ≤ length s.events → k < JOURNAL_EVENTS → n ≢ gate s.slot k
   pub bodies : (k : ℕ) → k < length s.events → n ≢ body s.slot k
 
@@ -33,35 +35,37 @@ pub record IsApart (c : Content) (s : Standing) (n : ℕ) : Type 0 where
 -- an image rests on its head, its sectors, and those of the characters that its head names
 pub image_stays : (c c' : Content) (slot : ℕ) (start : Desktop) → c' (slot_head slot) ≡ c (slot_head slot)
     → ((k : ℕ) → SECTOR_BYTES * k < (head c slot).extent → c' (image_at slot + k) ≡ c (image_at slot + k))
-    → ((k : ℕ) → k < full_sectors (head c slot).written → c' (area_at k) ≡ c (area_at k))
+    → ((k : ℕ) → k < full_sectors (head c slot).written
+    → c' (area_at (head c slot).area k) ≡ c (area_at (head c slot).area k))
     → HasImage c slot start → HasImage c' slot start
 image_stays c c' slot start same_head same same_area was =
-    subst (λ x. Makes x (stored c' (image_at slot) x.extent) (area x.written) start) (sym (ap head_of same_head))
-    (subst (λ l. Makes h l (area h.written) start) (sym (stored_same c c' (image_at slot) h.extent same))
+    subst (λ x. Makes x (stored c' (image_at slot) x.extent) (area x) start) (sym (ap head_of same_head))
+    (subst (λ l. Makes h l (area h) start) (sym (stored_same c c' (image_at slot) h.extent same))
     (subst (λ l. Makes h (stored c (image_at slot) h.extent) l start)
-    (sym (stored_same c c' (area_at 0) (SECTOR_BYTES * full_sectors h.written)
+    (sym (stored_same c c' (area_start h.area) (SECTOR_BYTES * full_sectors h.written)
     (λ k low. same_area k (omega (arith, low)))))
     was))
   where
     h : Head
     h = head c slot
 
-    area : ℕ → List ℕ
-    area written = stored c' (area_at 0) (SECTOR_BYTES * full_sectors written)
+    area : Head → List ℕ
+    area x = stored c' (area_start x.area) (SECTOR_BYTES * full_sectors x.written)
 
--- so do the characters in the area
-pub has_front_stays : (c c' : Content) (saved : ℕ) (characters : List ℕ)
-    → ((k : ℕ) → k < saved → c' (area_at k) ≡ c (area_at k))
-    → HasFront c saved characters → HasFront c' saved characters
-has_front_stays c c' saved characters same was =
-    stored_same c c' (area_at 0) (SECTOR_BYTES * saved) (λ k low. same k (omega (arith, low))) ∙ was
+-- so do the characters in an area
+pub has_front_stays : (c c' : Content) (area saved : ℕ) (characters : List ℕ)
+    → ((k : ℕ) → k < saved → c' (area_at area k) ≡ c (area_at area k))
+    → HasFront c area saved characters → HasFront c' area saved characters
+has_front_stays c c' area saved characters same was =
+    stored_same c c' (area_start area) (SECTOR_BYTES * saved) (λ k low. same k (omega (arith, low))) ∙ was
 
-pub front_stays : (c c' : Content) (live saved : ℕ) (characters : List ℕ) → c' (slot_head live) ≡ c (slot_head live)
-    → ((k : ℕ) → k < saved → c' (area_at k) ≡ c (area_at k))
-    → IsFront c live saved characters → IsFront c' live saved characters
-front_stays c c' live saved characters same_head same was = record {
+pub front_stays : (c c' : Content) (live area saved : ℕ) (characters : List ℕ)
+    → c' (slot_head live) ≡ c (slot_head live) → ((k : ℕ) → k < saved → c' (area_at area k) ≡ c (area_at area k))
+    → IsFront c live area saved characters → IsFront c' live area saved characters
+front_stays c c' live area saved characters same_head same was = record {
+  area_is = ap (λ b. (head_of b).area) same_head ∙ was.area_is;
   named = ap (λ b. full_sectors (head_of b).written) same_head ∙ was.named;
-  same = has_front_stays c c' saved characters same was.same;
+  same = has_front_stays c c' area saved characters same was.same;
 }
 
 -- a journal rests on its gates up to the first closed one and the bodies before it
@@ -146,15 +150,23 @@ pub carried_on : {size : ℕ} (c c' : Content) (s : Standing) (events : List Eve
     → c' LABEL ≡ c LABEL → is_open (c' (slot_gate s.slot)) ≡ true → c' (slot_head s.slot) ≡ c (slot_head s.slot)
     → ((idle : ℕ) → s.slot + idle ≡ 1 → is_open (c' (slot_gate idle)) ≡ true → IsOlder c' s.epoch idle)
     → ((k : ℕ) → SECTOR_BYTES * k < (head c s.slot).extent → c' (image_at s.slot + k) ≡ c (image_at s.slot + k))
-    → ((k : ℕ) → k < full_sectors (head c s.slot).written → c' (area_at k) ≡ c (area_at k))
+    → ((k : ℕ) → k < full_sectors (head c s.slot).written
+    → c' (area_at (head c s.slot).area k) ≡ c (area_at (head c s.slot).area k))
     → IsJournal c' s.slot 0 events
-    → Stands size c' (record { slot = s.slot; epoch = s.epoch; start = s.start; events = events })
+    → Stands size c' (record {
+      slot = s.slot;
+      version = s.version;
+      epoch = s.epoch;
+      start = s.start;
+      events = events;
+    })
 carried_on c c' s events was label live same_head other image area journal = record {
   large = was.large;
   label = ap is_label label ∙ was.label;
   two = was.two;
   live = live;
   good = subst (λ b. IsGoodHead (head_of b)) (sym same_head) was.good;
+  version = ap (λ b. (head_of b).version) same_head ∙ was.version;
   epoch = ap (λ b. (head_of b).epoch) same_head ∙ was.epoch;
   other = other;
   image = image_stays c c' s.slot s.start same_head image area was.image;
@@ -165,7 +177,8 @@ pub carried : {size : ℕ} (c c' : Content) (s : Standing) → Stands size c s
     → c' LABEL ≡ c LABEL → is_open (c' (slot_gate s.slot)) ≡ true → c' (slot_head s.slot) ≡ c (slot_head s.slot)
     → ((idle : ℕ) → s.slot + idle ≡ 1 → is_open (c' (slot_gate idle)) ≡ true → IsOlder c' s.epoch idle)
     → ((k : ℕ) → SECTOR_BYTES * k < (head c s.slot).extent → c' (image_at s.slot + k) ≡ c (image_at s.slot + k))
-    → ((k : ℕ) → k < full_sectors (head c s.slot).written → c' (area_at k) ≡ c (area_at k))
+    → ((k : ℕ) → k < full_sectors (head c s.slot).written
+    → c' (area_at (head c s.slot).area k) ≡ c (area_at (head c s.slot).area k))
     → IsJournal c' s.slot 0 s.events → Stands size c' s
 carried c c' s was label live same_head other image area journal =
     carried_on c c' s s.events was label live same_head other image area journal
@@ -189,7 +202,7 @@ footprint c c' s was same = carried c c' s was
     older_stays c c' s.epoch idle (same (slot_head idle) (λ out. out.heads idle below opened_before refl))
     (was.other idle two opened_before))
     (λ k within. same (image_at s.slot + k) (λ out. out.image k within refl))
-    (λ k within. same (area_at k) (λ out. out.area k within refl))
+    (λ k within. same (area_at (head c s.slot).area k) (λ out. out.area k within refl))
     (journal_stays s.events c c' s.slot 0 (length s.events) (omega arith)
     (λ i low high room. same (gate s.slot i) (λ out. out.journal i high room refl))
     (λ i low high. same (body s.slot i) (λ out. out.bodies i high refl))
@@ -208,7 +221,7 @@ other_gate c c' s idle two was older same = carried c c' s was
     let here : i ≡ idle = omega arith in
     subst (IsOlder c' s.epoch) (sym here) (older_stays c c' s.epoch idle (same (slot_head idle) (omega arith)) older))
     (λ k within. same (image_at s.slot + k) (omega arith))
-    (λ k within. same (area_at k) (omega arith))
+    (λ k within. same (area_at (head c s.slot).area k) (omega arith))
     (journal_stays s.events c c' s.slot 0 (length s.events) (omega arith)
     (λ i low high room. same (gate s.slot i) (omega arith))
     (λ i low high. same (body s.slot i) (omega arith))
@@ -257,40 +270,54 @@ apart c s idle two was closed n within = record {
   ];
 }
 
--- So are the sectors of the characters that came since.
-pub area_apart : {size : ℕ} (c : Content) (s : Standing) (saved : ℕ) → Stands size c s
-    → full_sectors (head c s.slot).written ≡ saved → (n : ℕ) → InArea saved n → IsApart c s n
-area_apart c s saved was named n within = record {
+-- Sector n of an area, from one on that a head names nothing of, is none that it names: of two areas the one ends
+-- before the other begins.
+area_differs : (h : Head) (area from k n : ℕ) → Spares h area from → h.written ≤ most_written
+    → k < full_sectors h.written → InArea area from n → n ≢ area_at h.area k
+area_differs h area from k n spares few room within is = elim (cases_lt h.area area) [
+  | inl before ↦ omega (arith, within.0, is, room, few, before)
+  | inr ge ↦ elim (cases_lt area h.area) [
+    | inl behind ↦ omega (arith, within.1, is, behind)
+    | inr le ↦ (let here : h.area ≡ area = omega (arith, ge, le) in
+        let past = spares here in omega (arith, within.0, is, room, here, past))
+  ]
+]
+
+-- So are the sectors of an area, from one on that the head of the slot in use names nothing of.
+pub area_apart : {size : ℕ} (c : Content) (s : Standing) (area from : ℕ) → Stands size c s
+    → Spares (head c s.slot) area from → (n : ℕ) → InArea area from n → IsApart c s n
+area_apart c s area from was spares n within = record {
   label = λ is. omega (arith, within.0, is);
   gates = λ slot low is. omega (arith, within.0, is, low);
   heads = λ slot low opened is. omega (arith, within.0, is, low);
   image = λ k room is. omega (arith, within.0, is, was.two, room, was.good.extent);
-  area = λ k room is. omega (arith, within.0, is, room, named);
+  area = λ k room is. area_differs (head c s.slot) area from k n spares was.good.written room within is;
   journal = λ k high room is. omega (arith, within.0, is, was.two, room);
   bodies = λ k high is. (let room = journal_short s.events c s.slot 0 (omega arith) was.journal in
       omega (arith, within.0, is, was.two, high, room));
 }
 
-pub behind_closed : {size : ℕ} (c c' : Content) (s : Standing) (idle saved : ℕ) → s.slot + idle ≡ 1 → Stands size c s
-    → is_open (c (slot_gate idle)) ≡ false → full_sectors (head c s.slot).written ≡ saved
-    → ((n : ℕ) → ¬ InCheckpoint idle saved n → c' n ≡ c n) → Stands size c' s
-behind_closed c c' s idle saved two was closed named same = footprint c c' s was
+pub behind_closed : {size : ℕ} (c c' : Content) (s : Standing) (idle area from : ℕ) → s.slot + idle ≡ 1
+    → Stands size c s → is_open (c (slot_gate idle)) ≡ false → Spares (head c s.slot) area from
+    → ((n : ℕ) → ¬ InCheckpoint idle area from n → c' n ≡ c n) → Stands size c' s
+behind_closed c c' s idle area from two was closed spares same = footprint c c' s was
     (λ n counts. same n (λ within. counts (elim within [
       | inl a ↦ apart c s idle two was closed n a
-      | inr a ↦ area_apart c s saved was named n a
+      | inr a ↦ area_apart c s area from was spares n a
     ])))
 
 -- Once the gate of a new slot is open, that slot is in use.
-pub new_slot : {size : ℕ} (c c' : Content) (s : Standing) (idle : ℕ) (desktop : Desktop) → s.slot + idle ≡ 1
-    → Stands size c s → IsNewSlot c idle (s.epoch + 1) desktop
+pub new_slot : {size : ℕ} (c c' : Content) (s : Standing) (idle version : ℕ) (desktop : Desktop) → s.slot + idle ≡ 1
+    → Stands size c s → IsNewSlot c idle version (s.epoch + 1) desktop
     → ((n : ℕ) → n ≢ slot_gate idle → c' n ≡ c n) → is_open (c' (slot_gate idle)) ≡ true
-    → Stands size c' (record { slot = idle; epoch = s.epoch + 1; start = desktop; events = [] })
-new_slot c c' s idle desktop two was new same opened = record {
+    → Stands size c' (record { slot = idle; version = version; epoch = s.epoch + 1; start = desktop; events = [] })
+new_slot c c' s idle version desktop two was new same opened = record {
   large = was.large;
   label = ap is_label (same LABEL (omega arith)) ∙ was.label;
   two = omega arith;
   live = opened;
   good = subst (λ b. IsGoodHead (head_of b)) (sym same_head) new.good;
+  version = ap (λ b. (head_of b).version) same_head ∙ new.version_is;
   epoch = ap (λ b. (head_of b).epoch) same_head ∙ new.epoch;
   other = λ i is opened_too.
       let here : i ≡ s.slot = omega arith in
@@ -298,21 +325,22 @@ new_slot c c' s idle desktop two was new same opened = record {
       (older_stays c c' (s.epoch + 1) s.slot (same (slot_head s.slot) (omega arith))
       (was.good, omega (arith, was.epoch)));
   image = image_stays c c' idle desktop same_head (λ k within. same (image_at idle + k) (omega arith))
-      (λ k within. same (area_at k) (omega arith)) new.image;
+      (λ k within. same (area_at (head c idle).area k) (omega arith)) new.image;
   journal = λ room. ap is_open (same (gate idle 0) (omega arith)) ∙ new.journal;
 }
   where
     same_head : c' (slot_head idle) ≡ c (slot_head idle)
     same_head = same (slot_head idle) (omega arith)
 
--- A new slot with the desktop that the old one has come to: it is meant whether the gate is closed, torn or open.
-pub either_slot : {size : ℕ} (c c' : Content) (s : Standing) (idle : ℕ) → s.slot + idle ≡ 1 → Stands size c s
-    → is_open (c (slot_gate idle)) ≡ false → IsNewSlot c idle (s.epoch + 1) (desktop_of s)
+-- A new slot, of whatever version, with the desktop that the old one has come to: it is meant whether the gate is
+-- closed, torn or open.
+pub either_slot : {size : ℕ} (c c' : Content) (s : Standing) (idle version : ℕ) → s.slot + idle ≡ 1 → Stands size c s
+    → is_open (c (slot_gate idle)) ≡ false → IsNewSlot c idle version (s.epoch + 1) (desktop_of s)
     → ((n : ℕ) → n ≢ slot_gate idle → c' n ≡ c n) → Means size (desktop_of s) c'
-either_slot c c' s idle two was closed new same = elim (true_or_false (is_open (c' (slot_gate idle)))) [
+either_slot c c' s idle version two was closed new same = elim (true_or_false (is_open (c' (slot_gate idle)))) [
   | inl opened ↦ (
-    record { slot = idle; epoch = s.epoch + 1; start = desktop_of s; events = [] },
-    new_slot c c' s idle (desktop_of s) two was new same opened,
+    record { slot = idle; version = version; epoch = s.epoch + 1; start = desktop_of s; events = [] },
+    new_slot c c' s idle version (desktop_of s) two was new same opened,
     refl,
   )
   | inr shut ↦ (
@@ -324,7 +352,7 @@ either_slot c c' s idle two was closed new same = elim (true_or_false (is_open (
         (λ i is opened. let here : i ≡ idle = omega arith in
         absurd (clash (subst (λ j. is_open (c' (slot_gate j)) ≡ true) here opened) shut))
         (λ k within. same (image_at s.slot + k) (omega arith))
-        (λ k within. same (area_at k) (omega arith))
+        (λ k within. same (area_at (head c s.slot).area k) (omega arith))
         (journal_stays s.events c c' s.slot 0 (length s.events) (omega arith)
         (λ i low high room. same (gate s.slot i) (omega arith))
         (λ i low high. same (body s.slot i) (omega arith))

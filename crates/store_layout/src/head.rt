@@ -1,25 +1,27 @@
 //! The head of a slot.
-ghost use Rattle.std.specs.Prelude.{◌≡◌, ◌↔◌, IsTrue};
+ghost use Rattle.std.specs.Prelude.{◌≡◌, ◌↔◌, IsTrue, take, drop};
 ghost use Rattle.std.specs.Int.{from_be_bytes, w32};
 ghost use Rattle.store_layout.specs.Layout.{head_of, IsGoodHead};
 
-use crate::layout::LAYOUT;
+use crate::layout::{AREAS, FIRST_LAYOUT, LAYOUT};
 use byteorder::{BigEndian, ByteOrder};
 use desk_image::IMAGE_BYTES;
 use desktop_definitions::MOST_WRITTEN;
 use sector_disk::{SECTOR_BYTES, Sector};
 
-/// What the head of a slot says, four numbers of four bytes.
+/// What the head of a slot says, numbers of four bytes: four in the first version, and then five.
 #[derive(Clone, Copy, Debug, PartialEq, Eq)]
 pub struct Head {
     /// The version of the layout.
     pub version: u32,
     /// How new the slot is: of two slots that are open the one with the greater epoch is in use.
     pub epoch: u32,
-    /// How many characters were ever written.
+    /// How many characters the character file has.
     pub written: u32,
     /// How many bytes the image has, the characters before it among them.
     pub extent: u32,
+    /// The area whose first sectors hold its characters, as far as they fill sectors.
+    pub area: u32,
 }
 
 impl Head {
@@ -28,24 +30,42 @@ impl Head {
     pub fn of(sector: &Sector) -> Head
         ensures { result ≡ head_of sector.now }
     {
+        let version = BigEndian::read_u32(&sector[..4]);
         Head {
-            version: BigEndian::read_u32(&sector[..4]),
+            version,
             epoch: BigEndian::read_u32(&sector[4..8]),
             written: BigEndian::read_u32(&sector[8..12]),
             extent: BigEndian::read_u32(&sector[12..16]),
+            area: if version == FIRST_LAYOUT {
+                0
+            } else {
+                BigEndian::read_u32(&sector[16..20])
+            },
         }
     }
 
-    /// A sector that has the head, and then zeros.
-    #[tactic(auto, unfolding(crate::specs::Layout::head_of))]
+    /// A sector that has the head, and then zeros. One of the first version names area 0.
     pub fn sector(&self) -> Sector
+        requires { self.now.version ≡ FIRST_LAYOUT → self.now.area ≡ 0 }
         ensures { head_of result ≡ self.now }
+    {
+        self.numbers()
+    }
+
+    /// Its five numbers, and then zeros.
+    fn numbers(&self) -> Sector
+        ensures version { from_be_bytes w32 (take 4 result) ≡ self.now.version }
+        ensures epoch { from_be_bytes w32 (take 4 (drop 4 result)) ≡ self.now.epoch }
+        ensures written { from_be_bytes w32 (take 4 (drop 8 result)) ≡ self.now.written }
+        ensures extent { from_be_bytes w32 (take 4 (drop 12 result)) ≡ self.now.extent }
+        ensures area { from_be_bytes w32 (take 4 (drop 16 result)) ≡ self.now.area }
     {
         let mut sector = [0; SECTOR_BYTES as usize];
         sector[..4].copy_from_slice(&bytes_of(self.version));
         sector[4..8].copy_from_slice(&bytes_of(self.epoch));
         sector[8..12].copy_from_slice(&bytes_of(self.written));
         sector[12..16].copy_from_slice(&bytes_of(self.extent));
+        sector[16..20].copy_from_slice(&bytes_of(self.area));
         sector
     }
 
@@ -53,10 +73,12 @@ impl Head {
     pub fn is_good(&self) -> bool
         ensures { IsTrue result ↔ IsGoodHead self.now }
     {
-        self.version == LAYOUT
+        self.version >= FIRST_LAYOUT
+            && self.version <= LAYOUT
             && self.epoch >= 1
             && self.written <= MOST_WRITTEN
             && self.extent <= IMAGE_BYTES
+            && self.area < AREAS
     }
 }
 

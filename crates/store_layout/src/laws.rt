@@ -21,7 +21,7 @@ pub fn finding_law()
     one_desktop();
 }
 
-/// A content shows one desktop at most, by one epoch and one number of events.
+/// A content shows one desktop at most, by one version, one epoch and one number of events.
 pub fn showing_law()
     ensures { ShowingLaw }
 {

@@ -1,9 +1,9 @@
 //! Which sector of a store holds what.
 //!
 //! A store has a label and two slots, 0 and 1. Each slot has a gate, a head, a journal of gates and bodies in turn, and
-//! an image. The characters that fill whole sectors stand in an area that both slots name.
+//! an image. The characters that fill whole sectors stand in one of two areas, which the head of the slot names.
 ghost use Rattle.std.specs.Prelude.{◌≡◌, ◌<◌};
-ghost use Rattle.store_layout.specs.Layout.{slot_gate, slot_head, gate, body, image_at, area_at};
+ghost use Rattle.store_layout.specs.Layout.{slot_gate, slot_head, gate, body, image_at, area_start, area_at};
 
 use desk_image::IMAGE_BYTES;
 use sector_disk::{FILE_SECTORS, SECTOR_BYTES};
@@ -38,14 +38,20 @@ pub const IMAGES: u32 = 1029;
 /// How many sectors an image has.
 pub const IMAGE_SECTORS: u32 = IMAGE_BYTES / SECTOR_BYTES;
 
-/// The first sector of the area of characters.
+/// The first sector of area 0 of characters.
 pub const AREA: u32 = 7429;
 
-/// How many sectors the area has.
+/// How many sectors an area has.
 pub const AREA_SECTORS: u32 = 4096;
 
-/// The version of this layout.
-pub const LAYOUT: u32 = 1;
+/// How many areas there are. Area 1 comes directly after area 0.
+pub const AREAS: u32 = 2;
+
+/// The first version of the layout, whose heads name area 0 alone.
+pub const FIRST_LAYOUT: u32 = 1;
+
+/// The newest version of the layout, which is written.
+pub const LAYOUT: u32 = 2;
 
 /// The greatest epoch. After it no checkpoint is possible.
 pub const LAST_EPOCH: u32 = u32::MAX;
@@ -92,10 +98,19 @@ pub fn image_at(slot: u32) -> u32
     IMAGES + IMAGE_SECTORS * slot
 }
 
-/// Sector k of the area of characters.
-pub fn area_at(k: u32) -> u32
-    requires { k < AREA_SECTORS }
-    ensures { result ≡ area_at k }
+/// The first sector of an area of characters.
+pub fn area_start(area: u32) -> u32
+    requires { area < AREAS }
+    ensures { result ≡ area_start area }
 {
-    AREA + k
+    AREA + AREA_SECTORS * area
+}
+
+/// Sector k of an area of characters.
+pub fn area_at(area: u32, k: u32) -> u32
+    requires area { area < AREAS }
+    requires index { k < AREA_SECTORS }
+    ensures { result ≡ area_at area k }
+{
+    area_start(area) + k
 }

@@ -14,7 +14,7 @@ mod sectors;
 pub use head::Head;
 pub use laws::{finding_law, footprint_law, showing_law};
 pub use layout::{
-    AREA_SECTORS, IMAGE_SECTORS, JOURNAL_EVENTS, LABEL, LAST_EPOCH, LAYOUT, SLOTS, STORE_SECTORS,
-    area_at, body, gate, image_at, slot_gate, slot_head,
+    AREA_SECTORS, AREAS, FIRST_LAYOUT, IMAGE_SECTORS, JOURNAL_EVENTS, LABEL, LAST_EPOCH, LAYOUT,
+    SLOTS, STORE_SECTORS, area_at, area_start, body, gate, image_at, slot_gate, slot_head,
 };
 pub use sectors::{body_of, closed_gate, event_of, has_label, is_open_gate, label, open_gate};

@@ -8,14 +8,15 @@ use Rattle.sector_disk.specs.declared.disk.Disk.{Ghosts}
 use Rattle.sector_disk.specs.Trail.{now, Leaves}
 use Rattle.event_bytes.specs.declared.event.Event.{Event}
 use Rattle.store_layout.specs.Meaning.{Means}
-use Rattle.store_runs.specs.declared.call.Call.{Call}
-use Rattle.store_runs.specs.declared.call.Call.TheVariants.{Post as Posting, Checkpoint}
+use Rattle.store_runs.specs.declared.call.StoreCall.{StoreCall}
+use Rattle.store_runs.specs.declared.call.StoreCall.TheVariants.{Post as Posting, Checkpoint}
 use Rattle.desk_journal.specs.Checkpointing.{IsCheckpointed, IsRenewed}
 use Rattle.desk_journal.specs.Device.{IsSameDevice}
 use Rattle.desk_journal.specs.Errors.{OfPost, OfCheckpoint}
 use Rattle.desk_journal.specs.Posting.{IsPosted, IsAcknowledged}
 use Rattle.desk_journal.proofs.Passing.{shows_means}
-use Rattle.store_runs.specs.Run.{Answer, Post, Served, Serves, IsRun, ComposingLaw, SurvivalLaw, served_of, posts_in}
+use Rattle.store_runs.specs.Run.{StoreAnswer, Post, Served, Serves, IsRun, ComposingLaw, SurvivalLaw, served_of}
+use Rattle.store_runs.specs.Run.{posts_in}
 use Rattle.desk_journal.specs.View.{StoreView}
 use Rattle.store_runs.proofs.Running.{IsRunning, Posted, Checkpointed, begins_running, runs_on, checkpoint_on}
 
@@ -29,12 +30,12 @@ pub one_call_more : {D : Type 0} (d : Ghosts D) (served : List Served) (s : Serv
     → IsRun d served old mid → Serves d s.call s.answer mid new → IsRun d (served ++ s ∷ []) old new
 one_call_more d served s old mid new run serves = composed d served (s ∷ []) old mid new run (new, serves, refl)
 
-pub none_served : (calls : List Call) → served_of calls [] ≡ []
+pub none_served : (calls : List StoreCall) → served_of calls [] ≡ []
 none_served [] = refl
 none_served (call ∷ calls) = refl
 
 -- one call and one answer more
-pub served_grow : (calls : List Call) (answers : List Answer) (answer : Answer) (d : Call)
+pub served_grow : (calls : List StoreCall) (answers : List StoreAnswer) (answer : StoreAnswer) (d : StoreCall)
     → length answers < length calls
     → served_of calls (answers ++ answer ∷ []) ≡ served_of calls answers
     ++ record { call = get_or calls (length answers) d; answer = answer } ∷ []
@@ -45,7 +46,7 @@ served_grow (call ∷ calls) (a ∷ answers) answer d room = ap (λ ss. record {
     (served_grow calls answers answer d (omega (arith, room)))
 
 -- the device stays
-pub device_of : {D : Type 0} (d : Ghosts D) (call : Call) (answer : Answer) (old new : StoreView D)
+pub device_of : {D : Type 0} (d : Ghosts D) (call : StoreCall) (answer : StoreAnswer) (old new : StoreView D)
     → Serves d call answer old new → IsSameDevice d old.disk new.disk
 device_of d (Posting event) answer old new serves = serves.device
 device_of d Checkpoint answer old new serves = serves.0.device
@@ -61,7 +62,7 @@ module _ {D : Type 0} (d : Ghosts D) (old new : StoreView D) (honest : d.honest 
     ap (λ v. v.must_reopen) same,
   )
 
-  shown_after : (event : Event) (answer : Answer) → d.size new.disk ≡ d.size old.disk → d.honest new.disk
+  shown_after : (event : Event) (answer : StoreAnswer) → d.size new.disk ≡ d.size old.disk → d.honest new.disk
       → IfOk answer (λ reply. IsAcknowledged d event reply old new)
       → OnOk answer (Leaves (now (d.trail new.disk)) (Means (d.size old.disk) new.desktop))
   shown_after event (Ok reply) as_large still told = λ content image.
@@ -69,11 +70,11 @@ module _ {D : Type 0} (d : Ghosts D) (old new : StoreView D) (honest : d.honest 
       (d.size new.disk) new.epoch new.events new.desktop content (told.durable still content image))
   shown_after event (Err e) as_large still told = tt
 
-  same_after : (answer : Answer) → OnOk answer (IsRenewed d old new) → OnOk answer (new.desktop ≡ old.desktop)
+  same_after : (answer : StoreAnswer) → OnOk answer (IsRenewed d old new) → OnOk answer (new.desktop ≡ old.desktop)
   same_after (Ok reply) made = made.desktop honest
   same_after (Err e) made = tt
 
-  posted_by_trails : (event : Event) (answer : Answer) → IsPosted d event answer old new
+  posted_by_trails : (event : Event) (answer : StoreAnswer) → IsPosted d event answer old new
       → Posted (d.size old.disk) event answer (d.trail old.disk)
       (d.trail new.disk) old.desktop new.desktop old.must_reopen new.must_reopen
   posted_by_trails event answer p = record {
@@ -89,7 +90,7 @@ module _ {D : Type 0} (d : Ghosts D) (old new : StoreView D) (honest : d.honest 
     named = λ e is. IfErr-at_err OfPost is p.faults.errors;
   }
 
-  checkpointed_by_trails : (answer : Answer) → IsCheckpointed d answer old new
+  checkpointed_by_trails : (answer : StoreAnswer) → IsCheckpointed d answer old new
       → Checkpointed (d.size old.disk) answer (d.trail old.disk)
       (d.trail new.disk) old.desktop new.desktop old.must_reopen new.must_reopen
   checkpointed_by_trails answer p = record {
@@ -105,11 +106,11 @@ module _ {D : Type 0} (d : Ghosts D) (old new : StoreView D) (honest : d.honest 
 -- ---- all the calls of a run
 
 -- the posts so far, and this call
-abbrev posts_then : List Post → Call → Answer → List Post
+abbrev posts_then : List Post → StoreCall → StoreAnswer → List Post
 posts_then done (Posting event) answer = done ++ record { event = event; answer = answer } ∷ []
 posts_then done Checkpoint answer = done
 
-posts_next : (done : List Post) (call : Call) (answer : Answer) (more : List Served)
+posts_next : (done : List Post) (call : StoreCall) (answer : StoreAnswer) (more : List Served)
     → posts_then done call answer ++ posts_in more
     ≡ done ++ posts_in (record { call = call; answer = answer } ∷ more)
 posts_next done (Posting event) answer more = append_assoc done (record { event = event; answer = answer } ∷ [])
@@ -120,7 +121,8 @@ module _ {D : Type 0} (d : Ghosts D) (size : ℕ) (first : StoreView D) (from : 
   abbrev Running : StoreView D → List Post → Type 0
   Running store posts = IsRunning size first.desktop (d.trail store.disk) from store.desktop store.must_reopen posts
 
-  call_on : (done : List Post) (call : Call) (answer : Answer) (store next : StoreView D) → d.honest store.disk
+  call_on : (done : List Post) (call : StoreCall) (answer : StoreAnswer) (store next : StoreView D)
+      → d.honest store.disk
       → d.size store.disk ≡ size → Running store done → Serves d call answer store next
       → Running next (posts_then done call answer)
   call_on done (Posting event) answer store next honest as_large was serves =

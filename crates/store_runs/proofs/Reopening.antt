@@ -2,7 +2,7 @@
 use Rattle.std.proofs.Common.{◌≡◌, inl, inr, ℕ, ◌+◌, ◌<◌, List, [], ◌∷◌, ◌++◌, length, take, drop, get_or, Ok, Err}
 use Rattle.std.proofs.Common.{length-append, refl, sym, ◌∙◌, ap, subst, arith, Bool, false}
 use Rattle.std.specs.Prelude.{if◌then◌else◌, Result, IfErr}
-use Rattle.std.proofs.lemmas.Bool.{cases_lt, lt-ltb, le-ltb}
+use Rattle.std.proofs.lemmas.Bool.{cases_lt}
 use Rattle.std.proofs.lemmas.List.{take_more, take_at, take-append-drop}
 use Rattle.sector_disk.specs.declared.disk.Disk.{Ghosts}
 use Rattle.sector_disk.specs.Trail.{Content, Trail, LeavesOnly, now}
@@ -11,18 +11,20 @@ use Rattle.event_bytes.specs.declared.event.Event.{Event}
 use Rattle.desktop_definitions.specs.declared.reply.Reply.{Reply}
 use Rattle.desktop_definitions.specs.Desktop.{Desktop}
 use Rattle.desktop_definitions.specs.Step.{step, steps}
-use Rattle.store_layout.specs.declared.layout.TheConstants.{JOURNAL_EVENTS}
+use Rattle.store_layout.specs.declared.layout.TheConstants.{LAYOUT}
 use Rattle.store_layout.specs.Bits.{clash}
 use Rattle.store_layout.specs.Finding.{FindingLaw, FindsOneThing}
 use Rattle.store_layout.specs.Meaning.{Means}
-use Rattle.store_runs.specs.declared.call.Call.{Call}
-use Rattle.store_runs.specs.declared.call.Call.TheVariants.{Post as Posting, Checkpoint}
+use Rattle.store_runs.specs.declared.call.StoreCall.{StoreCall}
+use Rattle.store_runs.specs.declared.call.StoreCall.TheVariants.{Post as Posting, Checkpoint}
 use Rattle.desk_journal.specs.Device.{WritesNothing, IsSameDevice, outcome}
 use Rattle.desk_journal.specs.Errors.{Error, OfOpen}
 use Rattle.desk_journal.specs.Opening.{IsNoStore}
 use Rattle.desk_journal.specs.Posting.{IsAcknowledged}
+use Rattle.desk_journal.specs.Session.{session_of}
+use Rattle.desk_journal.proofs.Due.{due_or_room, has_it, has_none}
 use Rattle.desk_journal.proofs.Passing.{shows_means}
-use Rattle.store_runs.specs.Run.{Answer, Serves, StopsAReopening, MeansSome, events_in, counted, all_counted}
+use Rattle.store_runs.specs.Run.{StoreAnswer, Serves, StopsAReopening, MeansSome, events_in, counted, all_counted}
 use Rattle.desk_journal.specs.View.{StoreView, IsDurable}
 
 -- the same device, call after call
@@ -35,30 +37,31 @@ same_device d a b c one two = record {
 
 -- ---- one call that was answered Ok
 
-pub record GoesOn {D : Type 0} (d : Ghosts D) (call : Call) (old new : StoreView D) : Type 0 where
+pub record GoesOn {D : Type 0} (d : Ghosts D) (call : StoreCall) (old new : StoreView D) : Type 0 where
   pub device : IsSameDevice d old.disk new.disk
   pub calm : d.failures new.disk ≡ d.failures old.disk
   pub usable : new.must_reopen ≡ false
   pub durable : IsDurable d new
   pub desktop : d.honest old.disk → new.desktop ≡ steps old.desktop (events_in (call ∷ []))
-  pub counts : (new.epoch, new.events) ≡ counted call (old.epoch, old.events)
+  pub counts : (new.layout, new.epoch, new.events) ≡ counted call (old.layout, old.epoch, old.events)
 
 -- an event more, where the journal has room, or as the first one after a checkpoint
 counts_posted : {D : Type 0} (d : Ghosts D) (event : Event) (reply : Reply) (old new : StoreView D)
-    → IsAcknowledged d event reply old new → (new.epoch, new.events) ≡ counted (Posting event) (old.epoch, old.events)
-counts_posted d event reply old new told = elim (cases_lt old.events JOURNAL_EVENTS) [
-  | inl room ↦
+    → IsAcknowledged d event reply old new → (new.layout, new.epoch, new.events)
+    ≡ counted (Posting event) (old.layout, old.epoch, old.events)
+counts_posted d event reply old new told = elim (due_or_room (session_of old)) [
+  | inr room ↦
       let there = told.more room in
-      (λ i. (there.0 i, there.1 i)) ∙ sym (ap next (lt-ltb old.events JOURNAL_EVENTS room))
-  | inr full ↦
-      let there = told.anew full in
-      (λ i. (there.0 i, there.1 i)) ∙ sym (ap next (le-ltb old.events JOURNAL_EVENTS full))
+      (λ i. ((told.layout ∙ sym room.1) i, there.0 i, there.1 i)) ∙ sym (ap next (has_it (session_of old) room))
+  | inl due ↦
+      let there = told.anew due in
+      (λ i. (told.layout i, there.0 i, there.1 i)) ∙ sym (ap next (has_none (session_of old) due))
 ]
   where
-    next : Bool → ℕ × ℕ
-    next b = if b then (old.epoch, old.events + 1) else (old.epoch + 1, 1)
+    next : Bool → ℕ × ℕ × ℕ
+    next b = if b then (old.layout, old.epoch, old.events + 1) else (LAYOUT, old.epoch + 1, 1)
 
-pub went_on : {D : Type 0} (d : Ghosts D) (call : Call) (reply : Reply) (old new : StoreView D)
+pub went_on : {D : Type 0} (d : Ghosts D) (call : StoreCall) (reply : Reply) (old new : StoreView D)
     → Serves d call (Ok reply) old new → GoesOn d call old new
 went_on d (Posting event) reply old new p = record {
   device = p.device;
@@ -74,12 +77,12 @@ went_on d Checkpoint reply old new p = record {
   usable = p.0.ok.usable;
   durable = p.0.ok.durable;
   desktop = p.0.ok.desktop;
-  counts = λ i. (p.0.ok.epoch i, p.0.ok.events i);
+  counts = λ i. (p.0.ok.layout i, p.0.ok.epoch i, p.0.ok.events i);
 }
 
 -- ---- calls one after another
 
-events_append : (a b : List Call) → events_in (a ++ b) ≡ events_in a ++ events_in b
+events_append : (a b : List StoreCall) → events_in (a ++ b) ≡ events_in a ++ events_in b
 events_append [] b = refl
 events_append (Posting event ∷ a) b = ap (λ es. event ∷ es) (events_append a b)
 events_append (Checkpoint ∷ a) b = events_append a b
@@ -88,17 +91,18 @@ steps_append : (first : Desktop) (a b : List Event) → steps first (a ++ b) ≡
 steps_append first [] b = refl
 steps_append first (event ∷ a) b = steps_append (step first event).0 a b
 
-counted_append : (a : List Call) (call : Call) (n : ℕ × ℕ)
+counted_append : (a : List StoreCall) (call : StoreCall) (n : ℕ × ℕ × ℕ)
     → all_counted (a ++ call ∷ []) n ≡ counted call (all_counted a n)
 counted_append [] call n = refl
 counted_append (other ∷ a) call n = counted_append a call (counted other n)
 
 -- the first calls, and one more
-module _ (calls : List Call) (k : ℕ) (call : Call) (room : k < length calls) (here : call ≡ get_or calls k call) where
+module _ (calls : List StoreCall) (k : ℕ) (call : StoreCall) (room : k < length calls)
+    (here : call ≡ get_or calls k call) where
   calls_next : take (k + 1) calls ≡ take k calls ++ call ∷ []
   calls_next = take_more calls k call room ∙ ap (λ c. take k calls ++ c ∷ []) (sym here)
 
-  pub counts_next : (n m : ℕ × ℕ) (m' : ℕ × ℕ) → m ≡ all_counted (take k calls) n → m' ≡ counted call m
+  pub counts_next : (n m m' : ℕ × ℕ × ℕ) → m ≡ all_counted (take k calls) n → m' ≡ counted call m
       → m' ≡ all_counted (take (k + 1) calls) n
   counts_next n m m' was is = is ∙ ap (counted call) was ∙ sym (counted_append (take k calls) call n)
       ∙ sym (ap (λ cs. all_counted cs n) calls_next)
@@ -111,7 +115,7 @@ module _ (calls : List Call) (k : ℕ) (call : Call) (room : k < length calls) (
       ∙ steps_append first (events_in (take k calls)) (events_in (call ∷ [])))
 
 -- ---- what a crash leaves
-module _ (size : ℕ) (first : Desktop) (calls : List Call) where
+module _ (size : ℕ) (first : Desktop) (calls : List StoreCall) where
   abbrev Some : Content → Type 0
   Some = MeansSome size first (events_in calls)
 
@@ -131,7 +135,7 @@ module _ (size : ℕ) (first : Desktop) (calls : List Call) where
       }
 
   -- a call more, whatever it answers
-  pub call_more : {D : Type 0} (d : Ghosts D) (k : ℕ) (call : Call) (answer : Answer) (start : Trail)
+  pub call_more : {D : Type 0} (d : Ghosts D) (k : ℕ) (call : StoreCall) (answer : StoreAnswer) (start : Trail)
       (old new : StoreView D) → k < length calls → call ≡ get_or calls k call → old.must_reopen ≡ false
       → d.honest old.disk → d.size old.disk ≡ size → old.desktop ≡ steps first (events_in (take k calls))
       → LeavesOnly start (d.trail old.disk) Some → Serves d call answer old new
@@ -155,7 +159,7 @@ module _ (size : ℕ) (first : Desktop) (calls : List Call) where
 -- ---- why it stops, over an honest disk
 
 -- a call of a store in use stops for want of memory, by a fault, or since it is worn
-pub call_stops : {D : Type 0} (d : Ghosts D) (call : Call) (e : Error) (old new : StoreView D)
+pub call_stops : {D : Type 0} (d : Ghosts D) (call : StoreCall) (e : Error) (old new : StoreView D)
     → old.must_reopen ≡ false → Serves d call (Err e) old new → StopsAReopening e
 call_stops d (Posting event) e old new usable p = elim p.faults.errors [
   | inl none ↦ inl none

@@ -7,7 +7,7 @@ use Rattle.std.proofs.lemmas.List.{append-nil, map-append, take_at, drop_at}
 use Rattle.std.proofs.lemmas.List.Elements.{filter-append}
 use Rattle.std.proofs.Math.Seq.{take-length, drop-length}
 use Rattle.std.proofs.Math.ListN.{drop_of_length-le}
-use Rattle.sector_disk.specs.Trail.{Content, Trail, now, IsImage, Leaves, LeavesOnly}
+use Rattle.sector_disk.specs.Trail.{Content, Trail, now, IsCrashImage, Leaves, LeavesOnly}
 use Rattle.event_bytes.specs.declared.event.Event.{Event}
 use Rattle.desktop_definitions.specs.declared.reply.Reply.{Reply}
 use Rattle.desktop_definitions.specs.Desktop.{Desktop}
@@ -16,7 +16,7 @@ use Rattle.store_layout.specs.Bits.{true_or_false, clash}
 use Rattle.store_layout.specs.Meaning.{Means, MeansEither}
 use Rattle.desk_journal.specs.Errors.{Error}
 use Rattle.desk_journal.specs.Errors.{NoMemory, Fault, MustReopen, Worn}
-use Rattle.store_runs.specs.Run.{Answer, Post, is_acknowledged, lets_in_at, accepted, events_of, MeansPrefix}
+use Rattle.store_runs.specs.Run.{StoreAnswer, Post, is_acknowledged, lets_in_at, accepted, events_of, MeansPrefix}
 use Rattle.store_runs.specs.Run.{Survives, none, one_more, renewed}
 use Rattle.desk_journal.proofs.Passing.{steps_on}
 
@@ -71,7 +71,7 @@ begins_running size disk desktop shown = record {
 }
 
 -- what a post's contract says, of a store before and after
-pub record Posted (size : ℕ) (event : Event) (answer : Answer) (old new : Trail) (desktop desktop' : Desktop)
+pub record Posted (size : ℕ) (event : Event) (answer : StoreAnswer) (old new : Trail) (desktop desktop' : Desktop)
     (broken broken' : Bool) : Type 0 where
   pub any_moment : broken ≡ false → LeavesOnly old new (MeansEither size desktop (step desktop event).0)
   pub stepped : IfOk answer (λ reply. (desktop', reply) ≡ step desktop event)
@@ -87,16 +87,16 @@ pub record Posted (size : ℕ) (event : Event) (answer : Answer) (old new : Trai
 module _ (size : ℕ) (first : Desktop) (old new : Trail) (from : ℕ) (desktop desktop' : Desktop)
     (broken broken' : Bool) (posts : List Post) (event : Event)
     (was : IsRunning size first old from desktop broken posts) where
-  abbrev answered : Answer → Post
+  abbrev answered : StoreAnswer → Post
   answered answer = record { event = event; answer = answer }
 
-  abbrev grown : Answer → List Post
+  abbrev grown : StoreAnswer → List Post
   grown answer = posts ++ answered answer ∷ []
 
-  accepted-grown : (answer : Answer) → accepted (grown answer) ≡ accepted posts ++ accepted (answered answer ∷ [])
+  accepted-grown : (answer : StoreAnswer) → accepted (grown answer) ≡ accepted posts ++ accepted (answered answer ∷ [])
   accepted-grown answer = filter-append (λ p. lets_in_at p.answer) posts (answered answer ∷ [])
 
-  longer : (answer : Answer) → length (accepted posts) ≤ length (accepted (grown answer))
+  longer : (answer : StoreAnswer) → length (accepted posts) ≤ length (accepted (grown answer))
   longer answer = omega (
     arith,
     ap length (accepted-grown answer),
@@ -105,7 +105,7 @@ module _ (size : ℕ) (first : Desktop) (old new : Trail) (from : ℕ) (desktop 
   )
 
   -- the event isn't there; none that was acknowledged is missing, if this one wasn't
-  without : (answer : Answer) (so_far : List Post) (c : Content) → Means size (led_to first posts) c
+  without : (answer : StoreAnswer) (so_far : List Post) (c : Content) → Means size (led_to first posts) c
       → list_any is_acknowledged (drop (length (accepted posts)) (accepted so_far)) ≡ false
       → MeansPrefix size first so_far (grown answer) c
   without answer so_far c means none_lost = record {
@@ -117,42 +117,43 @@ module _ (size : ℕ) (first : Desktop) (old new : Trail) (from : ℕ) (desktop 
         ∙ take_at (accepted posts) (accepted (answered answer ∷ [])) (length (accepted posts)) refl)) means;
   }
 
-  without_before : (answer : Answer) (c : Content) → Means size (led_to first posts) c
+  without_before : (answer : StoreAnswer) (c : Content) → Means size (led_to first posts) c
       → MeansPrefix size first posts (grown answer) c
   without_before answer c means = without answer posts c means
       (ap (list_any is_acknowledged) (drop-length (accepted posts)))
 
-  without_after : (answer : Answer) (c : Content) → list_any is_acknowledged (accepted (answered answer ∷ [])) ≡ false
+  without_after : (answer : StoreAnswer) (c : Content) → list_any is_acknowledged (accepted (answered answer ∷ []))
+      ≡ false
       → Means size (led_to first posts) c → MeansPrefix size first (grown answer) (grown answer) c
   without_after answer c unanswered means = without answer (grown answer) c means
       (ap (list_any is_acknowledged) (ap (drop (length (accepted posts))) (accepted-grown answer)
       ∙ drop_at (accepted posts) (accepted (answered answer ∷ [])) (length (accepted posts)) refl) ∙ unanswered)
 
   -- where an accepted event leads
-  led_on : (answer : Answer) → accepted (answered answer ∷ []) ≡ answered answer ∷ []
+  led_on : (answer : StoreAnswer) → accepted (answered answer ∷ []) ≡ answered answer ∷ []
       → (step (led_to first posts) event).0 ≡ led_to first (grown answer)
   led_on answer taken = sym (
       ap (λ ps. steps first (events_of ps)) (accepted-grown answer ∙ ap (λ ps. accepted posts ++ ps) taken)
       ∙ ap (steps first) (map-append (λ (p : Post). p.event) (accepted posts) (answered answer ∷ []))
       ∙ steps_on first (events_of (accepted posts)) event)
 
-  led_nowhere : (answer : Answer) → accepted (answered answer ∷ []) ≡ [] → led_to first posts
+  led_nowhere : (answer : StoreAnswer) → accepted (answered answer ∷ []) ≡ [] → led_to first posts
       ≡ led_to first (grown answer)
   led_nowhere answer turned_away = ap (λ ps. steps first (events_of ps))
       (sym (accepted-grown answer ∙ ap (λ ps. accepted posts ++ ps) turned_away ∙ append-nil (accepted posts)))
 
-  with_event : (answer : Answer) (so_far : List Post) (c : Content)
+  with_event : (answer : StoreAnswer) (so_far : List Post) (c : Content)
       → length (accepted so_far) ≤ length (accepted (grown answer)) → accepted (answered answer ∷ [])
       ≡ answered answer ∷ [] → Means size (step (led_to first posts) event).0 c
       → MeansPrefix size first so_far (grown answer) c
   with_event answer so_far c more taken means = whole size first so_far (grown answer) c more
       (subst (λ d. Means size d c) (led_on answer taken) means)
 
-  abbrev Goal : Answer → Type 0
+  abbrev Goal : StoreAnswer → Type 0
   Goal answer = IsRunning size first new from desktop' broken' (grown answer)
 
   -- a post that was begun: each image means the desktop from before it or the one after the event
-  module _ (answer : Answer) (usable : broken ≡ false) (taken : accepted (answered answer ∷ [])
+  module _ (answer : StoreAnswer) (usable : broken ≡ false) (taken : accepted (answered answer ∷ [])
       ≡ answered answer ∷ []) (run : LeavesOnly old new (MeansEither size desktop (step desktop event).0)) where
     before : (c : Content) → Means size desktop c → Means size (led_to first posts) c
     before c = subst (λ d. Means size d c) (was.is usable)
@@ -187,7 +188,7 @@ module _ (size : ℕ) (first : Desktop) (old new : Trail) (from : ℕ) (desktop 
   ]
 
   -- nothing of the store or its disk changed
-  unchanged : (answer : Answer) → accepted (answered answer ∷ []) ≡ [] → (new ≡ old) × (desktop' ≡ desktop)
+  unchanged : (answer : StoreAnswer) → accepted (answered answer ∷ []) ≡ [] → (new ≡ old) × (desktop' ≡ desktop)
       × (broken' ≡ broken) → Goal answer
   unchanged answer turned_away same =
       let fewer : accepted (grown answer) ≡ accepted posts = accepted-grown answer
@@ -202,18 +203,18 @@ module _ (size : ℕ) (first : Desktop) (old new : Trail) (from : ℕ) (desktop 
       } in
       let clocks : new.clock ≡ old.clock = ap (λ (d : Trail). d.clock) same.0 in
       let last : Leaves (now new) (MeansPrefix size first (grown answer) (grown answer)) = λ c image. again
-      (grown answer) c fewer (was.prefix c (subst (λ (d : Trail). IsImage (now d) c) same.0 image)) in
+      (grown answer) c fewer (was.prefix c (subst (λ (d : Trail). IsCrashImage (now d) c) same.0 image)) in
       record {
         survived = one_more (answered answer) (carried was.survived (λ t le. ap (λ (d : Trail). d.at t) same.0))
             (omega (arith, clocks))
             (λ t above below c image.
             let here : t ≡ new.clock = omega (arith, above, below, clocks) in
-            again posts c refl (was.prefix c (subst (λ (d : Trail). IsImage (now d) c) same.0
-            (subst (λ i. IsImage (new.at i) c) here image)))) last;
+            again posts c refl (was.prefix c (subst (λ (d : Trail). IsCrashImage (now d) c) same.0
+            (subst (λ i. IsCrashImage (new.at i) c) here image)))) last;
         prefix = last;
         is = λ still. same.1 ∙ was.is (sym same.2 ∙ still) ∙ led_nowhere answer turned_away;
         shown = λ still c image. subst (λ d. Means size d c) (sym same.1)
-            (was.shown (sym same.2 ∙ still) c (subst (λ (d : Trail). IsImage (now d) c) same.0 image));
+            (was.shown (sym same.2 ∙ still) c (subst (λ (d : Trail). IsCrashImage (now d) c) same.0 image));
       }
 
   faulted : Posted size event (Err Fault) old new desktop desktop' broken broken' → Goal (Err Fault)
@@ -255,7 +256,7 @@ module _ (size : ℕ) (first : Desktop) (old new : Trail) (from : ℕ) (desktop 
         }
   ]
 
-  pub runs_on : (answer : Answer) → Posted size event answer old new desktop desktop' broken broken' → Goal answer
+  pub runs_on : (answer : StoreAnswer) → Posted size event answer old new desktop desktop' broken broken' → Goal answer
   runs_on (Ok reply) post = done reply post
   runs_on (Err e) post = elim (post.named e refl) [
     | inl is ↦ subst (λ x. Goal (Err x)) (sym is) (starved
@@ -269,7 +270,7 @@ module _ (size : ℕ) (first : Desktop) (old new : Trail) (from : ℕ) (desktop 
   ]
 
 -- what a checkpoint's contract says, of a store before and after
-pub record Checkpointed (size : ℕ) (answer : Answer) (old new : Trail) (desktop desktop' : Desktop)
+pub record Checkpointed (size : ℕ) (answer : StoreAnswer) (old new : Trail) (desktop desktop' : Desktop)
     (broken broken' : Bool) : Type 0 where
   pub any_moment : broken ≡ false → LeavesOnly old new (Means size desktop)
   pub same : OnOk answer (desktop' ≡ desktop)
@@ -304,7 +305,7 @@ module _ (size : ℕ) (first : Desktop) (old new : Trail) (from : ℕ) (desktop 
       (subst (λ d. IsRunning size first old from d broken' posts) (sym same.1)
       (subst (λ b. IsRunning size first old from desktop b posts) (sym same.2) was))
 
-  pub checkpoint_on : (answer : Answer) → Checkpointed size answer old new desktop desktop' broken broken' → Next
+  pub checkpoint_on : (answer : StoreAnswer) → Checkpointed size answer old new desktop desktop' broken broken' → Next
   checkpoint_on (Ok reply) made = elim (true_or_false broken) [
     | inl must ↦ absurd (let never : IsErrOf (Ok reply) MustReopen = made.must_reopen must in cc)
     | inr usable ↦ began usable (made.any_moment usable) (λ still. made.same)

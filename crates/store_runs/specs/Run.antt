@@ -1,5 +1,5 @@
 -- A run of calls, each a post or a checkpoint, and what a crash at any moment of it leaves.
-use Rattle.std.specs.Prelude.{◌≡◌, ◌≤◌, ◌+◌, ℕ, Bool, true, false, List, [], nat_lt, if◌then◌else◌}
+use Rattle.std.specs.Prelude.{◌≡◌, ◌≤◌, ◌+◌, ℕ, Bool, true, false, List, [], nat_lt, ◌&&◌, ◌==◌, if◌then◌else◌}
 use Rattle.std.specs.Prelude.{◌∷◌, ◌++◌, length, take, drop, map, filter, Result, Ok, Err, IfOk}
 use Rattle.std.specs.List.{list_any}
 use Rattle.sector_disk.specs.declared.disk.Disk.{Ghosts}
@@ -9,10 +9,10 @@ use Rattle.desktop_definitions.specs.declared.reply.Reply.{Reply}
 use Rattle.desktop_definitions.specs.declared.reply.Reply.TheVariants.{Done}
 use Rattle.desktop_definitions.specs.Desktop.{Desktop}
 use Rattle.desktop_definitions.specs.Step.{steps}
-use Rattle.store_layout.specs.declared.layout.TheConstants.{JOURNAL_EVENTS}
+use Rattle.store_layout.specs.declared.layout.TheConstants.{JOURNAL_EVENTS, LAYOUT}
 use Rattle.store_layout.specs.Meaning.{Means}
-use Rattle.store_runs.specs.declared.call.Call.{Call}
-use Rattle.store_runs.specs.declared.call.Call.TheVariants.{Post as Posting, Checkpoint}
+use Rattle.store_runs.specs.declared.call.StoreCall.{StoreCall}
+use Rattle.store_runs.specs.declared.call.StoreCall.TheVariants.{Post as Posting, Checkpoint}
 use Rattle.sector_disk.specs.Faults.{OneOf}
 use Rattle.desk_journal.specs.Errors.{Error}
 use Rattle.desk_journal.specs.Errors.{NoMemory, Fault, MustReopen}
@@ -22,19 +22,19 @@ use Rattle.desk_journal.specs.Opening.{IsOpened}
 use Rattle.desk_journal.specs.Posting.{IsPosted}
 use Rattle.desk_journal.specs.View.{StoreView, IsDurable}
 
-abbrev pub Answer : Type 0
-Answer = Result Reply Error
+abbrev pub StoreAnswer : Type 0
+StoreAnswer = Result Reply Error
 
 -- an event that was posted, and what the call answered
 pub record Post : Type 0 where
   pub event : Event
-  pub answer : Answer
+  pub answer : StoreAnswer
 
 -- acknowledged: whatever the reply
 abbrev pub is_acknowledged : Post → Bool
 is_acknowledged p = told p.answer
   where
-    told : Answer → Bool
+    told : StoreAnswer → Bool
     told (Ok reply) = true
     told (Err e) = false
 
@@ -48,7 +48,7 @@ lets_in (Damaged n) = false
 lets_in TooSmall = false
 lets_in Worn = false
 
-abbrev pub lets_in_at : Answer → Bool
+abbrev pub lets_in_at : StoreAnswer → Bool
 lets_in_at (Ok reply) = true
 lets_in_at (Err e) = lets_in e
 
@@ -82,11 +82,11 @@ pub data Survives (size : ℕ) (desktop : Desktop) (trail : Trail) (from : ℕ) 
 
 -- a call that was made, and what it returned
 pub record Served : Type 0 where
-  pub call : Call
-  pub answer : Answer
+  pub call : StoreCall
+  pub answer : StoreAnswer
 
 -- calls and their answers, side by side
-abbrev pub served_of : List Call → List Answer → List Served
+abbrev pub served_of : List StoreCall → List StoreAnswer → List Served
 served_of [] answers = []
 served_of (call ∷ calls) [] = []
 served_of (call ∷ calls) (answer ∷ answers) = record { call = call; answer = answer } ∷ served_of calls answers
@@ -96,12 +96,12 @@ abbrev pub posts_in : List Served → List Post
 posts_in [] = []
 posts_in (s ∷ served) = before s.call s.answer (posts_in served)
   where
-    before : Call → Answer → List Post → List Post
+    before : StoreCall → StoreAnswer → List Post → List Post
     before (Posting event) answer later = record { event = event; answer = answer } ∷ later
     before Checkpoint answer later = later
 
 -- What the call promises of the states before and after it. A checkpoint that succeeds is answered Done.
-abbrev pub Serves : {D : Type 0} → Ghosts D → Call → Answer → StoreView D → StoreView D → Type 0
+abbrev pub Serves : {D : Type 0} → Ghosts D → StoreCall → StoreAnswer → StoreView D → StoreView D → Type 0
 Serves d (Posting event) answer old new = IsPosted d event answer old new
 Serves d Checkpoint answer old new = IsCheckpointed d answer old new × IfOk answer (λ reply. reply ≡ Done)
 
@@ -132,22 +132,24 @@ SurvivalLaw {D = D} d = (served : List Served) (old new : StoreView D) → IsRun
 abbrev pub ReopeningLaw : {D : Type 0} → Ghosts D → Type 0
 ReopeningLaw {D = D} d = (closed opened : StoreView D) → d.honest closed.disk → IsDurable d closed
     → IsOpened d closed.disk opened
-    → (opened.desktop ≡ closed.desktop) × (opened.epoch ≡ closed.epoch) × (opened.events ≡ closed.events)
+    → (opened.desktop ≡ closed.desktop) × (opened.layout ≡ closed.layout) × (opened.epoch ≡ closed.epoch)
+    × (opened.events ≡ closed.events)
 
 -- ---- calls that were all answered Ok
 
 -- the events that are posted
-abbrev pub events_in : List Call → List Event
+abbrev pub events_in : List StoreCall → List Event
 events_in [] = []
 events_in (Posting event ∷ calls) = event ∷ events_in calls
 events_in (Checkpoint ∷ calls) = events_in calls
 
--- an epoch and a number of events, after a call
-abbrev pub counted : Call → ℕ × ℕ → ℕ × ℕ
-counted (Posting event) n = if nat_lt n.1 JOURNAL_EVENTS then (n.0, n.1 + 1) else (n.0 + 1, 1)
-counted Checkpoint n = (n.0 + 1, 0)
+-- a version, an epoch and a number of events, after a call
+abbrev pub counted : StoreCall → ℕ × ℕ × ℕ → ℕ × ℕ × ℕ
+counted (Posting event) n =
+    if nat_lt n.2 JOURNAL_EVENTS && n.0 == LAYOUT then (n.0, n.1, n.2 + 1) else (LAYOUT, n.1 + 1, 1)
+counted Checkpoint n = (LAYOUT, n.1 + 1, 0)
 
-abbrev pub all_counted : List Call → ℕ × ℕ → ℕ × ℕ
+abbrev pub all_counted : List StoreCall → ℕ × ℕ × ℕ → ℕ × ℕ × ℕ
 all_counted [] n = n
 all_counted (call ∷ calls) n = all_counted calls (counted call n)
 
@@ -162,11 +164,13 @@ abbrev pub StopsAReopening : Error → Type 0
 StopsAReopening = OneOf (NoMemory ∷ Fault ∷ Worn ∷ [])
 
 -- the store that was opened after all the calls: nothing is lost
-pub record IsReopened {D : Type 0} (d : Ghosts D) (calls : List Call) (closed reopened : StoreView D) : Type 0 where
-  pub desktop : d.honest closed.disk → reopened.desktop ≡ steps closed.desktop (events_in calls)
-  pub counts : d.honest closed.disk
-      → (reopened.epoch, reopened.events) ≡ all_counted calls (closed.epoch, closed.events)
-  pub durable : IsDurable d reopened
-  -- nothing is pending: what it shows is on the medium
-  pub settled : d.honest closed.disk → (n : ℕ) → (now (d.trail reopened.disk)).pending n ≡ false
-  pub usable : reopened.must_reopen ≡ false
+pub record IsReopened {D : Type 0} (d : Ghosts D) (calls : List StoreCall) (closed reopened : StoreView D) : Type 0
+  where
+    pub desktop : d.honest closed.disk → reopened.desktop ≡ steps closed.desktop (events_in calls)
+    pub counts : d.honest closed.disk
+        → (reopened.layout, reopened.epoch, reopened.events)
+        ≡ all_counted calls (closed.layout, closed.epoch, closed.events)
+    pub durable : IsDurable d reopened
+    -- nothing is pending: what it shows is on the medium
+    pub settled : d.honest closed.disk → (n : ℕ) → (now (d.trail reopened.disk)).pending n ≡ false
+    pub usable : reopened.must_reopen ≡ false

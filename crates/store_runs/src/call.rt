@@ -6,7 +6,7 @@ use event_bytes::Event;
 
 /// A call that changes a store.
 #[derive(Drop)]
-pub enum Call {
+pub enum StoreCall {
     /// An event is posted.
     Post(Event),
     /// The desktop is put into the other slot.
@@ -14,4 +14,4 @@ pub enum Call {
 }
 
 /// What such a call returns. A checkpoint that succeeds is answered `Done`.
-pub type Answer = Result<Reply, Error>;
+pub type StoreAnswer = Result<Reply, Error>;

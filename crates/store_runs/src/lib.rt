@@ -10,6 +10,6 @@ mod call;
 mod laws;
 mod run;
 
-pub use call::{Answer, Call};
+pub use call::{StoreAnswer, StoreCall};
 pub use laws::{reopening_law, runs_compose, runs_survive};
 pub use run::{serve, serve_all, serve_and_reopen};

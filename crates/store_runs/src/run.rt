@@ -7,7 +7,7 @@ ghost use Rattle.desk_journal.specs.Errors.{OfReopen};
 ghost use Rattle.store_runs.specs.Run.{IsRun, SurvivesRun, Serves, MeansSome, IsReopened, served_of, events_in};
 ghost use Rattle.store_runs.specs.Run.{StopsAReopening};
 
-use crate::call::{Answer, Call};
+use crate::call::{StoreAnswer, StoreCall};
 use crate::laws::{reopening_law, runs_survive};
 use desk_journal::{Error, Store, finding_law};
 use desktop_definitions::Reply;
@@ -17,12 +17,12 @@ use std::alloc::Global;
 /// Makes one call.
 ///
 /// Errors: those of `Store::post` and `Store::checkpoint`.
-pub fn serve<D: Disk>(alloc: Global, store: &mut Store<D>, call: &Call) -> Answer
+pub fn serve<D: Disk>(alloc: Global, store: &mut Store<D>, call: &StoreCall) -> StoreAnswer
     ensures { Serves D.Disk call.now result store.old store.new }
 {
     match call {
-        Call::Post(event) => store.post(alloc, event),
-        Call::Checkpoint => match store.checkpoint() {
+        StoreCall::Post(event) => store.post(alloc, event),
+        StoreCall::Checkpoint => match store.checkpoint() {
             Ok(()) => Ok(Reply::Done),
             Err(error) => Err(error),
         },
@@ -36,8 +36,8 @@ pub fn serve<D: Disk>(alloc: Global, store: &mut Store<D>, call: &Call) -> Answe
 pub fn serve_all<D: Disk>(
     alloc: Global,
     store: &mut Store<D>,
-    calls: &[Call],
-) -> Result<Vec<Answer>, NoMemory>
+    calls: &[StoreCall],
+) -> Result<Vec<StoreAnswer>, NoMemory>
     requires { store.old.must_reopen ≡ false }
     ensures each { IfOk result (λ answers. length answers.items ≡ length calls.now) }
     ensures run { IfOk result (λ answers. IsRun D.Disk (served_of calls.now answers.items) store.old store.new) }
@@ -64,7 +64,7 @@ pub fn serve_all<D: Disk>(
 pub fn serve_and_reopen<D: Disk>(
     alloc: Global,
     store: Store<D>,
-    calls: &[Call],
+    calls: &[StoreCall],
 ) -> Result<Store<D>, (Error, D)>
     requires { store.must_reopen ≡ false }
     ensures ok { IfOk result (λ reopened. IsReopened D.Disk calls.now store reopened) }

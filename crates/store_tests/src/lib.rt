@@ -1,5 +1,5 @@
-//! The tests of what keeps a desktop, one module a topic: stores, stores whose characters stand on the disk, crashes,
-//! stops at each call, runs of calls, scripts that are played, and reports of how they end.
+//! The tests of what keeps a desktop, one module a topic: stores, stores whose characters stand on the disk, stores of
+//! the first version, crashes, stops at each call, runs of calls, scripts that are played, and reports of how they end.
 //!
 //! They stand in a crate of their own, since a crate with tests is proved twice. What a module tests is what no clause
 //! says: worked rows, bytes as they are printed, that a call can succeed, and what happens where a device or an
@@ -9,6 +9,8 @@
 
 #[cfg(test)]
 mod crashes;
+#[cfg(test)]
+mod migrating;
 #[cfg(test)]
 mod paged;
 #[cfg(test)]

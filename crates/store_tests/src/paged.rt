@@ -71,15 +71,15 @@ fn is_cut_off(alloc: Global, disk: &MemoryDisk, call: u64) -> Result<bool, Fail>
     }
     match said.strip_suffix(b"fault\n") {
         Some(first) if whole.starts_with(first) && first.len() % 912 == 0 => Ok(true),
-        None if said.starts_with(&whole) && said.ends_with(b"\nok layout 1 epoch 2 events 0\n") => {
+        None if said.starts_with(&whole) && said.ends_with(b"\nok layout 2 epoch 2 events 0\n") => {
             Ok(false)
         }
         _ => Err("neither".into()),
     }
 }
 
-/// Opening a store of 78 files makes 10 calls, of which the image has three; the characters that are shown are read from
-/// two sectors of the area and from memory.
+/// Opening a store of 78 files makes 10 calls, of which the image has three; the characters that are shown are read
+/// from two sectors of the area and from memory.
 #[test]
 fn paged_faults(rt: HostRuntime) -> Result<(), Fail> {
     let disk = paged(rt.alloc(), b"", 78)?;
@@ -108,9 +108,9 @@ fn is_seen(alloc: Global, said: &[u8], listed: &[u8], itself: &[u8]) -> Result<b
 /// How many events a store of the tool and four files has, none or one.
 fn events(alloc: Global, disk: MemoryDisk) -> Result<usize, Fail> {
     let said = looks(alloc, disk);
-    if is_seen(alloc, &said, LISTS[0], b"ok layout 1 epoch 2 events 0\n")? {
+    if is_seen(alloc, &said, LISTS[0], b"ok layout 2 epoch 2 events 0\n")? {
         Ok(0)
-    } else if is_seen(alloc, &said, LISTS[1], b"ok layout 1 epoch 2 events 1\n")? {
+    } else if is_seen(alloc, &said, LISTS[1], b"ok layout 2 epoch 2 events 1\n")? {
         Ok(1)
     } else {
         Err("neither of these".into())
@@ -124,8 +124,8 @@ fn posted<D: Disk + Drop>(alloc: Global, disk: D) -> (Vec<u8>, D) {
     (said, disk)
 }
 
-/// Where the read of the area fails, or any other call of a post, alone or with all later ones, the store shows what was
-/// there before or the event; where it was the read, what was there.
+/// Where the read of the area fails, or any other call of a post, alone or with all later ones, the store shows what
+/// was there before or the event; where it was the read, what was there.
 #[test]
 fn failing_paged_post(rt: HostRuntime) -> Result<(), Fail> {
     let alloc = rt.alloc();
@@ -146,7 +146,8 @@ fn failing_paged_post(rt: HostRuntime) -> Result<(), Fail> {
     Ok(())
 }
 
-/// How many images there are of a disk, of which at most four sectors are pending. Each has one of these numbers of events.
+/// How many images there are of a disk, of which at most four sectors are pending. Each has one of these numbers of
+/// events.
 fn try_events(alloc: Global, disk: MemoryDisk, least: usize, most: usize) -> Result<u32, Fail> {
     let mut disk = disk;
     let pending = disk.pending_sectors(alloc)?;
@@ -187,15 +188,15 @@ fn torn_paged_post(rt: HostRuntime) -> Result<(), Fail> {
     Ok(())
 }
 
-/// Whether the image shows what the store of the tool and five files had: in slot 1 with its event, or in slot 0 with an
-/// empty journal, just where that slot is open with its new head.
+/// Whether the image shows what the store of the tool and five files had: in slot 1 with its event, or in slot 0 with
+/// an empty journal, just where that slot is open with its new head.
 fn is_renewed(alloc: Global, image: MemoryDisk) -> Result<bool, Fail> {
     let mut image = image;
     let is_new = sector(&mut image, 1)?.starts_with(b"OPENGATE") && sector(&mut image, 2)?[7] == 3;
     let itself: &[u8] = if is_new {
-        b"ok layout 1 epoch 3 events 0\n"
+        b"ok layout 2 epoch 3 events 0\n"
     } else {
-        b"ok layout 1 epoch 2 events 1\n"
+        b"ok layout 2 epoch 2 events 1\n"
     };
     let said = looks(alloc, image);
     Ok(is_seen(alloc, &said, LISTED_WITH_A_FIFTH, itself)?)
@@ -218,8 +219,8 @@ fn try_renewed(alloc: Global, disk: MemoryDisk) -> Result<u32, Fail> {
     Ok(images)
 }
 
-/// A second checkpoint, which fills one more sector of the area, stopped at each call: a read of the slot's gate, a closed
-/// gate and a sync, the sector of the area, the image, the head, gate 0 and a sync, the gate and a sync.
+/// A second checkpoint, which fills one more sector of the area, stopped at each call: a read of the slot's gate, a
+/// closed gate and a sync, the sector of the area, the image, the head, gate 0 and a sync, the gate and a sync.
 #[test]
 fn torn_paged_checkpoint(rt: HostRuntime) -> Result<(), Fail> {
     let alloc = rt.alloc();
@@ -250,7 +251,7 @@ fn open_stops(rt: HostRuntime) -> Result<(), Fail> {
         let mut said = Vec::new(alloc);
         disk = played(alloc, Fuse::new(disk, call), b"", &mut said).into_inner();
         assert!(rt; disk.pending_sectors(alloc)?.is_empty());
-        let is_open = said.as_slice() == b"ok layout 1 epoch 2 events 1\n".as_slice();
+        let is_open = said.as_slice() == b"ok layout 2 epoch 2 events 1\n".as_slice();
         assert!(rt;
             is_open == (call == CALLS_TO_REPLAY)
                 && (is_open || said.as_slice() == b"fault\n".as_slice())

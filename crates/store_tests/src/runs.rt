@@ -6,7 +6,7 @@ use oberon_main::{Error, Store};
 use sector_disk::{Disk, Fuse, MemoryDisk, OneFault};
 use std::alloc::Global;
 use std::test::Fail;
-use store_runs::{Answer, Call, serve_all, serve_and_reopen};
+use store_runs::{StoreAnswer, StoreCall, serve_all, serve_and_reopen};
 
 /// How many calls opening a new store makes: a sync, the label, a slot's gate and head, the other slot's gate, the
 /// image, gate 0.
@@ -30,19 +30,19 @@ fn filed(name: &[u8], bytes: &[u8]) -> Result<Event, Fail> {
 }
 
 /// The three events that most tests post.
-fn three_events() -> Result<[Call; 3], Fail> {
-    let first = Call::Post(filed(b"A.Text", b"a")?);
-    let second = Call::Post(filed(b"B.Text", b"bc")?);
-    let third = Call::Post(filed(b"A.Text", b"def")?);
+fn three_events() -> Result<[StoreCall; 3], Fail> {
+    let first = StoreCall::Post(filed(b"A.Text", b"a")?);
+    let second = StoreCall::Post(filed(b"B.Text", b"bc")?);
+    let third = StoreCall::Post(filed(b"A.Text", b"def")?);
     Ok([first, second, third])
 }
 
 /// Makes the calls as one run over a store: what each returned, and the disk.
 fn run_over<D: Disk + Drop>(
     alloc: Global,
-    made: &[Call],
+    made: &[StoreCall],
     disk: D,
-) -> Result<(Vec<Answer>, D), Fail> {
+) -> Result<(Vec<StoreAnswer>, D), Fail> {
     match Store::open(alloc, disk) {
         Err(_) => Err("not opened".into()),
         Ok(mut store) => {
@@ -52,13 +52,14 @@ fn run_over<D: Disk + Drop>(
     }
 }
 
-/// The same over a new store whose disk passes so many calls after it is opened, and then none, or all but the next one.
+/// The same over a new store whose disk passes so many calls after it is opened, and then none, or all but the next
+/// one.
 fn run(
     alloc: Global,
-    made: &[Call],
+    made: &[StoreCall],
     calls: u64,
     once: bool,
-) -> Result<(Vec<Answer>, MemoryDisk), Fail> {
+) -> Result<(Vec<StoreAnswer>, MemoryDisk), Fail> {
     let calls = CALLS_TO_OPEN.saturating_add(calls);
     let disk = fresh(alloc)?;
     if once {
@@ -85,8 +86,8 @@ fn a_run_of_posts(rt: HostRuntime) -> Result<(), Fail> {
     Ok(())
 }
 
-/// How many events are there after the first of three posts failed at a call of its own. Nothing is posted after it, also
-/// where the disk passes all later calls.
+/// How many events are there after the first of three posts failed at a call of its own. Nothing is posted after it,
+/// also where the disk passes all later calls.
 fn left_by_a_failed_post(alloc: Global, call: u64, once: bool) -> Result<Option<usize>, Fail> {
     let wanted = [
         Err(Error::Fault),
@@ -118,8 +119,8 @@ fn nothing_is_posted_after_a_fault(rt: HostRuntime) -> Result<(), Fail> {
 #[test]
 fn a_run_with_checkpoints(rt: HostRuntime) -> Result<(), Fail> {
     let done = Ok(Reply::Done);
-    let event = Call::Post(filed(b"A.Text", b"a")?);
-    let made = [Call::Checkpoint, event, Call::Checkpoint];
+    let event = StoreCall::Post(filed(b"A.Text", b"a")?);
+    let made = [StoreCall::Checkpoint, event, StoreCall::Checkpoint];
     for (calls, wanted) in [
         (100, [done, done, done]),
         (CALLS_TO_RENEW + 5, [done, done, Err(Error::Fault)]),

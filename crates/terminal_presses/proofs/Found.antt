@@ -25,11 +25,11 @@ use Rattle.terminal_presses.specs.declared.press.Presses.TheVariants.{Nothing}
 use Rattle.terminal_presses.specs.declared.place.Mark.{Mark}
 use Rattle.terminal_presses.specs.declared.place.Mark.TheVariants as mark
 use Rattle.terminal_presses.specs.declared.place.Numbers.{Numbers}
-use Rattle.terminal_presses.specs.declared.place.Place.{Place}
-use Rattle.terminal_presses.specs.declared.place.Place.TheVariants as place
+use Rattle.terminal_presses.specs.declared.place.SequencePlace.{SequencePlace}
+use Rattle.terminal_presses.specs.declared.place.SequencePlace.TheVariants as place
 use Rattle.terminal_presses.specs.declared.parser.Parser.{Parser}
 use Rattle.terminal_presses.specs.Presses.{single, grounded, preceded, alone, function_at, arrow_at, lettered, numbered}
-use Rattle.terminal_presses.specs.Presses.{longer, with_digit, with_number, marked, reported, moused, sized, plain}
+use Rattle.terminal_presses.specs.Presses.{longer, with_digit, with_number, mouse_mark, reported, moused, sized, plain}
 use Rattle.terminal_presses.specs.Presses.{ended, after_ground, after_escape, after_shift, after_console}
 use Rattle.terminal_presses.specs.Presses.{after_sequence, after_byte, after_quiet, after, at_rest, heard_by, in_order}
 use Rattle.terminal_presses.specs.Presses.{parser_after, pressed}
@@ -378,7 +378,7 @@ report_ends button false alt control shift column row =
 
 report_begins : (text : List ℕ)
     → Goes at_rest (bytes (27 ∷ 91 ∷ 60 ∷ text)) (amid (numbers mark.Mouse 0 0 0 0)) (bytes text)
-unfolding heard_by after after_byte after_ground grounded after_escape after_sequence is_digit marked
+unfolding heard_by after after_byte after_ground grounded after_escape after_sequence is_digit mouse_mark
 report_begins text = (refl, refl)
 
 report_found : (report : MouseReport) (text : List ℕ) → IsReport report text → Finds (Mouse report) (bytes text)
@@ -458,14 +458,14 @@ all_found (press ∷ presses) heard is =
 
 -- ---- an escape byte that begins no other spelling
 
-preceded_is : (next : Place × Option Press)
+preceded_is : (next : SequencePlace × Option Press)
     → ((preceded Escape next).0 ≡ (alone next).0)
     × (in_order (preceded Escape next).1 ≡ Escape ∷ in_order (alone next).1)
 unfolding preceded
 preceded_is (at, None) = (refl, refl)
 preceded_is (at, Some press) = (refl, refl)
 
-abbrev standing : Place → Parser
+abbrev standing : SequencePlace → Parser
 standing at = record { place = at }
 
 pub escape_alone : (b : ℕ) (more : List Heard) → (b ≡ 91 → ⊥) → (b ≡ 79 → ⊥)

@@ -20,8 +20,8 @@ use Rattle.terminal_presses.specs.declared.press.Presses.TheVariants.{Nothing, O
 use Rattle.terminal_presses.specs.declared.place.Mark.{Mark}
 use Rattle.terminal_presses.specs.declared.place.Mark.TheVariants as mark
 use Rattle.terminal_presses.specs.declared.place.Numbers.{Numbers}
-use Rattle.terminal_presses.specs.declared.place.Place.{Place}
-use Rattle.terminal_presses.specs.declared.place.Place.TheVariants as place
+use Rattle.terminal_presses.specs.declared.place.SequencePlace.{SequencePlace}
+use Rattle.terminal_presses.specs.declared.place.SequencePlace.TheVariants as place
 use Rattle.terminal_presses.specs.declared.parser.Parser.{Parser}
 
 -- ---- bytes by themselves
@@ -40,11 +40,11 @@ single b =
     (if nat_lt b 192 then None else Some Foreign))))
 
 -- between two spellings a byte says what it says by itself, but that an escape byte may begin a longer spelling
-unfoldable pub grounded : ℕ → Place × Option Press
+unfoldable pub grounded : ℕ → SequencePlace × Option Press
 grounded b = if b == escape_byte then (place.Escape, None) else (place.Ground, single b)
 
 -- one press, and what may come after it
-unfoldable pub preceded : Press → Place × Option Press → Place × Presses
+unfoldable pub preceded : Press → SequencePlace × Option Press → SequencePlace × Presses
 preceded press (at, None) = (at, One press)
 preceded press (at, Some next) = (at, Two press next)
 
@@ -112,10 +112,10 @@ unfoldable pub with_number : Numbers → Numbers
 with_number s = record s { last = min (s.last + 1) 3 }
 
 -- the mark of mouse reports stands alone
-unfoldable pub marked : Numbers → Mark → Numbers
-marked s mark.Plain = record s { mark = mark.Mouse }
-marked s mark.Mouse = record s { mark = mark.Odd }
-marked s mark.Odd = record s { mark = mark.Odd }
+unfoldable pub mouse_mark : Numbers → Mark → Numbers
+mouse_mark s mark.Plain = record s { mark = mark.Mouse }
+mouse_mark s mark.Mouse = record s { mark = mark.Odd }
+mouse_mark s mark.Odd = record s { mark = mark.Odd }
 
 -- ---- what a whole sequence says
 
@@ -145,7 +145,7 @@ unfoldable pub plain : Numbers → ℕ → Press
 plain s b = if b == 126 then numbered s.first else (if b == 116 then sized s else lettered b)
 
 -- a sequence ends with this byte. M with no mark begins a mouse report of the older form: three bytes follow
-unfoldable pub ended : Numbers → Mark → ℕ → Place × Presses
+unfoldable pub ended : Numbers → Mark → ℕ → SequencePlace × Presses
 ended s mark.Plain b = if b == 77 then (place.Report 3, Nothing) else (place.Ground, One (plain s b))
 ended s mark.Mouse b = (place.Ground, One (moused s b))
 ended s mark.Odd b = (place.Ground, One Unknown)
@@ -153,47 +153,47 @@ ended s mark.Odd b = (place.Ground, One Unknown)
 -- ---- one byte more
 
 -- a byte that can't go on with a spelling cuts it off, and is heard anew
-unfoldable pub cut_off : ℕ → Place × Presses
+unfoldable pub cut_off : ℕ → SequencePlace × Presses
 cut_off b = preceded Unknown (grounded b)
 
-abbrev pub alone : Place × Option Press → Place × Presses
+abbrev pub alone : SequencePlace × Option Press → SequencePlace × Presses
 alone (at, None) = (at, Nothing)
 alone (at, Some press) = (at, One press)
 
-unfoldable pub after_ground : ℕ → Place × Presses
+unfoldable pub after_ground : ℕ → SequencePlace × Presses
 after_ground b = alone (grounded b)
 
 -- the escape byte was a key of its own, unless [ or O follows
-unfoldable pub after_escape : ℕ → Place × Presses
+unfoldable pub after_escape : ℕ → SequencePlace × Presses
 after_escape b =
     if b == 91 then (place.Sequence no_numbers, Nothing) else
     (if b == 79 then (place.Shift, Nothing) else preceded Escape (grounded b))
 
-unfoldable pub after_shift : ℕ → Place × Presses
+unfoldable pub after_shift : ℕ → SequencePlace × Presses
 after_shift b = if lies_within 32 126 b then (place.Ground, One (lettered b)) else cut_off b
 
-unfoldable pub after_console : ℕ → Place × Presses
+unfoldable pub after_console : ℕ → SequencePlace × Presses
 after_console b =
     if lies_within 65 69 b then (place.Ground, One (function_at (b - 65))) else
     (if lies_within 32 126 b then (place.Ground, One Unknown) else cut_off b)
 
-unfoldable pub after_report : ℕ → ℕ → Place × Presses
+unfoldable pub after_report : ℕ → ℕ → SequencePlace × Presses
 after_report missing b =
     if nat_lt b 32 then cut_off b else
     (if nat_le missing 1 then (place.Ground, One Unknown) else (place.Report (missing - 1), Nothing))
 
 -- digits, ; between numbers, < in front of a mouse report; from @ to ~ a byte ends a sequence, but [ leads to a
 -- spelling of another kind
-unfoldable pub after_sequence : Numbers → ℕ → Place × Presses
+unfoldable pub after_sequence : Numbers → ℕ → SequencePlace × Presses
 after_sequence s b =
     if is_digit b then (place.Sequence (with_digit s (b - 48)), Nothing) else
     (if b == 59 then (place.Sequence (with_number s), Nothing) else
-    (if b == 60 then (place.Sequence (marked s s.mark), Nothing) else
+    (if b == 60 then (place.Sequence (mouse_mark s s.mark), Nothing) else
     (if b == 91 then (place.Console, Nothing) else
     (if lies_within 64 126 b then ended s s.mark b else
     (if lies_within 32 63 b then (place.Sequence (record s { mark = mark.Odd }), Nothing) else cut_off b)))))
 
-unfoldable pub after_byte : Place → ℕ → Place × Presses
+unfoldable pub after_byte : SequencePlace → ℕ → SequencePlace × Presses
 after_byte place.Ground b = after_ground b
 after_byte place.Escape b = after_escape b
 after_byte place.Shift b = after_shift b
@@ -202,7 +202,7 @@ after_byte place.Console b = after_console b
 after_byte (place.Report missing) b = after_report missing b
 
 -- an escape byte after which no byte comes for a while was the key; all else waits for its next byte
-unfoldable pub after_quiet : Place → Place × Presses
+unfoldable pub after_quiet : SequencePlace → SequencePlace × Presses
 after_quiet place.Escape = (place.Ground, One Escape)
 after_quiet place.Ground = (place.Ground, Nothing)
 after_quiet place.Shift = (place.Shift, Nothing)
@@ -210,7 +210,7 @@ after_quiet (place.Sequence s) = (place.Sequence s, Nothing)
 after_quiet place.Console = (place.Console, Nothing)
 after_quiet (place.Report missing) = (place.Report missing, Nothing)
 
-unfoldable pub after : Place → Heard → Place × Presses
+unfoldable pub after : SequencePlace → Heard → SequencePlace × Presses
 after at (Byte b) = after_byte at b
 after at Quiet = after_quiet at
 

@@ -4,7 +4,7 @@ ghost use Rattle.terminal_presses.specs.Presses.{grounded, preceded, cut_off, af
 ghost use Rattle.terminal_presses.specs.Presses.{after_console, after_report, after_sequence, after_byte, after_quiet};
 ghost use Rattle.terminal_presses.specs.Presses.{at_rest, heard_by};
 
-use crate::place::{Mark, Numbers, Place};
+use crate::place::{Mark, Numbers, SequencePlace};
 use crate::press::{Heard, Press, Presses};
 use crate::sequence::{function, lettered};
 use crate::single::ESCAPE;
@@ -13,7 +13,7 @@ use event_bytes::is_digit;
 /// What was heard of a terminal so far, as far as later presses depend on it.
 #[derive(Clone, Copy)]
 pub struct Parser {
-    place: Place,
+    place: SequencePlace,
 }
 
 impl Parser {
@@ -22,7 +22,7 @@ impl Parser {
         ensures { result ≡ at_rest }
     {
         Parser {
-            place: Place::Ground,
+            place: SequencePlace::Ground,
         }
     }
 
@@ -43,45 +43,45 @@ impl Parser {
 
 /// Where one stands after a byte more, and what it completes.
 #[tactic(auto, unfolding(crate::specs::Presses::after_byte))]
-fn after_byte(place: Place, byte: u8) -> (Place, Presses)
+fn after_byte(place: SequencePlace, byte: u8) -> (SequencePlace, Presses)
     ensures { result ≡ after_byte place byte }
 {
     match place {
-        Place::Ground => after_ground(byte),
-        Place::Escape => after_escape(byte),
-        Place::Shift => after_shift(byte),
-        Place::Sequence(numbers) => after_sequence(numbers, byte),
-        Place::Console => after_console(byte),
-        Place::Report(missing) => after_report(missing, byte),
+        SequencePlace::Ground => after_ground(byte),
+        SequencePlace::Escape => after_escape(byte),
+        SequencePlace::Shift => after_shift(byte),
+        SequencePlace::Sequence(numbers) => after_sequence(numbers, byte),
+        SequencePlace::Console => after_console(byte),
+        SequencePlace::Report(missing) => after_report(missing, byte),
     }
 }
 
 /// Where one stands after a quiet while: an escape byte was the key, and all else waits for its next byte.
 #[tactic(auto, unfolding(crate::specs::Presses::after_quiet))]
-fn after_quiet(place: Place) -> (Place, Presses)
+fn after_quiet(place: SequencePlace) -> (SequencePlace, Presses)
     ensures { result ≡ after_quiet place }
 {
     match place {
-        Place::Escape => (Place::Ground, Presses::One(Press::Escape)),
+        SequencePlace::Escape => (SequencePlace::Ground, Presses::One(Press::Escape)),
         waiting => (waiting, Presses::Nothing),
     }
 }
 
 /// What a byte says between two spellings.
 #[tactic(auto, unfolding(crate::specs::Presses::grounded))]
-fn grounded(byte: u8) -> (Place, Option<Press>)
+fn grounded(byte: u8) -> (SequencePlace, Option<Press>)
     ensures { result ≡ grounded byte }
 {
     if byte == ESCAPE {
-        (Place::Escape, None)
+        (SequencePlace::Escape, None)
     } else {
-        (Place::Ground, Press::of_byte(byte))
+        (SequencePlace::Ground, Press::of_byte(byte))
     }
 }
 
 /// One press, and what may come after it.
 #[tactic(auto, unfolding(crate::specs::Presses::preceded))]
-fn preceded(press: Press, next: (Place, Option<Press>)) -> (Place, Presses)
+fn preceded(press: Press, next: (SequencePlace, Option<Press>)) -> (SequencePlace, Presses)
     ensures { result ≡ preceded press next }
 {
     match next {
@@ -92,14 +92,14 @@ fn preceded(press: Press, next: (Place, Option<Press>)) -> (Place, Presses)
 
 /// The byte can't go on with the spelling that it stands in, and is heard anew.
 #[tactic(auto, unfolding(crate::specs::Presses::cut_off))]
-fn cut_off(byte: u8) -> (Place, Presses)
+fn cut_off(byte: u8) -> (SequencePlace, Presses)
     ensures { result ≡ cut_off byte }
 {
     preceded(Press::Unknown, grounded(byte))
 }
 
 #[tactic(auto, unfolding(crate::specs::Presses::after_ground))]
-fn after_ground(byte: u8) -> (Place, Presses)
+fn after_ground(byte: u8) -> (SequencePlace, Presses)
     ensures { result ≡ after_ground byte }
 {
     match grounded(byte) {
@@ -109,70 +109,73 @@ fn after_ground(byte: u8) -> (Place, Presses)
 }
 
 #[tactic(auto, unfolding(crate::specs::Presses::after_escape))]
-fn after_escape(byte: u8) -> (Place, Presses)
+fn after_escape(byte: u8) -> (SequencePlace, Presses)
     ensures { result ≡ after_escape byte }
 {
     if byte == b'[' {
-        (Place::Sequence(Numbers::none()), Presses::Nothing)
+        (SequencePlace::Sequence(Numbers::none()), Presses::Nothing)
     } else if byte == b'O' {
-        (Place::Shift, Presses::Nothing)
+        (SequencePlace::Shift, Presses::Nothing)
     } else {
         preceded(Press::Escape, grounded(byte))
     }
 }
 
 #[tactic(auto, unfolding(crate::specs::Presses::after_shift))]
-fn after_shift(byte: u8) -> (Place, Presses)
+fn after_shift(byte: u8) -> (SequencePlace, Presses)
     ensures { result ≡ after_shift byte }
 {
     if 32 <= byte && byte <= 126 {
-        (Place::Ground, Presses::One(lettered(byte)))
+        (SequencePlace::Ground, Presses::One(lettered(byte)))
     } else {
         cut_off(byte)
     }
 }
 
 #[tactic(auto, unfolding(crate::specs::Presses::after_console))]
-fn after_console(byte: u8) -> (Place, Presses)
+fn after_console(byte: u8) -> (SequencePlace, Presses)
     ensures { result ≡ after_console byte }
 {
     if b'A' <= byte && byte <= b'E' {
-        (Place::Ground, Presses::One(function(byte - b'A')))
+        (SequencePlace::Ground, Presses::One(function(byte - b'A')))
     } else if 32 <= byte && byte <= 126 {
-        (Place::Ground, Presses::One(Press::Unknown))
+        (SequencePlace::Ground, Presses::One(Press::Unknown))
     } else {
         cut_off(byte)
     }
 }
 
 #[tactic(auto, unfolding(crate::specs::Presses::after_report))]
-fn after_report(missing: u8, byte: u8) -> (Place, Presses)
+fn after_report(missing: u8, byte: u8) -> (SequencePlace, Presses)
     ensures { result ≡ after_report missing byte }
 {
     if byte < 32 {
         cut_off(byte)
     } else if missing <= 1 {
-        (Place::Ground, Presses::One(Press::Unknown))
+        (SequencePlace::Ground, Presses::One(Press::Unknown))
     } else {
-        (Place::Report(missing - 1), Presses::Nothing)
+        (SequencePlace::Report(missing - 1), Presses::Nothing)
     }
 }
 
 #[tactic(auto, unfolding(crate::specs::Presses::after_sequence, event_bytes::specs::Bytes::is_digit))]
-fn after_sequence(numbers: Numbers, byte: u8) -> (Place, Presses)
+fn after_sequence(numbers: Numbers, byte: u8) -> (SequencePlace, Presses)
     ensures { result ≡ after_sequence numbers byte }
 {
     if is_digit(byte) {
         (
-            Place::Sequence(numbers.with_digit(byte - b'0')),
+            SequencePlace::Sequence(numbers.with_digit(byte - b'0')),
             Presses::Nothing,
         )
     } else if byte == b';' {
-        (Place::Sequence(numbers.with_number()), Presses::Nothing)
+        (
+            SequencePlace::Sequence(numbers.with_number()),
+            Presses::Nothing,
+        )
     } else if byte == b'<' {
-        (Place::Sequence(numbers.marked()), Presses::Nothing)
+        (SequencePlace::Sequence(numbers.marked()), Presses::Nothing)
     } else if byte == b'[' {
-        (Place::Console, Presses::Nothing)
+        (SequencePlace::Console, Presses::Nothing)
     } else if 64 <= byte && byte <= 126 {
         numbers.ended(byte)
     } else if 32 <= byte && byte <= 63 {
@@ -180,7 +183,7 @@ fn after_sequence(numbers: Numbers, byte: u8) -> (Place, Presses)
             mark: Mark::Odd,
             ..numbers
         };
-        (Place::Sequence(odd), Presses::Nothing)
+        (SequencePlace::Sequence(odd), Presses::Nothing)
     } else {
         cut_off(byte)
     }

@@ -23,7 +23,7 @@ pub(crate) struct Numbers {
 
 /// Where in the spelling of a press one stands.
 #[derive(Clone, Copy)]
-pub(crate) enum Place {
+pub(crate) enum SequencePlace {
     /// Between two spellings.
     Ground,
     /// After an escape byte.

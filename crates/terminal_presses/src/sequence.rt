@@ -2,10 +2,10 @@
 ghost use Rattle.std.specs.Prelude.{◌≡◌, ◌<◌};
 ghost use Rattle.terminal_presses.specs.Presses.{function_at, arrow_at, lettered as letter_says};
 ghost use Rattle.terminal_presses.specs.Presses.{numbered as number_says, longer as longer_number, no_numbers};
-ghost use Rattle.terminal_presses.specs.Presses.{with_digit, with_number, marked, reported, moused, sized, plain};
+ghost use Rattle.terminal_presses.specs.Presses.{with_digit, with_number, mouse_mark, reported, moused, sized, plain};
 ghost use Rattle.terminal_presses.specs.Presses.{ended};
 
-use crate::place::{Mark, Numbers, Place};
+use crate::place::{Mark, Numbers, SequencePlace};
 use crate::press::{Arrow, Button, FunctionKey, MouseReport, Page, Press, Presses};
 
 /// The function key at a place, counted from 0.
@@ -130,9 +130,9 @@ impl Numbers {
     }
 
     /// The mark of mouse reports stands in front.
-    #[tactic(auto, unfolding(crate::specs::Presses::marked))]
+    #[tactic(auto, unfolding(crate::specs::Presses::mouse_mark))]
     pub fn marked(self) -> Numbers
-        ensures { result ≡ marked self self.mark }
+        ensures { result ≡ mouse_mark self self.mark }
     {
         let mark = match self.mark {
             Mark::Plain => Mark::Mouse,
@@ -143,19 +143,19 @@ impl Numbers {
 
     /// What a sequence of these numbers says that ends with this byte.
     #[tactic(auto, unfolding(crate::specs::Presses::ended))]
-    pub fn ended(self, last: u8) -> (Place, Presses)
+    pub fn ended(self, last: u8) -> (SequencePlace, Presses)
         ensures { result ≡ ended self self.mark last }
     {
         match self.mark {
             Mark::Plain => {
                 if last == b'M' {
-                    (Place::Report(3), Presses::Nothing)
+                    (SequencePlace::Report(3), Presses::Nothing)
                 } else {
-                    (Place::Ground, Presses::One(self.plain(last)))
+                    (SequencePlace::Ground, Presses::One(self.plain(last)))
                 }
             }
-            Mark::Mouse => (Place::Ground, Presses::One(self.moused(last))),
-            Mark::Odd => (Place::Ground, Presses::One(Press::Unknown)),
+            Mark::Mouse => (SequencePlace::Ground, Presses::One(self.moused(last))),
+            Mark::Odd => (SequencePlace::Ground, Presses::One(Press::Unknown)),
         }
     }
 

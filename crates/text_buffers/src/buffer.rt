@@ -57,8 +57,7 @@ impl Buffer {
         self.ring.cursor(pos)
     }
 
-    /// Adds its characters to another buffer, at the end, and keeps them. If memory is refused the
-    /// other buffer stays.
+    /// Adds its characters to another buffer, at the end, and keeps them. If memory is refused the other buffer stays.
     pub fn copy_to(&self, alloc: Global, other: &mut Buffer) -> Result<(), NoMemory>
         requires fits { length (flat other.old) + length (flat self.now) < 2 ^ 32 }
         ensures added { OnOk result (flat other.new ≡ flat other.old ++ flat self.now) }
@@ -85,8 +84,8 @@ impl Buffer {
         self.ring.add(alloc, piece)
     }
 
-    /// Puts a piece at the end as it is, also where it could be one with the piece before it. If
-    /// memory is refused the pieces stay.
+    /// Puts a piece at the end as it is, also where it could be one with the piece before it. If memory is refused the
+    /// pieces stay.
     pub fn push(&mut self, alloc: Global, piece: Piece) -> Result<(), NoMemory>
         requires whole { IsWhole piece }
         requires fits { length (flat self.old) + piece.len < 2 ^ 32 }
@@ -107,16 +106,16 @@ impl Buffer {
         Ok(replace(&mut self.ring, none))
     }
 
-    /// For layers that own rings: has exactly the ring's characters from now on, whatever it had
-    /// before. It takes no memory.
+    /// For layers that own rings: has exactly the ring's characters from now on, whatever it had before. It takes no
+    /// memory.
     pub fn replace(&mut self, ring: Ring)
         ensures { flat self.new ≡ flat ring.pieces }
     {
         self.ring = ring;
     }
 
-    /// For layers that own rings: adds the ring's characters at the end. If memory is refused the
-    /// buffer stays, and the ring is gone.
+    /// For layers that own rings: adds the ring's characters at the end. If memory is refused the buffer stays, and the
+    /// ring is gone.
     pub fn append(&mut self, alloc: Global, ring: Ring) -> Result<(), NoMemory>
         requires fits { length (flat self.old) + length (flat ring.pieces) < 2 ^ 32 }
         ensures added { OnOk result (flat self.new ≡ flat self.old ++ flat ring.pieces) }

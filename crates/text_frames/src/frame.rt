@@ -4,7 +4,7 @@ ghost use Rattle.std.specs.Prelude.{IfOk, IfSome, OnOk, OnErr, if◌then◌else�
 ghost use Rattle.readers_scanners.specs.Words.{CountsFault, OnlyReads, flat, AreWithin, bytes};
 ghost use Rattle.text_frames.specs.Cells.{IsPositionAt, IsCellOf};
 ghost use Rattle.text_frames.specs.Row.{IsRow};
-ghost use Rattle.text_frames.specs.Rules.{moved, changed_org, is_shown, IsFollowed, IsBrought};
+ghost use Rattle.text_frames.specs.Rules.{moved, changed_org, is_in_rows, IsFollowed, IsBrought};
 
 use crate::lines::{ends_between, line_above, line_start};
 use crate::place::{self, cell_in, column_below};
@@ -13,7 +13,7 @@ use crate::{CharSource, Fault, Text};
 
 /// The characters from `beg` up to before `end`, with the rank of the selection among all.
 #[derive(Clone, Copy, Debug, PartialEq, Eq)]
-pub struct Selection {
+pub struct FrameSelection {
     /// The position of the first character.
     pub beg: u32,
     /// The position after the last one.
@@ -32,7 +32,7 @@ pub struct Frame {
     /// The position before which the caret stands.
     pub caret: Option<u32>,
     /// The characters selected.
-    pub selection: Option<Selection>,
+    pub selection: Option<FrameSelection>,
 }
 
 impl Frame {
@@ -48,7 +48,7 @@ impl Frame {
         requires { beg < end }
         ensures { self.new ≡ record self.old { selection = Some (record { beg = beg; end = end; rank = rank }) } }
     {
-        self.selection = Some(Selection { beg, end, rank });
+        self.selection = Some(FrameSelection { beg, end, rank });
     }
 
     /// Shows the text from `org` on.
@@ -123,8 +123,7 @@ impl Frame {
     /// The filled cells of the row `row`, counted from 0, in a frame of `h` rows of `w` columns: from the left one on,
     /// at most `w`, the byte, the look and the position of the character in each. A tabulator stands in each of its
     /// cells, a carriage return in none. The text is read from `org` to the end of that row at most. `Fault`: the
-    /// source
-    /// failed in this call.
+    /// source failed in this call.
     pub fn line<S: CharSource>(
         &self,
         text: &Text,
@@ -262,7 +261,7 @@ fn is_shown<S: CharSource>(
     requires place { p ≤ length (flat text.now) }
     requires offsets { AreWithin (length (S.characters source.old)) (flat text.now) }
     ensures exact { IfOk result (λ seen. S.honest source.old
-        → seen ≡ is_shown (bytes (S.characters source.old) (flat text.now)) h org p) }
+        → seen ≡ is_in_rows (bytes (S.characters source.old) (flat text.now)) h org p) }
     ensures reads { OnlyReads S.characters S.failures S.honest S.same_ground source.old source.new }
     ensures cause { CountsFault result (S.failures source.old) (S.failures source.new) }
 {

@@ -4,7 +4,7 @@ ghost use Rattle.readers_scanners.specs.Words.{CountsFault, OnlyReads, flat, Are
 ghost use Rattle.text_frames.specs.Row.{IsRow};
 ghost use Rattle.text_frames.specs.Rows.{AreRows};
 
-use crate::place::Place;
+use crate::place::RowPlace;
 use crate::row::{RowCells, cells_of_row, rest_of_row};
 use crate::{CharSource, Fault, Frame, Text};
 use readers_scanners::Reader;
@@ -15,7 +15,7 @@ use readers_scanners::Reader;
 pub struct FrameRows<'a> {
     reader: Reader<'a>,
     /// The row and the column of the character before which the reader stands.
-    place: Place,
+    place: RowPlace,
     /// No character that was passed is in this row or in one below it.
     next: u8,
 }
@@ -28,7 +28,7 @@ impl Frame {
     {
         FrameRows {
             reader: Reader::open(text, self.org),
-            place: Place { row: 0, column: 0 },
+            place: RowPlace { row: 0, column: 0 },
             next: 0,
         }
     }

@@ -11,7 +11,7 @@ use Rattle.std.proofs.lemmas.Grind.{common_steps}
 use Rattle.viewer_tracks.specs.declared.viewer_id.ViewerId.{ViewerId}
 use Rattle.viewer_tracks.specs.declared.edges.Edge.{Edge}
 use Rattle.viewer_tracks.specs.declared.display.TheConstants.{ROWS}
-use Rattle.viewer_tracks.specs.Viewers.{bottom_of, viewer_of}
+use Rattle.viewer_tracks.specs.Viewers.{bottom_of, entry_viewer}
 use Rattle.viewer_tracks.specs.Edits.{with_entry, with_height, with_viewer, open_entry, open_top, takes_place, put_into}
 use Rattle.viewer_tracks.specs.Edits.{opened, replaced}
 use Rattle.viewer_tracks.specs.Edges.{entries_from, Rises}
@@ -93,7 +93,7 @@ opening es y i top rising lowest raised =
     }
 
 pub viewer_of-entries_from : (b : ℕ) (es : List Edge) (i : ℕ) (d : Edge) → i < length es
-    → viewer_of (entries_from b es) i ≡ Some (get_or es i d).viewer.0
+    → entry_viewer (entries_from b es) i ≡ Some (get_or es i d).viewer.0
 viewer_of-entries_from b [] i d within = absurd (omega arith)
 viewer_of-entries_from b (e ∷ es) zero d within = refl
 viewer_of-entries_from b (e ∷ es) (suc i) d within = viewer_of-entries_from e.top es i d (omega arith)
@@ -128,8 +128,8 @@ opened-taking es y i top v d o within same =
           ∙ sym (ap (λ b. cond b (with_entry (with_viewer v.0) t i) lower) yes)
           ∙ (λ k. put_into t v.0 (o.entry k) (o.raised k)),
       sym (viewer_of-entries_from 0 es i d within)
-          ∙ sym (ap (λ b. cond b (viewer_of t i) None) yes)
-          ∙ (λ k. cond (takes_place t (o.entry k) (o.raised k)) (viewer_of t (o.entry k)) None),
+          ∙ sym (ap (λ b. cond b (entry_viewer t i) None) yes)
+          ∙ (λ k. cond (takes_place t (o.entry k) (o.raised k)) (entry_viewer t (o.entry k)) None),
     )
 
 -- v takes the lower rows of the entry at edge i
@@ -147,8 +147,8 @@ opened-inserting es y i top v d o other =
           ∙ sym (ap (λ b. cond b (with_entry (with_viewer v.0) t i)
           (insert (with_entry (λ e. with_height (e.height - h) e) t i) i (record { viewer = v.0; height = h }))) no)
           ∙ (λ k. put_into t v.0 (o.entry k) (o.raised k)),
-      sym (ap (λ b. cond b (viewer_of t i) None) no)
-          ∙ (λ k. cond (takes_place t (o.entry k) (o.raised k)) (viewer_of t (o.entry k)) None),
+      sym (ap (λ b. cond b (entry_viewer t i) None) no)
+          ∙ (λ k. cond (takes_place t (o.entry k) (o.raised k)) (entry_viewer t (o.entry k)) None),
     )
 
 -- the edges still rise, and there was room for one more
@@ -162,7 +162,7 @@ opening-Rises es y i top v d o other =
     let longer = length-insert es i (record { viewer = v; top = top }) o.within in
     (rising, omega arith)
 
-pub viewer_of-past : (b : ℕ) (es : List Edge) (i : ℕ) → length es ≤ i → viewer_of (entries_from b es) i ≡ None
+pub viewer_of-past : (b : ℕ) (es : List Edge) (i : ℕ) → length es ≤ i → entry_viewer (entries_from b es) i ≡ None
 viewer_of-past b [] i past = refl
 viewer_of-past b (e ∷ es) zero past = absurd (omega arith)
 viewer_of-past b (e ∷ es) (suc i) past = viewer_of-past e.top es i (omega arith)

@@ -10,8 +10,8 @@ use Rattle.viewer_tracks.specs.declared.edges.Edge.{Edge}
 use Rattle.viewer_tracks.specs.declared.display.Track.{Track}
 use Rattle.viewer_tracks.specs.declared.display.Track.TheVariants.{User, System}
 use Rattle.viewer_tracks.specs.Display.{track_at}
-use Rattle.viewer_tracks.specs.Viewers.{Entry, IsTrack, bottom_of, top_of, lowest_reaching, viewer_of, viewer_at}
-use Rattle.viewer_tracks.specs.Viewers.{times_in, entry_of, number_of}
+use Rattle.viewer_tracks.specs.Viewers.{Entry, IsTrack, bottom_of, top_of, lowest_reaching, entry_viewer, viewer_at}
+use Rattle.viewer_tracks.specs.Viewers.{times_in, entry_of, id_number}
 use Rattle.viewer_tracks.specs.Edits.{with_entry, with_height, with_viewer, open_entry, open_top, takes_place, opened}
 use Rattle.viewer_tracks.specs.Edits.{replaced, closed}
 use Rattle.viewer_tracks.specs.Columns.{Columns, IsColumns, IsPlaced, times_placed, times_meant, shown, StandsAt}
@@ -35,7 +35,7 @@ length-with_entry f (e ∷ t) zero = refl
 length-with_entry f (e ∷ t) (suc i) = ap suc (length-with_entry f t i)
 
 viewer_of-with_height : (h : Entry → ℕ) (t : List Entry) (i j : ℕ)
-    → viewer_of (with_entry (λ e. with_height (h e) e) t j) i ≡ viewer_of t i
+    → entry_viewer (with_entry (λ e. with_height (h e) e) t j) i ≡ entry_viewer t i
 viewer_of-with_height h [] i j = refl
 viewer_of-with_height h (e ∷ t) zero zero = refl
 viewer_of-with_height h (e ∷ t) zero (suc j) = refl
@@ -43,7 +43,7 @@ viewer_of-with_height h (e ∷ t) (suc i) zero = refl
 viewer_of-with_height h (e ∷ t) (suc i) (suc j) = viewer_of-with_height h t i j
 
 renamed : (v w : ℕ) (t : List Entry) (i : ℕ) → i < length t
-    → times_in w (with_entry (with_viewer v) t i) + times_meant w (viewer_of t i) ≡ times_in w t + times_meant w
+    → times_in w (with_entry (with_viewer v) t i) + times_meant w (entry_viewer t i) ≡ times_in w t + times_meant w
     (Some v)
 renamed v w [] i within = absurd (omega arith)
 renamed v w (e ∷ t) zero within =
@@ -56,7 +56,7 @@ renamed v w (e ∷ t) (suc i) within =
     let rest = renamed v w t i (omega arith) in
     omega arith
 
-taken_out : (w : ℕ) (t : List Entry) (i : ℕ) → i < length t → times_in w (remove t i) + times_meant w (viewer_of t i)
+taken_out : (w : ℕ) (t : List Entry) (i : ℕ) → i < length t → times_in w (remove t i) + times_meant w (entry_viewer t i)
     ≡ times_in w t
 taken_out w [] i within = absurd (omega arith)
 taken_out w (e ∷ t) zero within = let before = times_in-cons w e t in omega arith
@@ -82,7 +82,7 @@ opened_counts v w t y true whole =
     let named = with_entry (with_viewer v) t i in
     let lower = insert (with_entry (λ e. with_height (e.height - h) e) t i) i (record { viewer = v; height = h }) in
     let track : opened t v y ≡ named = ap (λ b. cond b named lower) whole in
-    let gone : replaced t y ≡ viewer_of t i = ap (λ b. cond b (viewer_of t i) None) whole in
+    let gone : replaced t y ≡ entry_viewer t i = ap (λ b. cond b (entry_viewer t i) None) whole in
     omega (
       arith,
       ap (times_in w) track,
@@ -96,7 +96,7 @@ opened_counts v w t y false part =
     let divided = with_entry (λ e. with_height (e.height - h) e) t i in
     let lower = insert divided i (record { viewer = v; height = h }) in
     let track : opened t v y ≡ lower = ap (λ b. cond b named lower) part in
-    let gone : replaced t y ≡ None = ap (λ b. cond b (viewer_of t i) None) part in
+    let gone : replaced t y ≡ None = ap (λ b. cond b (entry_viewer t i) None) part in
     omega (
       arith,
       ap (times_in w) track,
@@ -106,7 +106,7 @@ opened_counts v w t y false part =
     )
 
 closed_counts : (w : ℕ) (t : List Entry) (i : ℕ) → i < length t
-    → times_in w (closed t i) + times_meant w (viewer_of t i) ≡ times_in w t
+    → times_in w (closed t i) + times_meant w (entry_viewer t i) ≡ times_in w t
 unfolding closed
 closed_counts w t i within =
     let h = top_of t i - bottom_of t i in
@@ -120,19 +120,20 @@ closed_counts w t i within =
 
 -- a viewer stands at its entry
 found_first : (x : Entry) (t : List Entry) (v n : ℕ) (b : Bool) → (x.viewer == v) ≡ b
-    → (b ≡ false → viewer_of t n ≡ Some v)
-    → viewer_of (x ∷ t) (cond (not b) (1 + n) 0) ≡ Some v
+    → (b ≡ false → entry_viewer t n ≡ Some v)
+    → entry_viewer (x ∷ t) (cond (not b) (1 + n) 0) ≡ Some v
 found_first x t v n true same rest = ap (λ (k : ℕ). Some k) (eqb-true x.viewer v same)
-found_first x t v n false other rest = let next : 1 + n ≡ suc n = omega arith in ap (viewer_of (x ∷ t)) next ∙ rest refl
+found_first x t v n false other rest = let next : 1 + n ≡ suc n = omega arith in ap (entry_viewer (x ∷ t)) next
+    ∙ rest refl
 
-at_its_entry : (v : ℕ) (t : List Entry) → 0 < times_in v t → viewer_of t (entry_of t v) ≡ Some v
+at_its_entry : (v : ℕ) (t : List Entry) → 0 < times_in v t → entry_viewer t (entry_of t v) ≡ Some v
 at_its_entry v [] some = absurd (omega arith)
 at_its_entry v (e ∷ t) some =
     found_first e t v (entry_of t v) (e.viewer == v) refl
     (λ other. at_its_entry v t (omega (arith, times_in-cons v e t, ap {B = ℕ} (λ b. cond b 1 0) other)))
 
 -- a viewer that an entry has stands in the track, and if it does so once then at that entry
-there : (v : ℕ) (t : List Entry) (i : ℕ) → viewer_of t i ≡ Some v → 0 < times_in v t
+there : (v : ℕ) (t : List Entry) (i : ℕ) → entry_viewer t i ≡ Some v → 0 < times_in v t
 there v [] i is = absurd (cc)
 there v (e ∷ t) zero is =
     let same : e.viewer ≡ v = cc in
@@ -143,7 +144,7 @@ first_case : (b : Bool) (n i c : ℕ) → cond b 1 0 + c ≤ 1 → 0 < c → n �
 first_case true n i c once some is = absurd (omega arith)
 first_case false n i c once some is = omega arith
 
-only_there : (v : ℕ) (t : List Entry) (i : ℕ) → times_in v t ≤ 1 → viewer_of t i ≡ Some v → entry_of t v ≡ i
+only_there : (v : ℕ) (t : List Entry) (i : ℕ) → times_in v t ≤ 1 → entry_viewer t i ≡ Some v → entry_of t v ≡ i
 only_there v [] i once is = absurd (cc)
 only_there v (e ∷ t) zero once is =
     let same : e.viewer ≡ v = cc in
@@ -155,7 +156,7 @@ only_there v (e ∷ t) (suc i) once is =
 
 -- the entry that is seen at a row has that row
 seen_edges : (v r : ℕ) (es : List Edge) → Rises 0 es
-    → viewer_of (entries_from 0 es) (lowest_reaching (entries_from 0 es) (r + 1)) ≡ Some v
+    → entry_viewer (entries_from 0 es) (lowest_reaching (entries_from 0 es) (r + 1)) ≡ Some v
     → (bottom_of (entries_from 0 es) (lowest_reaching (entries_from 0 es) (r + 1)) ≤ r)
     × (r < top_of (entries_from 0 es) (lowest_reaching (entries_from 0 es) (r + 1)))
 seen_edges v r es rising is =
@@ -183,7 +184,7 @@ unfolding viewer_at
 seen_in t v r track is =
     let i = lowest_reaching t (r + 1) in
     let rows = for_tracks
-    (λ t. viewer_of t (lowest_reaching t (r + 1)) ≡ Some v
+    (λ t. entry_viewer t (lowest_reaching t (r + 1)) ≡ Some v
     → (bottom_of t (lowest_reaching t (r + 1)) ≤ r) × (r < top_of t (lowest_reaching t (r + 1))))
     (seen_edges v r) t track is in
     record {
@@ -305,14 +306,14 @@ seen_placed c v x y =
 -- for `at`, whose result is the viewer that is seen in the track k
 pub seen_stands : (u s : List Entry) (k : Track) (c : Columns) (found : Option ViewerId) (x y : ℕ)
     → IsColumns (columns u s) → columns u s ≡ c
-    → k ≡ track_at x → number_of found ≡ viewer_at (shown (columns u s) k) y → IfSome found (λ v. StandsAt c v.0 x y)
+    → k ≡ track_at x → id_number found ≡ viewer_at (shown (columns u s) k) y → IfSome found (λ v. StandsAt c v.0 x y)
 seen_stands u s k c None x y sound whole at is = tt
 seen_stands u s k c (Some v) x y sound whole at is =
     subst (λ (d : Columns). StandsAt d v.0 x y) whole
     (seen_placed (columns u s) v.0 x y sound (sym (is ∙ ap (λ (k : Track). viewer_at (shown (columns u s) k) y) at)))
 
 -- for `viewer_in`: a viewer that has a place in a track is placed
-counted_at : (v : ℕ) (t : List Entry) (i : ℕ) → Some v ≡ viewer_of t i → 0 < times_in v t
+counted_at : (v : ℕ) (t : List Entry) (i : ℕ) → Some v ≡ entry_viewer t i → 0 < times_in v t
 counted_at v [] i is = absurd cc
 counted_at v (e ∷ t) zero is =
     let same : e.viewer ≡ v = cc in
@@ -321,7 +322,7 @@ counted_at v (e ∷ t) zero is =
 counted_at v (e ∷ t) (suc i) is = omega (arith, counted_at v t i is, times_in-cons v e t)
 
 pub nth_placed : (u s : List Entry) (k : Track) (c : Columns) (found : Option ViewerId) (i : ℕ) → columns u s ≡ c
-    → number_of found ≡ viewer_of (shown (columns u s) k) i → IfSome found (λ v. IsPlaced v.0 c)
+    → id_number found ≡ entry_viewer (shown (columns u s) k) i → IfSome found (λ v. IsPlaced v.0 c)
 nth_placed u s k c None i whole is = tt
 nth_placed u s User c (Some v) i whole is =
     let some = counted_at v.0 u i is in

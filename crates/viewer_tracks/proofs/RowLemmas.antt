@@ -8,7 +8,7 @@ use Rattle.std.proofs.lemmas.List.{take-append-drop, set_split, drop_all, drop_m
 use Rattle.std.proofs.lemmas.Bool.{le-leb, lt-leb, le-ltb, cases_lt}
 use Rattle.viewer_tracks.specs.declared.edges.Edge.{Edge}
 use Rattle.viewer_tracks.specs.declared.display.TheConstants.{ROWS}
-use Rattle.viewer_tracks.specs.Viewers.{Entry, IsTrack, bottom_of, top_of, viewer_of, viewer_at}
+use Rattle.viewer_tracks.specs.Viewers.{Entry, IsTrack, bottom_of, top_of, entry_viewer, viewer_at}
 use Rattle.viewer_tracks.specs.Edits.{open_entry, open_top, takes_place, opened, change_top, changed, closed}
 use Rattle.viewer_tracks.specs.Edges.{entries_from, Rises}
 use Rattle.viewer_tracks.specs.Rows.{OpensRows, ChangesRows, ClosesRows}
@@ -30,13 +30,13 @@ here e es r less = ap (λ b. cond b (Some e.viewer.0) (first_over es r)) (le-leb
 skipped : (e : Edge) (es : List Edge) (r : ℕ) → e.top ≤ r → first_over (e ∷ es) r ≡ first_over es r
 skipped e es r past = ap (λ b. cond b (Some e.viewer.0) (first_over es r)) (lt-leb _ _ (omega arith))
 
-found_case : (x : Entry) (t : List Entry) (b : Bool) (n : ℕ) (rest : Option ℕ) → viewer_of t n ≡ rest
-    → viewer_of (x ∷ t) (cond (not b) (1 + n) 0) ≡ cond b (Some x.viewer) rest
+found_case : (x : Entry) (t : List Entry) (b : Bool) (n : ℕ) (rest : Option ℕ) → entry_viewer t n ≡ rest
+    → entry_viewer (x ∷ t) (cond (not b) (1 + n) 0) ≡ cond b (Some x.viewer) rest
 found_case x t true n rest is = refl
-found_case x t false n rest is = let next : 1 + n ≡ suc n = omega arith in ap (viewer_of (x ∷ t)) next ∙ is
+found_case x t false n rest is = let next : 1 + n ≡ suc n = omega arith in ap (entry_viewer (x ∷ t)) next ∙ is
 
 found : (b : ℕ) (es : List Edge) (r : ℕ)
-    → viewer_of (entries_from b es) (position_or_len (λ e. nat_le (r + 1) e.top) es) ≡ first_over es r
+    → entry_viewer (entries_from b es) (position_or_len (λ e. nat_le (r + 1) e.top) es) ≡ first_over es r
 found b [] r = refl
 found b (e ∷ es) r =
     found_case (record { viewer = e.viewer.0; height = e.top - b }) (entries_from e.top es) (nat_le (r + 1) e.top)
@@ -45,7 +45,7 @@ found b (e ∷ es) r =
 pub viewer_at-first_over : (es : List Edge) (r : ℕ) → Rises 0 es → viewer_at (entries_from 0 es) r ≡ first_over es r
 unfolding viewer_at
 viewer_at-first_over es r rising =
-    ap (viewer_of (entries_from 0 es)) (lowest_reaching-entries_from es (r + 1) rising) ∙ found 0 es r
+    ap (entry_viewer (entries_from 0 es)) (lowest_reaching-entries_from es (r + 1) rising) ∙ found 0 es r
 
 -- edges that end below a row are passed, and what follows an edge above it doesn't count
 passed : (b : ℕ) (es : List Edge) (i : ℕ) (rest : List Edge) (r : ℕ) → Rises b es
@@ -93,7 +93,7 @@ past_entry es i r d within past =
     ap (λ (l : List Edge). first_over l r) (first_left es i d within) ∙ skipped (get_or es i d) (drop (suc i) es) r past
 
 at_entry : (es : List Edge) (i r : ℕ) (d : Edge) → (i < length es → r < (get_or es i d).top)
-    → first_over (drop i es) r ≡ viewer_of (entries_from 0 es) i
+    → first_over (drop i es) r ≡ entry_viewer (entries_from 0 es) i
 at_entry es i r d less =
     ⊎_elim
     (λ within. ap (λ (l : List Edge). first_over l r) (first_left es i d within)
@@ -220,7 +220,7 @@ changes_edges i y es rising inside up =
       next =
           λ r high less. seen r ∙ passed 0 es i (x ∷ rest) r rising (omega arith) ∙ skipped x rest r high
           ∙ at_entry es (suc i) r no_edge (λ more. omega (arith, top_of-entries_from es (suc i) no_edge rising more))
-          ∙ ap (viewer_of t) (sym (add-one i));
+          ∙ ap (entry_viewer t) (sym (add-one i));
       under = λ r low. seen r ∙ under_entry es i (x ∷ rest) r rising low ∙ sym (viewer_at-first_over es r rising);
       over =
           λ r high. seen r ∙ passed 0 es i (x ∷ rest) r rising (omega arith) ∙ skipped x rest r (omega arith)
@@ -249,7 +249,7 @@ closes_edges i es rising inside =
       given =
           λ r low less. seen r ∙ passed 0 es i rest r rising (omega arith)
           ∙ at_entry es (suc i) r no_edge (λ more. let above = next_above es i no_edge rising more in omega arith)
-          ∙ ap (viewer_of t) (sym (add-one i));
+          ∙ ap (entry_viewer t) (sym (add-one i));
       under = λ r low. seen r ∙ under_entry es i rest r rising low ∙ sym (viewer_at-first_over es r rising);
       over =
           λ r high. seen r ∙ passed 0 es i rest r rising (omega arith)

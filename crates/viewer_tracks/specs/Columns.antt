@@ -1,6 +1,5 @@
 -- The two columns of the display. A column is a stack of tracks with the topmost first, which alone is seen, opened
--- into and changed; each
--- has one track so far.
+-- into and changed; each has one track so far.
 use Rattle.std.specs.Prelude.{◌≡◌, ℕ, ◌+◌, ◌<◌, ◌≤◌, List, [], ◌∷◌, length, All, sum_by, if◌then◌else◌, ◌==◌, nat_lt}
 use Rattle.std.specs.Prelude.{Option, Some, None}
 use Rattle.viewer_tracks.specs.declared.display.Track.{Track}

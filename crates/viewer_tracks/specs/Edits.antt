@@ -1,17 +1,15 @@
 -- What opening, changing and closing make of a track.
 --
 -- Opening at row y looks for the least entry whose top reaches y. The new viewer gets the rows of that entry from its
--- bottom up to y, and one
--- row at least. If that is all that a viewer there had, that viewer is gone; otherwise the entry keeps the rest.
--- Changing moves the border between a viewer and the entry above it to row y, or as near as it can: a viewer above
--- keeps a row, and the
--- border never passes the display. Where y would leave the viewer itself no row, nothing changes.
--- Closing gives a viewer's rows to the entry above it.
--- No edit touches any other row, and a viewer that an edit doesn't speak of stays where it was.
+-- bottom up to y, and one row at least. If that is all that a viewer there had, that viewer is gone; otherwise the
+-- entry keeps the rest. Changing moves the border between a viewer and the entry above it to row y, or as near as it
+-- can: a viewer above keeps a row, and the border never passes the display. Where y would leave the viewer itself no
+-- row, nothing changes. Closing gives a viewer's rows to the entry above it. No edit touches any other row, and a
+-- viewer that an edit doesn't speak of stays where it was.
 use Rattle.std.specs.Prelude.{ℕ, zero, suc, ◌+◌, ◌-◌, Bool, ◌&&◌, if◌then◌else◌, nat_lt, ◌==◌, min, max, Option, None}
 use Rattle.std.specs.Prelude.{List, [], ◌∷◌, length, insert, remove}
 use Rattle.viewer_tracks.specs.declared.display.TheConstants.{ROWS}
-use Rattle.viewer_tracks.specs.Viewers.{Entry, bottom_of, top_of, lowest_reaching, viewer_of}
+use Rattle.viewer_tracks.specs.Viewers.{Entry, bottom_of, top_of, lowest_reaching, entry_viewer}
 
 -- the track with entry i replaced by what f makes of it; nothing is kept of the filler, so there f changes nothing
 abbrev pub with_entry : (Entry → Entry) → List Entry → ℕ → List Entry
@@ -52,7 +50,7 @@ opened t v y = put_into t v (open_entry t y) (open_top t y)
 -- the viewer that one opening at row y replaces
 unfoldable pub replaced : List Entry → ℕ → Option ℕ
 replaced t y =
-    if takes_place t (open_entry t y) (open_top t y) then viewer_of t (open_entry t y) else None
+    if takes_place t (open_entry t y) (open_top t y) then entry_viewer t (open_entry t y) else None
 
 -- the row to which the border above the viewer i comes that is to be moved to row y
 abbrev pub change_top : List Entry → ℕ → ℕ → ℕ

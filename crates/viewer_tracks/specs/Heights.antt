@@ -4,5 +4,5 @@ use Rattle.viewer_tracks.specs.declared.viewer_id.ViewerId.{ViewerId}
 use Rattle.viewer_tracks.specs.Viewers.{Entry}
 
 -- a viewer that has so many rows
-abbrev pub with_height : ViewerId × ℕ → Entry
-with_height e = record { viewer = e.0.0; height = e.1 }
+abbrev pub as_entry : ViewerId × ℕ → Entry
+as_entry e = record { viewer = e.0.0; height = e.1 }

@@ -38,12 +38,12 @@ abbrev pub lowest_reaching : List Entry → ℕ → ℕ
 lowest_reaching t z = position_or_len (λ top. nat_le z top) (tops t)
 
 -- the viewer of entry i; the filler has none
-abbrev pub viewer_of : List Entry → ℕ → Option ℕ
-viewer_of t i = option_map (λ e. e.viewer) (slice_get t i)
+abbrev pub entry_viewer : List Entry → ℕ → Option ℕ
+entry_viewer t i = option_map (λ e. e.viewer) (slice_get t i)
 
 -- the viewer that has row y, that is, of the least entry that ends above it
 unfoldable pub viewer_at : List Entry → ℕ → Option ℕ
-viewer_at t y = viewer_of t (lowest_reaching t (y + 1))
+viewer_at t y = entry_viewer t (lowest_reaching t (y + 1))
 
 -- how often a viewer stands in the track
 abbrev pub times_in : ℕ → List Entry → ℕ
@@ -54,5 +54,5 @@ abbrev pub entry_of : List Entry → ℕ → ℕ
 entry_of t v = position_or_len (λ e. e.viewer == v) t
 
 -- the number of a viewer, where there is one
-abbrev pub number_of : Option ViewerId → Option ℕ
-number_of v = option_map (λ v. v.0) v
+abbrev pub id_number : Option ViewerId → Option ℕ
+id_number v = option_map (λ v. v.0) v

@@ -1,13 +1,13 @@
 //! What is read off the edges of a track. An edge is a viewer with the row before which it ends, so that each viewer
-//! begins where the one under
-//! it ends; clauses speak of the viewers with their heights.
+//! begins where the one under it ends; clauses speak of the viewers with their heights.
 ghost use Rattle.std.specs.Prelude.{◌≡◌, ◌+◌, ◌/◌, ◌<◌, ◌≤◌, ◌↔◌, length, nat_le, slice_get, Some};
 ghost use Rattle.std.specs.List.{position_or_len};
-ghost use Rattle.viewer_tracks.specs.Viewers.{bottom_of, top_of, entry_of, times_in, viewer_of, viewer_at, number_of};
+ghost use Rattle.viewer_tracks.specs.Viewers.{bottom_of, top_of, entry_of, times_in, entry_viewer, viewer_at};
+ghost use Rattle.viewer_tracks.specs.Viewers.{id_number};
 ghost use Rattle.viewer_tracks.specs.Edits.{open_entry, open_top, takes_place, change_top};
 ghost use Rattle.viewer_tracks.specs.Room.{tallest, greatest_height};
 ghost use Rattle.viewer_tracks.specs.Edges.{entries_from, Rises};
-ghost use Rattle.viewer_tracks.specs.Heights.{with_height};
+ghost use Rattle.viewer_tracks.specs.Heights.{as_entry};
 
 use crate::display::ROWS;
 use crate::viewer_id::ViewerId;
@@ -64,7 +64,7 @@ pub fn top(edges: &[Edge], index: usize) -> u8
 
 /// The viewer of an edge. None past the last one.
 pub fn viewer_of(edges: &[Edge], index: usize) -> Option<ViewerId>
-    ensures { number_of result ≡ viewer_of (entries_from 0 edges.now) index }
+    ensures { id_number result ≡ entry_viewer (entries_from 0 edges.now) index }
 {
     let edge = edges.get(index)?;
     Some(edge.viewer)
@@ -74,7 +74,7 @@ pub fn viewer_of(edges: &[Edge], index: usize) -> Option<ViewerId>
 pub fn entry(edges: &[Edge], index: usize) -> (ViewerId, u8)
     requires rising { Rises 0 edges.now }
     requires in_bounds { index < length edges.now }
-    ensures { slice_get (entries_from 0 edges.now) index ≡ Some (with_height result) }
+    ensures { slice_get (entries_from 0 edges.now) index ≡ Some (as_entry result) }
 {
     let Edge { viewer, top } = edges[index];
     (viewer, top - bottom(edges, index))
@@ -84,7 +84,7 @@ pub fn entry(edges: &[Edge], index: usize) -> (ViewerId, u8)
 pub fn viewer_at(edges: &[Edge], y: u8) -> Option<ViewerId>
     requires rising { Rises 0 edges.now }
     requires in_display { y < ROWS }
-    ensures { number_of result ≡ viewer_at (entries_from 0 edges.now) y }
+    ensures { id_number result ≡ viewer_at (entries_from 0 edges.now) y }
 {
     viewer_of(edges, reaching(edges, y + 1))
 }

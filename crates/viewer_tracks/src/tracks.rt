@@ -2,17 +2,16 @@
 ghost use Rattle.std.specs.Prelude.{◌≡◌, ◌<◌, ◌≤◌, ◌↔◌, IsTrue, IfSome, length, slice_get, Some};
 ghost use Rattle.std.specs.Option.{ForSome};
 ghost use Rattle.viewer_tracks.specs.Display.{left_of};
-ghost use Rattle.viewer_tracks.specs.Viewers.{number_of, viewer_of};
-ghost use Rattle.viewer_tracks.specs.Heights.{with_height};
+ghost use Rattle.viewer_tracks.specs.Viewers.{id_number, entry_viewer};
+ghost use Rattle.viewer_tracks.specs.Heights.{as_entry};
 
 use crate::display::{COLUMNS, ROWS, Track};
 use crate::viewer_id::ViewerId;
 use crate::viewers::Viewers;
 use std::marker::Model;
 
-/// The tracks of the display, each viewer in one place at most. They take no memory. A clause sees them as two
-/// columns, each the list of its
-/// tracks, and a track as the list of its viewers with their heights.
+/// The tracks of the display, each viewer in one place at most. They take no memory. A clause sees them as two columns,
+/// each the list of its tracks, and a track as the list of its viewers with their heights.
 #[derive(Debug, Drop)]
 pub struct Tracks {
     user: Viewers,
@@ -67,13 +66,12 @@ impl Tracks {
 
     #[tactic(auto, using(crate::proofs::ColumnLemmas::after_open_user, crate::proofs::ColumnLemmas::after_open_system))]
     /// Opens a viewer in the track of column `x`, up to row `y` (any row above the display is its upper edge), and
-    /// returns
-    /// the viewer whose whole place it took.
+    /// returns the viewer whose whole place it took.
     pub fn open(&mut self, viewer: ViewerId, x: u8, y: u8) -> Option<ViewerId>
         requires fresh { ¬ IsPlaced viewer.0 self.old }
         requires in_display { x < COLUMNS }
         ensures opened { self.new ≡ after_open self.old viewer.0 x y }
-        ensures replaced { number_of result ≡ replaced_at self.old x y }
+        ensures replaced { id_number result ≡ replaced_at self.old x y }
         ensures sound { IsColumns self.new }
     {
         match Track::at(x) {
@@ -85,7 +83,7 @@ impl Tracks {
     /// The viewer whose whole place one takes that opens in the track of column `x`, up to row `y`.
     pub fn replaced(&self, x: u8, y: u8) -> Option<ViewerId>
         requires { x < COLUMNS }
-        ensures { number_of result ≡ replaced_at self.now x y }
+        ensures { id_number result ≡ replaced_at self.now x y }
     {
         match Track::at(x) {
             Track::User => self.user.replaced(y),
@@ -94,9 +92,8 @@ impl Tracks {
     }
 
     #[tactic(auto, using(crate::proofs::ColumnLemmas::after_changes))]
-    /// Moves the top of a viewer to row `y`, or as near to it as the display and a viewer above let it. Where `y`
-    /// would leave the viewer no
-    /// row, nothing changes.
+    /// Moves the top of a viewer to row `y`, or as near to it as the display and a viewer above let it. Where `y` would
+    /// leave the viewer no row, nothing changes.
     pub fn change(&mut self, viewer: ViewerId, y: u8)
         requires { IsPlaced viewer.0 self.old }
         ensures changed { self.new ≡ after_change self.old viewer.0 y }
@@ -127,7 +124,7 @@ impl Tracks {
     pub fn at(&self, x: u8, y: u8) -> Option<ViewerId>
         requires column_in_display { x < COLUMNS }
         requires row_in_display { y < ROWS }
-        ensures seen { number_of result ≡ seen_at self.now x y }
+        ensures seen { id_number result ≡ seen_at self.now x y }
         ensures stands { IfSome result (λ v. StandsAt self.now v.0 x y) }
     {
         match Track::at(x) {
@@ -160,7 +157,7 @@ impl Tracks {
 
     /// The viewer of that place in a track, counted from 0 at the bottom. None past the topmost.
     pub fn viewer_in(&self, track: Track, index: u8) -> Option<ViewerId>
-        ensures viewer { number_of result ≡ viewer_of (shown self.now track) index }
+        ensures viewer { id_number result ≡ entry_viewer (shown self.now track) index }
         ensures placed { IfSome result (λ v. IsPlaced v.0 self.now) }
     {
         match track {
@@ -183,7 +180,7 @@ impl Tracks {
     /// The viewer of that place in a track, counted from 0 at the bottom, and how many rows it has.
     pub fn entry_in(&self, track: Track, index: u8) -> (ViewerId, u8)
         requires { index < length (shown self.now track) }
-        ensures { slice_get (shown self.now track) index ≡ Some (with_height result) }
+        ensures { slice_get (shown self.now track) index ≡ Some (as_entry result) }
     {
         match track {
             Track::User => self.user.entry(index),
@@ -191,9 +188,8 @@ impl Tracks {
         }
     }
 
-    /// The cell, as column and row, at which to open a new viewer: right above the marker, in whichever track that
-    /// is, or without a marker in
-    /// the left column of `track` where that has room.
+    /// The cell, as column and row, at which to open a new viewer: right above the marker, in whichever track that is,
+    /// or without a marker in the left column of `track` where that has room.
     pub fn allocate(&self, track: Track, marker: Option<(u8, u8)>) -> (u8, u8)
         requires { ForSome marker (λ m. (m.0 < COLUMNS) × (m.1 < ROWS)) }
         ensures cell { result ≡ allocated self.now track marker }

@@ -1,9 +1,10 @@
 //! The viewers of one track. A clause sees them as the list of viewers with their heights, bottom up.
 ghost use Rattle.std.specs.Prelude.{◌≡◌, ◌<◌, ◌≤◌, ◌↔◌, [], IsTrue, length, slice_get, Some};
-ghost use Rattle.viewer_tracks.specs.Viewers.{times_in, entry_of, bottom_of, top_of, viewer_of, viewer_at, number_of};
+ghost use Rattle.viewer_tracks.specs.Viewers.{times_in, entry_of, bottom_of, top_of, entry_viewer, viewer_at};
+ghost use Rattle.viewer_tracks.specs.Viewers.{id_number};
 ghost use Rattle.viewer_tracks.specs.Edits.{opened, replaced, changed, closed};
 ghost use Rattle.viewer_tracks.specs.Room.{free_row};
-ghost use Rattle.viewer_tracks.specs.Heights.{with_height};
+ghost use Rattle.viewer_tracks.specs.Heights.{as_entry};
 
 use crate::display::ROWS;
 use crate::edge_list::EdgeList;
@@ -56,7 +57,7 @@ impl Viewers {
     #[tactic(auto, using(crate::proofs::Opening::opening_steps))]
     pub fn open(&mut self, viewer: ViewerId, y: u8) -> Option<ViewerId>
         ensures track { self.new ≡ opened self.old viewer.0 y }
-        ensures replaced { number_of result ≡ replaced self.old y }
+        ensures replaced { id_number result ≡ replaced self.old y }
     {
         let edges = self.edges.as_slice();
         let index = edges::open_entry(edges, y);
@@ -74,7 +75,7 @@ impl Viewers {
     /// The viewer whose whole place one takes that opens at row `y`.
     #[tactic(auto, using(crate::proofs::Opening::opening_steps))]
     pub fn replaced(&self, y: u8) -> Option<ViewerId>
-        ensures { number_of result ≡ replaced self.now y }
+        ensures { id_number result ≡ replaced self.now y }
     {
         let edges = self.edges.as_slice();
         let index = edges::open_entry(edges, y);
@@ -112,7 +113,7 @@ impl Viewers {
 
     /// The viewer of that place, counted from 0 at the bottom. None past the topmost.
     pub fn nth(&self, index: u8) -> Option<ViewerId>
-        ensures { number_of result ≡ viewer_of self.now index }
+        ensures { id_number result ≡ entry_viewer self.now index }
     {
         edges::viewer_of(self.edges.as_slice(), usize::from(index))
     }
@@ -128,7 +129,7 @@ impl Viewers {
     /// The viewer of that place, counted from 0 at the bottom, and how many rows it has.
     pub fn entry(&self, index: u8) -> (ViewerId, u8)
         requires { index < length self.now }
-        ensures { slice_get self.now index ≡ Some (with_height result) }
+        ensures { slice_get self.now index ≡ Some (as_entry result) }
     {
         edges::entry(self.edges.as_slice(), usize::from(index))
     }
@@ -136,7 +137,7 @@ impl Viewers {
     /// The viewer that has the row `y`.
     pub fn at(&self, y: u8) -> Option<ViewerId>
         requires { y < ROWS }
-        ensures { number_of result ≡ viewer_at self.now y }
+        ensures { id_number result ≡ viewer_at self.now y }
     {
         edges::viewer_at(self.edges.as_slice(), y)
     }

@@ -5,7 +5,8 @@ use Rattle.piece_ring.specs.Flat.{flat}
 use Rattle.readers_scanners.specs.Reading.{bytes}
 use Rattle.command_table.specs.Call.{called_at}
 use Rattle.command_table.specs.Parameters.{IsPlace}
-use Rattle.desktop_definitions.specs.Limits.{first_version, no_command}
+use Rattle.command_table.specs.Versions.{version_number}
+use Rattle.desktop_definitions.specs.Limits.{no_command}
 use Rattle.desktop_definitions.specs.Desktop.{Desktop}
 use Rattle.desktop_definitions.specs.Change.{bytes_of}
 use Rattle.desktop_definitions.specs.Call.{text_called}
@@ -31,12 +32,16 @@ returns-in_default-clause-answered g c =
     let s = g.S.CharSource in
     let old = s.characters c.args.source.now in
     let d = kept c.args.desk.now in
-    refused_after s (λ (x : Desktop). called first_version x c.args.id c.args.in_menu c.args.pos) no_command _ _ d
+    refused_after s (λ (x : Desktop). called (version_number c.args.version) x c.args.id c.args.in_menu c.args.pos)
+    no_command _ _ d
     c.in_ok-found.ensures.reads c.requires.over known_no_command
-    (λ h. called_none (seen old d) c.args.id c.args.in_menu c.args.pos c.in_ok-found.found c.in_default.is
+    (λ h. called_none (version_number c.args.version) (seen old d) c.args.id c.args.in_menu c.args.pos
+    c.in_ok-found.found
+    c.in_default.is
     (c.in_ok-found.ensures.call h
-    ∙ ap (λ (t : List Piece). called_at (bytes old (flat t)) c.args.pos) c.text_called.ensures
-    ∙ called_read old d c.args.id c.args.in_menu c.args.pos))
+    ∙ ap (λ (t : List Piece). called_at (version_number c.args.version) (bytes old (flat t)) c.args.pos)
+    c.text_called.ensures
+    ∙ called_read (version_number c.args.version) old d c.args.id c.args.in_menu c.args.pos))
 
 pub returns-clause-answered : goal.returns-clause-answered
 unfolding called
@@ -45,10 +50,12 @@ returns-clause-answered g c =
     let old = s.characters c.args.source.now in
     let d = kept c.args.desk.now in
     settles_after s (called_by c.args.id c.args.in_menu)
-    (λ (x : Desktop). command_at first_version (bytes_of (text_called x c.args.id c.args.in_menu)) c.args.pos)
+    (λ (x : Desktop). command_at (version_number c.args.version) (bytes_of (text_called x c.args.id c.args.in_menu))
+    c.args.pos)
     (Some (c.in-Some.command, c.in-Some.after)) _ _ c.do_command.new.source d (kept c.do_command.new.desk)
     c.do_command.result c.in_ok-found.ensures.reads
     (λ h. sym c.in-Some.is ∙ c.in_ok-found.ensures.call h
-    ∙ ap (λ (t : List Piece). called_at (bytes old (flat t)) c.args.pos) c.text_called.ensures
-    ∙ called_read old d c.args.id c.args.in_menu c.args.pos)
+    ∙ ap (λ (t : List Piece). called_at (version_number c.args.version) (bytes old (flat t)) c.args.pos)
+    c.text_called.ensures
+    ∙ called_read (version_number c.args.version) old d c.args.id c.args.in_menu c.args.pos)
     c.do_command.ensures.answered

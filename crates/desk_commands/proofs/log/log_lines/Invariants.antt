@@ -2,7 +2,7 @@ use Rattle.std.proofs.Common.{drop}
 use Rattle.desktop_laws.specs.LogLaws.{IsLogging}
 use Rattle.desk_core.specs.Kept.{kept}
 use Rattle.desk_commands.specs.Lines.{bytes_of_lines}
-use Rattle.desk_commands.proofs.LogLemmas.{HasGrown}
+use Rattle.desk_commands.proofs.LogLemmas.{IsCalm}
 use Rattle.desk_commands.proofs.log.log_lines.Given as goal
 
 -- some lines were put in, and nothing failed
@@ -12,5 +12,5 @@ invariant-loop-line g l =
     record {
       logging : IsLogging (s.honest l.fn.source) (s.characters l.fn.source) (s.characters l.source) (kept l.fn.desk)
           (kept l.desk) (bytes_of_lines l.lines) (bytes_of_lines (drop l.line-index l.lines));
-      grown : HasGrown s l.fn.source l.source;
+      grown : IsCalm s l.fn.source l.source;
     }

@@ -3,16 +3,16 @@ use Rattle.desk_slots.proofs.Renewing.{one_step, two_steps, three_steps, now_new
 use Rattle.desk_slots.proofs.checkpoint.change_slot.Goals as goal
 
 pub returns-in_err-close_slot-clause-any_moment : goal.returns-in_err-close_slot-clause-any_moment
-returns-in_err-close_slot-clause-any_moment g c = λ honest live number count was.
+returns-in_err-close_slot-clause-any_moment g c = λ honest live version number count was.
     one_step was (c.close_slot.ensures.kept.moments honest)
 
 pub returns-in_err-write_slot-clause-any_moment : goal.returns-in_err-write_slot-clause-any_moment
-returns-in_err-write_slot-clause-any_moment g c = λ honest live number count was.
+returns-in_err-write_slot-clause-any_moment g c = λ honest live version number count was.
     two_steps was (c.close_slot.ensures.kept.moments honest) (c.in_ok-close_slot.ensures.closed honest)
     (c.write_slot.ensures.kept.moments (c.close_slot.ensures.kept.still honest))
 
 pub returns-clause-any_moment : goal.returns-clause-any_moment
-returns-clause-any_moment g c = λ honest live number count was.
+returns-clause-any_moment g c = λ honest live version number count was.
     let first = c.close_slot.ensures.kept.moments honest in
     let second = c.close_slot.ensures.kept.still honest in
     three_steps was first (c.in_ok-close_slot.ensures.closed honest) (c.write_slot.ensures.kept.moments second)
@@ -21,7 +21,7 @@ returns-clause-any_moment g c = λ honest live number count was.
     (c.open_slot.ensures.kept.moments (c.write_slot.ensures.kept.still second))
 
 pub returns-clause-renewed : goal.returns-clause-renewed
-returns-clause-renewed g c = on_ok_weaker c.open_slot.result (λ opened honest live number count was.
+returns-clause-renewed g c = on_ok_weaker c.open_slot.result (λ opened honest live version number count was.
     let first = c.close_slot.ensures.kept.moments honest in
     let second = c.close_slot.ensures.kept.still honest in
     let third = c.write_slot.ensures.kept.still second in
@@ -36,6 +36,6 @@ returns-clause-front g c = on_ok_weaker c.open_slot.result (λ opened honest.
     let second = c.close_slot.ensures.kept.still honest in
     let filled = filled_still _ _ _ c.args.place.epoch c.args.place c.args.desktop.now c.requires.live first
     (c.in_ok-write_slot.ensures.filled second) in
-    front_still _ _ c.args.place.slot _ _ c.args.place.two
+    front_still _ _ c.args.place.slot _ _ _ c.args.place.two
     (c.open_slot.ensures.kept.moments (c.write_slot.ensures.kept.still second)) filled.front)
     c.open_slot.ensures.opened

@@ -9,9 +9,9 @@ abbrev pub invariant-loop-i : goal.invariant-loop-i
 invariant-loop-i g l =
     let d = g.D.Disk in
     record {
-      kept : IsConfined d.size d.honest d.trail (InArea l.saved) l.fn.disk l.disk;
+      kept : IsConfined d.size d.honest d.trail (InArea l.place.area l.place.saved) l.fn.disk l.disk;
       calm : d.failures l.disk ≡ d.failures l.fn.disk;
-      front : d.honest l.fn.disk → (front : List ℕ) → length front ≡ SECTOR_BYTES * l.saved
-          → HasFront (now (d.trail l.fn.disk)).reads l.saved (front ++ l.rest)
-          → HasFront (now (d.trail l.disk)).reads (l.saved + l.i) (front ++ l.rest);
+      front : d.honest l.fn.disk → (front : List ℕ) → length front ≡ SECTOR_BYTES * l.place.saved
+          → HasFront (now (d.trail l.fn.disk)).reads l.place.area l.place.saved (front ++ l.rest)
+          → HasFront (now (d.trail l.disk)).reads l.place.area (l.place.saved + l.i) (front ++ l.rest);
     }

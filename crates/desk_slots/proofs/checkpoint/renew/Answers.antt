@@ -1,39 +1,46 @@
-use Rattle.std.proofs.Common.{sym, subst}
+use Rattle.std.proofs.Common.{sym, subst, arith}
 use Rattle.sector_disk.specs.Trail.{now}
 use Rattle.char_pages.specs.Cached.{AreTrue}
+use Rattle.store_layout.specs.declared.layout.TheConstants.{LAYOUT}
 use Rattle.store_layout.specs.Kept.{IsKept}
 use Rattle.desk_slots.proofs.Renewing.{shown_settled, named_settled}
-use Rattle.desk_slots.proofs.Staying.{told_stays, lines_stay, apart_renewal}
+use Rattle.desk_slots.proofs.Staying.{goes_on, told_stays, lines_stay, apart_renewal}
 use Rattle.desk_slots.proofs.checkpoint.renew.Goals as goal
 
+pub settle-requires-clause-place : goal.settle-requires-clause-place
+settle-requires-clause-place g c = λ some.
+    let live = c.args.desktop.now in
+    let there = goes_on live c.args.place c.requires.live c.requires.goes some in
+    omega (arith, there, c.requires.live.based)
+
 pub returns-clause-renewed : goal.returns-clause-renewed
-returns-clause-renewed g c = λ honest live number count was.
+returns-clause-renewed g c = λ honest live version number count was.
     let d = g.D.Disk in
     let after = c.change_slot.new.disk in
-    subst (λ x. IsKept (d.size c.args.disk.now) (d.trail after) c.args.place.slot c.args.place.epoch 0 x)
-    (sym (shown_settled _ _ c.args.place c.args.desktop.now c.settle.new.self c.requires.live c.requires.saved
+    subst (λ x. IsKept (d.size c.args.disk.now) (d.trail after) c.args.place.slot LAYOUT c.args.place.epoch 0 x)
+    (sym (shown_settled _ _ c.args.place c.args.desktop.now c.settle.new.self c.requires.live c.requires.goes
     (c.change_slot.ensures.kept.moments honest) (c.in_ok-change_slot.ensures.front honest) c.settle.ensures.desktop
-    c.settle.ensures.same)) (c.in_ok-change_slot.ensures.renewed honest live number count was)
+    c.settle.ensures.same)) (c.in_ok-change_slot.ensures.renewed honest live version number count was)
 
 pub returns-clause-named : goal.returns-clause-named
 returns-clause-named g c = λ honest.
-    named_settled _ _ c.args.place c.args.desktop.now c.settle.new.self c.requires.live c.requires.saved
+    named_settled _ _ c.args.place c.args.desktop.now c.settle.new.self c.requires.live c.requires.goes
     (c.change_slot.ensures.kept.moments honest) (c.in_ok-change_slot.ensures.front honest) c.settle.ensures.desktop
-    c.settle.ensures.same c.settle.ensures.counted
+    c.settle.ensures.same c.settle.ensures.area c.settle.ensures.counted
 
 pub returns-clause-shown : goal.returns-clause-shown
 returns-clause-shown g c = λ honest.
-    shown_settled _ _ c.args.place c.args.desktop.now c.settle.new.self c.requires.live c.requires.saved
+    shown_settled _ _ c.args.place c.args.desktop.now c.settle.new.self c.requires.live c.requires.goes
     (c.change_slot.ensures.kept.moments honest) (c.in_ok-change_slot.ensures.front honest) c.settle.ensures.desktop
     c.settle.ensures.same
 
 pub returns-clause-told : goal.returns-clause-told
 returns-clause-told g c = λ told.
     lines_stay g.D.Disk c.args.desktop.now c.settle.new.self c.change_slot.ensures.kept
-    (λ honest. shown_settled _ _ c.args.place c.args.desktop.now c.settle.new.self c.requires.live c.requires.saved
+    (λ honest. shown_settled _ _ c.args.place c.args.desktop.now c.settle.new.self c.requires.live c.requires.goes
     (c.change_slot.ensures.kept.moments honest) (c.in_ok-change_slot.ensures.front honest) c.settle.ensures.desktop
     c.settle.ensures.same)
     c.settle.ensures.lines told
     (λ honest. subst (λ l. AreTrue (now (g.D.Disk.trail c.change_slot.new.disk)).reads l) (sym c.settle.ensures.cached)
     (told_stays g.D.Disk c.args.desktop.now.pages c.change_slot.ensures.kept
-    (apart_renewal c.args.desktop.now.pages c.args.place c.requires.live.based c.requires.saved) told.pages honest))
+    (apart_renewal c.args.desktop.now c.args.place c.requires.live c.requires.goes) told.pages honest))

@@ -10,8 +10,8 @@ returns-clause-empty g c = on_ok_weaker c.open_slot.result (λ opened honest.
     let third = c.write_start.ensures.kept.still second in
     let size = c.open_slot.ensures.kept.as_large ∙ c.write_start.ensures.kept.as_large
     ∙ c.close_slots.ensures.kept.as_large in
-    laid_out _ (g.D.Disk.trail c.close_slots.new.disk) (g.D.Disk.trail c.write_start.new.disk)
-    (g.D.Disk.trail c.open_slot.new.disk) (subst (λ n. STORE_SECTORS ≤ n) (sym size) c.requires)
+    laid_out _ c.args.version (g.D.Disk.trail c.close_slots.new.disk) (g.D.Disk.trail c.write_start.new.disk)
+    (g.D.Disk.trail c.open_slot.new.disk) (subst (λ n. STORE_SECTORS ≤ n) (sym size) c.requires.room)
     (c.in_ok-close_slots.ensures.closed honest) (c.write_start.ensures.kept.moments second)
     (c.in_ok-write_start.ensures.label second) (c.in_ok-write_start.ensures.start second).new
     (c.open_slot.ensures.kept.moments third) (opened third)) c.open_slot.ensures.opened

@@ -1,4 +1,4 @@
-use Rattle.std.proofs.Common.{◌/◌, ◌∙◌, ap}
+use Rattle.std.proofs.Common.{◌/◌, sym, ◌∙◌, ap}
 use Rattle.std.proofs.lemmas.Result.{err_from_is_err_and}
 use Rattle.sector_disk.proofs.Confinement as confined
 use Rattle.desk_slots.proofs.Loading.{image_damage, body_damage, shows, loaded, named_after}
@@ -26,7 +26,7 @@ returns-clause-found g c = λ honest.
     let second = c.locate.ensures.kept.still honest in
     shows (c.in_ok-slot.ensures.located honest) (c.locate.ensures.kept.moments honest)
     (c.in_ok-desktop.ensures.image second) (c.load_slot.ensures.kept.moments second)
-    (c.in_ok-events.ensures.whole (c.load_slot.ensures.kept.still second))
+    (sym c.version_of-version.ensures) (c.in_ok-events.ensures.whole (c.load_slot.ensures.kept.still second))
 
 pub returns-clause-shown : goal.returns-clause-shown
 returns-clause-shown g c = λ honest.
@@ -37,14 +37,21 @@ returns-clause-shown g c = λ honest.
     let loads = c.load_slot.ensures.kept.moments second in
     let third = c.load_slot.ensures.kept.still second in
     let replays = c.replay.ensures.kept.moments third in (
-      loaded found first (e.image second) loads (c.in_ok-events.ensures.whole third) replays
+      loaded found first (e.image second) loads (sym c.version_of-version.ensures) (c.in_ok-events.ensures.whole third) replays
           (c.in_ok-slot.ensures.quiet honest),
       named_after _ c.replay.new.desktop found.is first loads replays
-          (ap (λ n. n / SECTOR_BYTES) c.in_ok-events.ensures.counted ∙ e.saved),
+          (c.in_ok-events.ensures.area ∙ e.area)
+          (λ not. ap (λ n. n / SECTOR_BYTES) (c.in_ok-events.ensures.counted not) ∙ e.saved),
     )
 
 pub returns-clause-kept : goal.returns-clause-kept
 returns-clause-kept g c =
+    let d = g.D.Disk in
+    confined.joined d.size d.honest d.trail
+    (confined.joined d.size d.honest d.trail c.locate.ensures.kept c.load_slot.ensures.kept) c.replay.ensures.kept
+
+pub returns-in_err-events-clause-kept : goal.returns-in_err-events-clause-kept
+returns-in_err-events-clause-kept g c =
     let d = g.D.Disk in
     confined.joined d.size d.honest d.trail
     (confined.joined d.size d.honest d.trail c.locate.ensures.kept c.load_slot.ensures.kept) c.replay.ensures.kept

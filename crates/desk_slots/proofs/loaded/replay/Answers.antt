@@ -3,12 +3,13 @@ use Rattle.std.proofs.lemmas.Result.{err_from_is_err_and}
 use Rattle.event_bytes.specs.declared.event.Event.{Event}
 use Rattle.event_bytes.specs.Spelling.{Begins}
 use Rattle.sector_disk.specs.Trail.{Content, now}
-use Rattle.desktop_definitions.specs.Step.{step}
+use Rattle.desktop_definitions.specs.Step.{step_in}
+use Rattle.command_table.specs.Versions.{version_number}
 use Rattle.sector_disk.proofs.Touching.{still_all}
 use Rattle.sector_disk.proofs.Confinement as confined
 use Rattle.store_layout.specs.declared.layout.TheConstants.{JOURNAL_EVENTS}
 use Rattle.store_layout.specs.Layout.{is_open, gate, body}
-use Rattle.desk_slots.specs.Live.{shown}
+use Rattle.desk_slots.specs.Live.{seen_live}
 use Rattle.desk_slots.specs.Load.{IsReadTo, IsReadWhole}
 use Rattle.desk_slots.proofs.Loading.{one_read, all_read, not_read}
 use Rattle.desk_slots.proofs.Staying.{apart_nowhere, live_stays}
@@ -24,7 +25,7 @@ returns-in_err-event-clause-damaged g c =
     let found = c.in_err-event.ensures.damaged n (cc (p.1, p.2, is)) (i.kept.still honest) in (
       k,
       found.0,
-      not_read (now (g.D.Disk.trail c.args.disk.now)).reads c.args.slot k _ _
+      not_read (now (g.D.Disk.trail c.args.disk.now)).reads c.args.slot (version_number c.args.version) k _ _
           (i.read honest) (omega (arith, c.loop-k-test.true))
           (subst (λ r. is_open (r (gate c.args.slot k)) ≡ true) same found.1)
           (subst (λ r. (event : Event) → Begins (r (body c.args.slot k)) event → ⊥) same found.2),
@@ -36,11 +37,12 @@ returns-in-None-clause-whole g c = λ honest.
     let same = still_all (g.D.Disk.trail c.args.disk.now) (g.D.Disk.trail c.loop-k.disk) (i.kept.moments honest) in
     let mid = i.kept.still honest in
     let closed = (rw c.in-None.is at c.in_ok-event.ensures.none) mid in
-    let there = subst (λ (r : Content). IsReadTo (now (g.D.Disk.trail c.args.disk.now)).reads c.args.slot c.loop-k.k
-    (shown (now (g.D.Disk.trail c.args.disk.now)).reads c.args.desktop.now) (shown r c.loop-k.desktop))
+    let there = subst (λ (r : Content). IsReadTo (now (g.D.Disk.trail c.args.disk.now)).reads c.args.slot
+    (version_number c.args.version) c.loop-k.k
+    (seen_live (now (g.D.Disk.trail c.args.disk.now)).reads c.args.desktop.now) (seen_live r c.loop-k.desktop))
     (sym (still_all (g.D.Disk.trail c.loop-k.disk) (g.D.Disk.trail c.read_event.new.disk)
     (c.read_event.ensures.kept.moments mid))) in
-    all_read (now (g.D.Disk.trail c.args.disk.now)).reads c.args.slot c.loop-k.k _ _
+    all_read (now (g.D.Disk.trail c.args.disk.now)).reads c.args.slot (version_number c.args.version) c.loop-k.k _ _
     (there (i.read honest)) (λ room. subst
     (λ r. is_open (r (gate c.args.slot c.loop-k.k)) ≡ false) same closed)
 
@@ -70,15 +72,18 @@ loop-k-preserved g c =
           let found = (rw c.in-Some.is at c.in_ok-event.ensures.some) mid in
           let read = still_all (g.D.Disk.trail c.loop-k.disk) (g.D.Disk.trail c.read_event.new.disk)
           (c.read_event.ensures.kept.moments mid) in
-          one_read (now (g.D.Disk.trail c.args.disk.now)).reads c.args.slot k _ _ _
+          one_read (now (g.D.Disk.trail c.args.disk.now)).reads c.args.slot (version_number c.args.version) k _ _ _
           c.in-Some.event (i.read honest) (omega (arith, c.loop-k-test.true))
           (subst (λ r. is_open (r (gate c.args.slot k)) ≡ true) same found.0)
           (subst (λ r. Begins (r (body c.args.slot k)) c.in-Some.event) same found.1)
           (ap (λ x. x.0) (c.in_ok-step-in-Some.ensures.done (c.read_event.ensures.kept.still mid))
-          ∙ ap (λ (r : Content). (step (shown r c.loop-k.desktop) c.in-Some.event).0) read);
+          ∙ ap (λ (r : Content).
+          (step_in (version_number c.args.version) (seen_live r c.loop-k.desktop) c.in-Some.event).0)
+          read);
       live = c.in_ok-step-in-Some.ensures.live;
       told = c.in_ok-step-in-Some.ensures.told;
-      counted = c.step.ensures.counted ∙ i.counted;
+      area = c.step.ensures.area ∙ i.area;
+      counted = λ not. c.step.ensures.counted not ∙ i.counted (c.step.ensures.before not);
     }
 
 pub returns-clause-whole : goal.returns-clause-whole
@@ -86,6 +91,7 @@ returns-clause-whole g c = λ honest.
     let i = c.loop-k.invariant in
     let R = (now (g.D.Disk.trail c.args.disk.now)).reads in
     let last : c.loop-k.k ≡ JOURNAL_EVENTS = omega (arith, c.loop-k-test.false, c.loop-k.auto.k-end) in
-    subst (λ n. IsReadWhole R c.args.slot n (shown R c.args.desktop.now)
-    (shown (now (g.D.Disk.trail c.loop-k.disk)).reads c.loop-k.desktop)) last
-    (all_read R c.args.slot c.loop-k.k _ _ (i.read honest) (λ room. absurd (omega (arith, room, c.loop-k-test.false))))
+    subst (λ n. IsReadWhole R c.args.slot (version_number c.args.version) n (seen_live R c.args.desktop.now)
+    (seen_live (now (g.D.Disk.trail c.loop-k.disk)).reads c.loop-k.desktop)) last
+    (all_read R c.args.slot (version_number c.args.version) c.loop-k.k _ _ (i.read honest)
+    (λ room. absurd (omega (arith, room, c.loop-k-test.false))))

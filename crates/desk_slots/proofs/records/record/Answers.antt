@@ -4,7 +4,7 @@ use Rattle.sector_disk.specs.Trail.{Content}
 use Rattle.sector_disk.proofs.Touching.{still_all}
 use Rattle.store_layout.specs.Layout.{head_of, slot_head}
 use Rattle.store_layout.specs.Meaning.{full_sectors}
-use Rattle.desk_slots.proofs.Recording.{kept_then, unrecorded, read_only, read_then, kept_after, head_stays}
+use Rattle.desk_slots.proofs.Recording.{in_newest, kept_then, unrecorded, read_only, read_then, kept_after, head_stays}
 use Rattle.desk_slots.proofs.Staying.{shown_stays, answer_stays, live_stays, apart_record}
 use Rattle.desk_slots.proofs.records.record.Goals as goal
 
@@ -20,13 +20,13 @@ pub returns-in_err-add_record-clause-any_moment : goal.returns-in_err-add_record
 returns-in_err-add_record-clause-any_moment g c = λ honest number kept.
     let s = c.step.ensures.disk in
     read_then g.D.Disk s honest kept c.args.event.now
-    (c.add_record.ensures.any_moment (s.still honest) number _ (kept_then g.D.Disk s honest kept))
+    (c.add_record.ensures.any_moment (s.still honest) _ number _ (kept_then g.D.Disk s honest kept))
 
 pub returns-clause-any_moment : goal.returns-clause-any_moment
 returns-clause-any_moment g c = λ honest number kept.
     let s = c.step.ensures.disk in
     read_then g.D.Disk s honest kept c.args.event.now
-    (c.add_record.ensures.any_moment (s.still honest) number _ (kept_then g.D.Disk s honest kept))
+    (c.add_record.ensures.any_moment (s.still honest) _ number _ (kept_then g.D.Disk s honest kept))
 
 pub returns-clause-added : goal.returns-clause-added
 returns-clause-added g c = λ honest number kept.
@@ -34,23 +34,27 @@ returns-clause-added g c = λ honest number kept.
     let live = c.in_ok-reply.ensures.live in
     kept_after g.D.Disk s honest kept c.args.event.now
     (shown_stays _ _ c.step.new.self (c.add_record.ensures.kept.moments (s.still honest))
-    (apart_record c.step.new.self.pages c.args.slot c.args.k live.based c.requires.two c.requires.index)
-    ∙ ap (λ x. x.0) (c.in_ok-reply.ensures.done honest))
-    (c.in_ok-add_record.ensures.added (s.still honest) number _ (kept_then g.D.Disk s honest kept))
+    (apart_record c.step.new.self.pages c.step.new.self.area c.args.slot c.args.k live.based c.requires.two
+    c.requires.index)
+    ∙ ap (λ x. x.0) (c.in_ok-reply.ensures.done honest)
+    ∙ ap (λ x. x.0) (in_newest _ c.args.event.now))
+    (c.in_ok-add_record.ensures.added (s.still honest) _ number _ (kept_then g.D.Disk s honest kept))
 
 pub returns-clause-stepped : goal.returns-clause-stepped
 returns-clause-stepped g c = λ honest.
     let s = c.step.ensures.disk in
     let live = c.in_ok-reply.ensures.live in
     answer_stays (shown_stays _ _ c.step.new.self (c.add_record.ensures.kept.moments (s.still honest))
-    (apart_record c.step.new.self.pages c.args.slot c.args.k live.based c.requires.two c.requires.index))
-    (c.in_ok-reply.ensures.done honest)
+    (apart_record c.step.new.self.pages c.step.new.self.area c.args.slot c.args.k live.based c.requires.two
+    c.requires.index))
+    (c.in_ok-reply.ensures.done honest ∙ in_newest _ c.args.event.now)
 
 pub returns-clause-told : goal.returns-clause-told
 returns-clause-told g c =
     let live = c.in_ok-reply.ensures.live in
     live_stays g.D.Disk c.step.new.self c.add_record.ensures.kept
-    (apart_record c.step.new.self.pages c.args.slot c.args.k live.based c.requires.two c.requires.index)
+    (apart_record c.step.new.self.pages c.step.new.self.area c.args.slot c.args.k live.based c.requires.two
+    c.requires.index)
     c.in_ok-reply.ensures.told
 
 pub returns-clause-named : goal.returns-clause-named
@@ -59,5 +63,8 @@ returns-clause-named g c = λ honest named.
     let head_now = head_stays _ _ c.args.slot c.args.k c.requires.two c.requires.index
     (c.add_record.ensures.kept.moments (s.still honest))
     ∙ ap (λ (r : Content). r (slot_head c.args.slot)) (still_all _ _ (s.moments honest)) in
-    ap (λ b. full_sectors (head_of b).written) head_now ∙ named
-    ∙ ap (λ n. n / SECTOR_BYTES) (sym c.step.ensures.counted)
+    record {
+      area_is = ap (λ b. (head_of b).area) head_now ∙ named.area_is ∙ sym c.step.ensures.area;
+      named = λ not. ap (λ b. full_sectors (head_of b).written) head_now ∙ named.named (c.step.ensures.before not)
+          ∙ ap (λ n. n / SECTOR_BYTES) (sym (c.step.ensures.counted not));
+    }

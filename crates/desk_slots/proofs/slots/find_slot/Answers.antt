@@ -3,7 +3,7 @@ use Rattle.std.proofs.lemmas.Result.{err_from_is_err_and}
 use Rattle.sector_disk.specs.Trail.{now}
 use Rattle.sector_disk.proofs.Touching.{still_all}
 use Rattle.store_layout.specs.Layout.{is_open, slot_gate, head, IsGoodHead}
-use Rattle.desk_slots.proofs.Choosing.{found_in, good_in, found_used}
+use Rattle.desk_slots.proofs.Choosing.{found_in, good_in, found_used, chosen_good}
 use Rattle.desk_slots.proofs.slots.find_slot.Goals as goal
 
 pub returns-in_err-second-clause-damaged : goal.returns-in_err-second-clause-damaged
@@ -41,3 +41,8 @@ returns-in-Some-clause-used g c = λ honest.
     (found_in start start 0 c.in_ok-first.first refl honest f.none f.some f.good)
     (found_in start mid 1 c.in_ok-second.second same (c.read_slot.ensures.kept.still honest) s.none s.some s.good)
     c.in-Some.ensures
+
+pub returns-in-Some-clause-good : goal.returns-in-Some-clause-good
+returns-in-Some-clause-good g c =
+    chosen_good c.in_ok-first.first c.in_ok-second.second c.in-Some.chosen c.in_ok-first.ensures.good
+    c.in_ok-second.ensures.good c.in-Some.ensures

@@ -8,7 +8,7 @@ use Rattle.desktop_definitions.specs.declared.viewer.Viewer.{Viewer}
 use Rattle.desktop_definitions.specs.declared.entry.Entry.TheVariants.{Viewer as ViewerEntry}
 use Rattle.desktop_definitions.specs.Tables.{numbered}
 use Rattle.desktop_definitions.specs.Viewers.{text_in, viewer_or_none}
-use Rattle.desktop_definitions.specs.Listing.{name_in}
+use Rattle.desktop_definitions.specs.Listing.{listed_name}
 use Rattle.desktop_definitions.specs.Unread.{without_name}
 use Rattle.desktop_laws.specs.SeenLaws.{within_counted}
 use Rattle.desktop_laws.specs.ViewLaws.{viewer_entry_seen}
@@ -46,7 +46,8 @@ returns-clause-entry g c = λ honest.
     (λ k. ViewerEntry (c.left.ensures k) (c.place_of-place.ensures.bottom k) (c.place_of-place.ensures.top k)
     c.in_ok-name.name c.len.result)
     ∙ viewer_entry_seen characters d c.args.track v c.in_ok-name.name c.len.result
-    (c.in_ok-name.ensures.name honest ∙ ap (λ (pieces : List Piece). name_in (contents characters (flat pieces))) menu)
+    (c.in_ok-name.ensures.name honest
+    ∙ ap (λ (pieces : List Piece). listed_name (contents characters (flat pieces))) menu)
     (c.len.ensures ∙ ap (λ (pieces : List Piece). length (flat pieces)) main)
 
 pub returns-clause-unread : goal.returns-clause-unread
@@ -58,5 +59,5 @@ returns-clause-unread g c = λ all long.
     let menu = text_in d.texts (viewer_or_none d.viewers v).menu in
     (λ k. ViewerEntry (c.left.ensures k) (c.place_of-place.ensures.bottom k) (c.place_of-place.ensures.top k)
     [] c.len.result)
-    ∙ ap without_name (viewer_entry_seen all d c.args.track v (name_in (contents all (flat menu))) c.len.result refl
+    ∙ ap without_name (viewer_entry_seen all d c.args.track v (listed_name (contents all (flat menu))) c.len.result refl
     (c.len.ensures ∙ ap (λ (pieces : List Piece). length (flat pieces)) main))

@@ -1,10 +1,10 @@
-use Rattle.std.proofs.Common.{◌∙◌, ◌≡◌, ◌++◌, ℕ, List, map, sym, ap, refl, append-nil, arith, [], ◌∷◌}
+use Rattle.std.proofs.Common.{◌∙◌, ◌++◌, List, map, sym, ap, refl, append-nil, arith, [], ◌∷◌}
 use Rattle.std.proofs.lemmas.List.{map-append}
 use Rattle.std.proofs.lemmas.Simd.{map-map}
 use Rattle.desktop_definitions.specs.declared.entry.Entry.{Entry}
 use Rattle.viewer_tracks.specs.Viewers.{Entry as Standing}
 use Rattle.char_file.proofs.Reading.{no_read, read_on}
-use Rattle.viewer_tracks.specs.Viewers.{number_of}
+use Rattle.viewer_tracks.specs.Viewers.{id_number}
 use Rattle.viewer_tracks.specs.Columns.{shown}
 use Rattle.desktop_definitions.specs.Listing.{viewer_entry}
 use Rattle.desktop_definitions.specs.Unread.{without_name}
@@ -65,7 +65,7 @@ returns-in_default-clause-entries g c = λ honest.
     let entry = viewer_entry (seen (g.S.CharSource.characters c.args.source.now) d) c.args.track in
     listed_to_none entry (shown d.columns c.args.track) c.loop-index.index c.args.entries.now.items
     c.loop-index.entries.items
-    (sym (ap number_of c.in_default.is) ∙ c.viewer_in.ensures.viewer) (c.loop-index.invariant.so_far honest)
+    (sym (ap id_number c.in_default.is) ∙ c.viewer_in.ensures.viewer) (c.loop-index.invariant.so_far honest)
 
 pub returns-clause-entries : goal.returns-clause-entries
 unfolding seen
@@ -84,7 +84,7 @@ returns-in_default-clause-unread g c = λ all long.
     let entry = viewer_entry (seen all d) c.args.track in
     listed_to_none (λ v. without_name (entry v)) (shown d.columns c.args.track) c.loop-index.index
     (map without_name c.args.entries.now.items) (map without_name c.loop-index.entries.items)
-    (sym (ap number_of c.in_default.is) ∙ c.viewer_in.ensures.viewer) (c.loop-index.invariant.unread all long)
+    (sym (ap id_number c.in_default.is) ∙ c.viewer_in.ensures.viewer) (c.loop-index.invariant.unread all long)
     ∙ ap (λ (l : List Entry). map without_name c.args.entries.now.items ++ l)
     (sym (map-map without_name (λ (e : Standing). entry e.viewer) (shown d.columns c.args.track)))
 

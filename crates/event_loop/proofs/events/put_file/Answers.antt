@@ -53,14 +53,14 @@ returns-clause-answered g c =
     (λ characters. sym (c.has_room.ensures characters) ∙ c.if-not-has_room.false))
 
 pub returns-then-not-has_room-clause-unread : goal.returns-then-not-has_room-clause-unread
-unfolding seen brought StepsUnread
+unfolding seen brought StepsUnread step
 returns-then-not-has_room-clause-unread g c = λ h all long.
     let d = kept c.args.desk.now in
     file_no_room (seen all d) c.args.name.now c.args.bytes.now (c.requires.whole.sound all).shown
     (sym (c.has_room.ensures all) ∙ c.if-not-has_room.true)
 
 pub returns-then-not-file_fits-clause-unread : goal.returns-then-not-file_fits-clause-unread
-unfolding seen brought StepsUnread
+unfolding seen brought StepsUnread step
 returns-then-not-file_fits-clause-unread g c = λ h all long.
     let d = kept c.args.desk.now in
     let bytes = c.args.bytes.now in
@@ -70,7 +70,7 @@ returns-then-not-file_fits-clause-unread g c = λ h all long.
     (length_in_look default_look bytes ∙ ap length (sym c.as_bytes-bytes.ensures.value))) ∙ c.if-not-file_fits.true)
 
 pub returns-clause-unread : goal.returns-clause-unread
-unfolding seen brought StepsUnread
+unfolding seen brought StepsUnread step
 returns-clause-unread g c = λ h all long.
     let d = kept c.args.desk.now in
     let bytes = c.as_bytes-bytes.result.now in

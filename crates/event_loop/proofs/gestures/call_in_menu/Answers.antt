@@ -1,5 +1,5 @@
 use Rattle.std.proofs.Common.{ℕ, true}
-use Rattle.desktop_definitions.specs.Limits.{first_version}
+use Rattle.command_table.specs.Versions.{version_number}
 use Rattle.desktop_definitions.specs.Desktop.{Desktop}
 use Rattle.desktop_definitions.specs.Gesture.{menu_position}
 use Rattle.desktop_definitions.specs.Commands.{called}
@@ -13,7 +13,7 @@ call-requires-clause-over g c =
 
 pub returns-clause-answered : goal.returns-clause-answered
 returns-clause-answered g c =
-    settles_after g.S.CharSource (λ (x : Desktop) (p : ℕ). called first_version x c.args.id true p)
+    settles_after g.S.CharSource (λ (x : Desktop) (p : ℕ). called (version_number c.args.version) x c.args.id true p)
     (λ x. menu_position x c.args.id c.args.x) c.in_ok-pos.pos _ _ c.call.new.source (kept c.args.desk.now)
     (kept c.call.new.desk) c.call.result c.in_ok-pos.ensures.reads c.in_ok-pos.ensures.exact c.call.ensures.answered
 

@@ -1,3 +1,4 @@
+use Rattle.command_table.specs.Versions.{version_number}
 use Rattle.desktop_definitions.specs.Desktop.{Desktop}
 use Rattle.desktop_definitions.specs.Gesture.{text_position}
 use Rattle.desk_core.specs.Mouse.{done_at}
@@ -12,7 +13,7 @@ point_position-requires-clause-over g c =
 
 pub returns-clause-answered : goal.returns-clause-answered
 returns-clause-answered g c =
-    settles_after g.S.CharSource (λ (x : Desktop) p. done_at x c.args.keys c.args.id p)
+    settles_after g.S.CharSource (λ (x : Desktop) p. done_at (version_number c.args.version) x c.args.keys c.args.id p)
     (λ x. text_position x c.args.id c.args.cell.0 c.args.cell.1) c.in_ok-pos.pos _ _ c.point_position.new.source
     (kept c.args.desk.now) (kept c.point_position.new.desk) c.point_position.result c.in_ok-pos.ensures.reads
     c.in_ok-pos.ensures.exact c.point_position.ensures.answered
@@ -24,6 +25,7 @@ returns-clause-uses g c =
 
 pub returns-clause-unread : goal.returns-clause-unread
 returns-clause-unread g c h =
-    unread_anywhere (kept c.args.desk.now) (kept c.point_position.new.desk) c.args.keys c.args.id c.in_ok-pos.pos
+    unread_anywhere (version_number c.args.version) (kept c.args.desk.now) (kept c.point_position.new.desk) c.args.keys
+    c.args.id c.in_ok-pos.pos
     (λ x. text_position x c.args.id c.args.cell.0 c.args.cell.1) c.point_position.result h
     (c.point_position.ensures.unread h)

@@ -7,10 +7,11 @@ use Rattle.event_loop.proofs.gestures.point_position.Goals as goal
 pub returns-in_default-clause-answered : goal.returns-in_default-clause-answered
 returns-in_default-clause-answered g c =
     let other = c.in_default in
-    rest_done c.requires.over (at_rest _ _ _ _ other.not-Left other.not-LeftMiddle other.not-LeftRight other.not-Middle)
+    rest_done c.requires.over (at_rest _ _ _ _ _ other.not-Left other.not-LeftMiddle other.not-LeftRight
+    other.not-Middle)
 
 pub returns-in_default-clause-unread : goal.returns-in_default-clause-unread
 returns-in_default-clause-unread g c h = λ all long.
     let other = c.in_default in
-    (rest_done {H = ⊤} (over_all c.requires.over all long) (at_rest _ _ _ _ other.not-Left other.not-LeftMiddle
+    (rest_done {H = ⊤} (over_all c.requires.over all long) (at_rest _ _ _ _ _ other.not-Left other.not-LeftMiddle
     other.not-LeftRight other.not-Middle)).exact tt

@@ -15,7 +15,7 @@ returns-in-Ok-clause-worked_out g c = record {
       (λ last. cc (c.in-Ok.ensures.worn.always (c.requires, last))));
   session = λ honest. renewed_after (session_of c.args.store.now) (session_of c.checkpoint.new.self)
       (λ last. cc (c.in-Ok.ensures.worn.always (c.requires, last)))
-      (c.in-Ok.ensures.ok.desktop honest) c.in-Ok.ensures.ok.epoch c.in-Ok.ensures.ok.events;
+      (c.in-Ok.ensures.ok.desktop honest) c.in-Ok.ensures.ok.layout c.in-Ok.ensures.ok.epoch c.in-Ok.ensures.ok.events;
   usable = c.in-Ok.ensures.ok.usable;
   premise = (c.in-Ok.ensures.device.already, c.in-Ok.ensures.device.still);
 }

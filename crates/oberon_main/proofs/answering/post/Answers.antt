@@ -17,7 +17,8 @@ returns-in-Ok-clause-worked_out g c = record {
   session = λ honest. reply_after (session_of c.args.store.now)
       (session_of c.post.new.self) c.args.event.now c.in-Ok.reply
       (λ worn. absurd (cc (c.in-Ok.ensures.worn.always ((c.requires, worn.0), worn.1))))
-      (c.in-Ok.ensures.ok.stepped honest) c.in-Ok.ensures.ok.more c.in-Ok.ensures.ok.anew;
+      (c.in-Ok.ensures.ok.stepped honest) c.in-Ok.ensures.ok.more c.in-Ok.ensures.ok.anew
+      c.in-Ok.ensures.ok.layout;
   usable = c.in-Ok.ensures.ok.usable;
   premise = (c.in-Ok.ensures.device.already, c.in-Ok.ensures.device.still);
 }

@@ -41,7 +41,8 @@ returns-clause-strip g c = λ h texts numbered line_told caret_told column.
     let viewers = map (as_read characters) c.args.shown.now in
     let id = c.in-Some.viewer.0 in let walk = c.walk_of-walk.result in
     c.in_ok-strip.ensures.strip h texts
-    (all_got (IsNumbered texts characters) c.args.shown.now walk.index walk.shown c.walk_of-walk.ensures.walk.there numbered)
+    (all_got (IsNumbered texts characters) c.args.shown.now walk.index walk.shown
+    c.walk_of-walk.ensures.walk.there numbered)
     line_told caret_told column
     ∙ (λ i. viewer_cell (as_read characters walk.shown) (c.width.ensures.value i)
     (c.place_of-place.ensures.bottom i) (c.place_of-place.ensures.top i) column c.args.y)

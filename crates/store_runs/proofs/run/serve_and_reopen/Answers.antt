@@ -47,8 +47,8 @@ loop-call-preserved g c =
       durable = on.durable;
       device = same_device g.D.Disk _ _ _ i.device on.device;
       calm = on.calm ∙ i.calm;
-      counts = counts_next calls k call room here (first.epoch, first.events) (old.epoch, old.events)
-          (new.epoch, new.events) i.counts on.counts;
+      counts = counts_next calls k call room here (first.layout, first.epoch, first.events)
+          (old.layout, old.epoch, old.events) (new.layout, new.epoch, new.events) i.counts on.counts;
       so_far = λ h. desktop_next calls k call room here first.desktop old.desktop new.desktop (i.so_far h)
           (on.desktop (i.device.still h));
       images = λ h. call_more (g.D.Disk.size first.disk) first.desktop calls g.D.Disk k call _
@@ -89,7 +89,8 @@ returns-clause-ok g c = IfOk-weaker c.open.result _ _ (λ reopened found.
           ∙ ap (λ cs. steps first.desktop (events_in cs)) all;
       counts = λ h.
           let same = c.reopening_law.ensures store reopened (i.device.still h) i.durable opened in
-          (λ j. (same.1 j, same.2 j)) ∙ i.counts ∙ ap (λ cs. all_counted cs (first.epoch, first.events)) all;
+          (λ j. (same.1 j, same.2 j, same.3 j)) ∙ i.counts
+          ∙ ap (λ cs. all_counted cs (first.layout, first.epoch, first.events)) all;
       durable = found.durable;
       settled = λ h. opened.settled (i.device.still h);
       usable = found.usable;

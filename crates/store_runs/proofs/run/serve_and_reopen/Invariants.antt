@@ -14,8 +14,8 @@ invariant-loop-call g l = record {
   durable : IsDurable g.D.Disk l.store;
   device : IsSameDevice g.D.Disk l.fn.store.disk l.store.disk;
   calm : g.D.Disk.failures l.store.disk ≡ g.D.Disk.failures l.fn.store.disk;
-  counts : (l.store.epoch, l.store.events)
-      ≡ all_counted (take l.call-index l.calls) (l.fn.store.epoch, l.fn.store.events);
+  counts : (l.store.layout, l.store.epoch, l.store.events)
+      ≡ all_counted (take l.call-index l.calls) (l.fn.store.layout, l.fn.store.epoch, l.fn.store.events);
   so_far : g.D.Disk.honest l.fn.store.disk
       → l.store.desktop ≡ steps l.fn.store.desktop (events_in (take l.call-index l.calls));
   images : g.D.Disk.honest l.fn.store.disk → LeavesOnly (g.D.Disk.trail l.fn.store.disk) (g.D.Disk.trail l.store.disk)

@@ -2,7 +2,7 @@ use Rattle.std.proofs.Common.{◌≡◌, ◌∙◌, ◌+◌, ◌-◌, ℕ, Some,
 use Rattle.viewer_tracks.specs.declared.edges.Edge.{Edge}
 use Rattle.viewer_tracks.specs.Viewers.{bottom_of}
 use Rattle.viewer_tracks.specs.Edges.{entries_from}
-use Rattle.viewer_tracks.specs.Heights.{with_height}
+use Rattle.viewer_tracks.specs.Heights.{as_entry}
 use Rattle.viewer_tracks.proofs.HeightLemmas.{entry_there, begins_below}
 use Rattle.viewer_tracks.proofs.edges.entry.Goals as goal
 
@@ -20,4 +20,4 @@ returns c =
     let value = c.bottom.ensures.value in
     let same : 0 + bottom_of (entries_from 0 c.args.edges.now) c.args.index ≡ c.bottom.result = omega (arith, value) in
     entry_there 0 c.args.edges.now c.args.index none c.requires.rising c.requires.in_bounds
-    ∙ ap (λ (n : ℕ). Some (with_height (edge.viewer, edge.top - n))) same
+    ∙ ap (λ (n : ℕ). Some (as_entry (edge.viewer, edge.top - n))) same

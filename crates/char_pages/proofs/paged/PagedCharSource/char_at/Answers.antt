@@ -1,4 +1,4 @@
-use Rattle.std.proofs.Common.{◌≤◌, ℕ, Result, Ok, Err, refl, arith}
+use Rattle.std.proofs.Common.{◌≤◌, ℕ, Result, Ok, Err, refl, sym, ◌∙◌, arith}
 use Rattle.sector_disk.specs.Trail.{now, CountsFault}
 use Rattle.sector_disk.proofs.Touching.{still_all}
 use Rattle.char_pages.specs.Ground.{none_more}
@@ -26,8 +26,9 @@ returns-clause-reads g c =
       stands = record {
         confined = r.kept;
         same_base = r.base;
-        same_saved = r.counted;
-        only_added = none_more _ _ r.rest;
+        before = λ not. sym r.renewed ∙ not;
+        same_saved = λ not. r.counted;
+        only_added = λ not. none_more _ _ r.rest;
         same_disk = refl;
         same_pages = refl;
       };

@@ -1,7 +1,7 @@
 use Rattle.std.proofs.Common.{◌≡◌, ◌-◌, ◌/◌, length, ◌∙◌, ap, arith}
 use Rattle.std.proofs.lemmas.List.{length-drop}
 use Rattle.sector_disk.specs.declared.disk.TheConstants.{SECTOR_BYTES}
-use Rattle.char_pages.proofs.Caching.{below_more}
+use Rattle.char_pages.proofs.Caching.{below_moved}
 use Rattle.char_pages.proofs.pages.Pages.settle.Goals as goal
 
 pub invariant_of-self-clause-few : goal.invariant_of-self-clause-few
@@ -14,5 +14,5 @@ invariant_of-self-clause-few c =
 pub invariant_of-self-clause-below : goal.invariant_of-self-clause-below
 invariant_of-self-clause-below c =
     let p = c.args.self.now in
-    below_more {many = p.saved / SECTOR_BYTES} {more = c.args.saved / SECTOR_BYTES} (omega (arith, c.requires.more))
-    p.below
+    below_moved {many = p.saved / SECTOR_BYTES} {more = c.args.saved / SECTOR_BYTES} (omega (arith, c.requires.more))
+    (λ some. c.requires.place (omega (arith, some))) p.below

@@ -1,8 +1,10 @@
 use Rattle.std.proofs.Common.{◌+◌, ◌-◌, subst, refl, arith, false}
 use Rattle.sector_disk.specs.Trail.{now}
-use Rattle.desk_slots.specs.Live.{shown}
+use Rattle.store_layout.specs.declared.layout.TheConstants.{LAYOUT}
+use Rattle.command_table.specs.Versions.{version_number}
+use Rattle.desk_slots.specs.Live.{seen_live}
 use Rattle.desk_slots.proofs.Settling.{kept_shows}
-use Rattle.desk_journal.proofs.Storing.{renewed_kept}
+use Rattle.desk_journal.proofs.Storing.{goes_by, renewed_kept}
 use Rattle.desk_journal.specs.Checkpointing.{IsRenewed}
 use Rattle.desk_journal.specs.View.{StoreView}
 use Rattle.desk_journal.proofs.store.Store.checkpoint.Goals as goal
@@ -18,8 +20,9 @@ invariant_of-self-2 g c = λ _.
       r.live,
       r.told was.4,
       λ honest. (
-        renewed_kept g.D.Disk s.slot s.epoch s.events s.disk c.renew.new.disk s.desktop c.renew.new.desktop
-            _ was r.device (omega (arith, was.0)) refl c.saved.ensures r.renewed honest,
+        renewed_kept g.D.Disk s.slot (version_number s.version) s.epoch s.events s.disk c.renew.new.disk s.desktop
+            c.renew.new.desktop
+            _ was r.device (omega (arith, was.0)) refl (goes_by c.next_area.ensures.area c.saved.ensures) r.renewed honest,
         r.named (r.device.already honest),
       ),
     )
@@ -30,11 +33,12 @@ returns-clause-ok g c =
     let was = c.self.invariant c.if-self.false in
     let r = c.in_ok-renew.ensures in
     let after = c.renew.new in
-    let live = shown (now (g.D.Disk.trail after.disk)).reads after.desktop in
+    let live = seen_live (now (g.D.Disk.trail after.disk)).reads after.desktop in
     let store : StoreView g.row.D.Denot = record {
       disk = after.disk;
       desktop = live;
       kept = after.desktop.desktop;
+      layout = LAYOUT;
       epoch = s.epoch + 1;
       events = 0;
       must_reopen = false;
@@ -42,11 +46,14 @@ returns-clause-ok g c =
     subst (λ old. IsRenewed g.D.Disk old store) c.self.view_is (record {
       desktop = r.shown;
       kept = r.kept;
+      layout = refl;
       epoch = refl;
       events = refl;
       durable = λ honest.
-          kept_shows (g.D.Disk.size after.disk) (g.D.Disk.trail after.disk) (1 - s.slot) (s.epoch + 1) 0 live
-          (renewed_kept g.D.Disk s.slot s.epoch s.events s.disk after.disk s.desktop after.desktop _ was r.device
-          (omega (arith, was.0)) refl c.saved.ensures r.renewed honest);
+          kept_shows (g.D.Disk.size after.disk) (g.D.Disk.trail after.disk) (1 - s.slot) LAYOUT (s.epoch + 1) 0 live
+          (renewed_kept g.D.Disk s.slot (version_number s.version) s.epoch s.events s.disk after.disk s.desktop
+          after.desktop
+          _ was r.device
+          (omega (arith, was.0)) refl (goes_by c.next_area.ensures.area c.saved.ensures) r.renewed honest);
       usable = refl;
     })

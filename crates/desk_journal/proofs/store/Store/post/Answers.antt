@@ -1,28 +1,69 @@
 use Rattle.std.proofs.Common.{subst}
-use Rattle.desk_journal.specs.Posting.{LeavesEither, IsStarved}
+use Rattle.std.proofs.lemmas.Result.{err_from_is_err_and}
+use Rattle.desk_journal.specs.Checkpointing.{IsCheckpointed}
+use Rattle.desk_journal.specs.Posting.{LeavesEither, IsPosted, IsStarved, HasRoom}
+use Rattle.desk_journal.proofs.Between.{done_first, no_need, put_posts, stopped_first}
 use Rattle.desk_journal.proofs.Storing.{renewed_then, renewed_starved}
 use Rattle.desk_journal.proofs.store.Store.post.Goals as goal
-use Rattle.desk_journal.proofs.store.Store.post.Goals.{then-self-ge-JOURNAL_EVENTS+in_ok-checkpoint}
-use Rattle.desk_journal.proofs.store.Store.post.Goals.{else-self-ge-JOURNAL_EVENTS}
+use Rattle.desk_journal.proofs.store.Store.post.Goals.{then-needs+in_ok-checkpoint}
+use Rattle.desk_journal.proofs.store.Store.post.Goals.{else-needs}
 
 pub returns-clause-any_moment : goal.returns-clause-any_moment
-returns-clause-any_moment g c = elim c.if-self-ge-JOURNAL_EVENTS.branch [
-  | then-self-ge-JOURNAL_EVENTS+in_ok-checkpoint w ↦
+returns-clause-any_moment g c = elim c.if-needs.branch [
+  | then-needs+in_ok-checkpoint w ↦
       let first = w.checkpoint.ensures in
       renewed_then g.D.Disk c.args.event.now c.args.self.now w.checkpoint.new.self c.put.new.self
       first.any_moment w.in_ok-checkpoint.ensures.ok first.device
       (subst (λ mid. LeavesEither g.D.Disk c.args.event.now mid c.put.new.self) w.self-is c.put.ensures.any_moment)
-  | else-self-ge-JOURNAL_EVENTS w ↦
+  | else-needs w ↦
       subst (λ mid. LeavesEither g.D.Disk c.args.event.now mid c.put.new.self) w.self-is c.put.ensures.any_moment
 ]
 
 pub returns-clause-memory : goal.returns-clause-memory
-returns-clause-memory g c = λ refused. elim c.if-self-ge-JOURNAL_EVENTS.branch [
-  | then-self-ge-JOURNAL_EVENTS+in_ok-checkpoint w ↦
+returns-clause-memory g c = λ refused. elim c.if-needs.branch [
+  | then-needs+in_ok-checkpoint w ↦
       let first = w.checkpoint.ensures in
       renewed_starved g.D.Disk c.args.event.now c.args.self.now w.checkpoint.new.self c.put.new.self
       first.any_moment w.in_ok-checkpoint.ensures.ok first.device
       (subst (λ mid. IsStarved g.D.Disk mid c.put.new.self) w.self-is (c.put.ensures.memory refused))
-  | else-self-ge-JOURNAL_EVENTS w ↦
+  | else-needs w ↦
       subst (λ mid. IsStarved g.D.Disk mid c.put.new.self) w.self-is (c.put.ensures.memory refused)
 ]
+
+pub returns-clause-first : goal.returns-clause-first
+returns-clause-first g c = λ usable due. elim c.if-needs.branch [
+  | then-needs+in_ok-checkpoint w ↦
+      let first = w.checkpoint.ensures in
+      done_first g.D.Disk c.args.event.now c.put.result c.args.self.now w.checkpoint.new.self c.put.new.self
+      w.in_ok-checkpoint.was (record {
+        any_moment = first.any_moment;
+        ok = first.ok;
+        fault = first.fault;
+        worn = first.worn;
+        reopen = first.reopen;
+        faults = first.faults;
+        device = first.device;
+        within = first.within;
+      })
+      (subst (λ mid. HasRoom mid → IsPosted g.D.Disk c.args.event.now c.put.result mid c.put.new.self) w.self-is
+      (λ room. put_posts g.D.Disk c.args.event.now c.put.result _ c.put.new.self room c.put.ensures.any_moment
+      c.put.ensures.ok c.put.ensures.memory c.put.ensures.fault c.put.ensures.reopen c.put.ensures.faults
+      c.put.ensures.device c.put.ensures.within))
+  | else-needs w ↦ absurd (no_need c.args.self.now (c.needs.ensures.room w.if-needs.false) due)
+]
+
+pub returns-in_err-checkpoint-clause-first : goal.returns-in_err-checkpoint-clause-first
+returns-in_err-checkpoint-clause-first g c = λ usable due.
+    let first = c.checkpoint.ensures in
+    let p = err_from_is_err_and c.from_residual.result c.from_residual.ensures.1 in
+    stopped_first g.D.Disk c.args.event.now c.from_residual.result c.args.self.now c.checkpoint.new.self
+    c.in_err-checkpoint.was (record {
+      any_moment = first.any_moment;
+      ok = first.ok;
+      fault = first.fault;
+      worn = first.worn;
+      reopen = first.reopen;
+      faults = first.faults;
+      device = first.device;
+      within = first.within;
+    }) (cc (p.1, p.2))

@@ -1,8 +1,9 @@
-use Rattle.std.proofs.Common.{◌≡◌, ◌<◌, ◌+◌, Ok, ap, sym, subst, refl, arith, false}
-use Rattle.store_layout.specs.declared.layout.TheConstants.{JOURNAL_EVENTS}
+use Rattle.std.proofs.Common.{◌≡◌, inl, inr, ◌<◌, ◌+◌, Ok, ap, sym, subst, refl, arith, false}
+use Rattle.store_layout.specs.declared.layout.TheConstants.{JOURNAL_EVENTS, LAYOUT}
+use Rattle.command_table.specs.Versions.{version_number}
 use Rattle.store_layout.specs.Kept.{IsKept}
 use Rattle.sector_disk.specs.Trail.{now}
-use Rattle.desk_slots.specs.Live.{shown}
+use Rattle.desk_slots.specs.Live.{seen_live}
 use Rattle.desk_journal.specs.Posting.{IsAcknowledged}
 use Rattle.desk_journal.specs.View.{StoreView}
 use Rattle.desk_slots.proofs.Settling.{kept_shows}
@@ -13,13 +14,14 @@ returns-clause-ok g c =
     let s = c.self.inside in
     let r = c.in_ok-reply.ensures in
     let after = c.record.new in
-    let live = shown (now (g.D.Disk.trail after.disk)).reads after.desktop in
-    let room : s.events < JOURNAL_EVENTS = subst (λ v. v.must_reopen ≡ false → v.events < JOURNAL_EVENTS)
-    (sym c.self.view_is) c.requires c.if-self.false in
+    let live = seen_live (now (g.D.Disk.trail after.disk)).reads after.desktop in
+    let room : (s.events < JOURNAL_EVENTS) × (version_number s.version ≡ LAYOUT) = subst (λ v. v.must_reopen ≡ false
+    → (v.events < JOURNAL_EVENTS) × (v.layout ≡ LAYOUT)) (sym c.self.view_is) c.requires c.if-self.false in
     let store : StoreView g.row.D.Denot = record {
       disk = after.disk;
       desktop = live;
       kept = after.desktop.desktop;
+      layout = version_number s.version;
       epoch = s.epoch;
       events = s.events + 1;
       must_reopen = false;
@@ -28,11 +30,22 @@ returns-clause-ok g c =
       stepped = r.stepped;
       durable = λ honest.
           let before = r.device.already honest in
-          kept_shows (g.D.Disk.size after.disk) (g.D.Disk.trail after.disk) s.slot s.epoch (s.events + 1) live
-          (subst (λ n. IsKept n (g.D.Disk.trail after.disk) s.slot s.epoch (s.events + 1) live)
-          (sym r.device.as_large) (r.added before s.epoch ((c.self.invariant c.if-self.false).5 before).0));
+          kept_shows (g.D.Disk.size after.disk) (g.D.Disk.trail after.disk) s.slot (version_number s.version) s.epoch
+          (s.events + 1) live
+          (subst (λ n. IsKept n (g.D.Disk.trail after.disk) s.slot (version_number s.version) s.epoch (s.events + 1)
+          live)
+          (sym r.device.as_large)
+          (subst (λ v. IsKept (g.D.Disk.size s.disk) (g.D.Disk.trail after.disk) s.slot v s.epoch (s.events + 1) live)
+          (sym room.1) (r.added before s.epoch
+          (subst (λ v. IsKept (g.D.Disk.size s.disk) (g.D.Disk.trail s.disk) s.slot v s.epoch s.events
+          (seen_live (now (g.D.Disk.trail s.disk)).reads s.desktop)) room.1
+          ((c.self.invariant c.if-self.false).5 before).0))));
       more = λ _. (refl, refl);
-      anew = λ full. absurd (let never : s.events < s.events = omega (arith, full, room) in omega (arith, never));
+      anew = λ due. elim due [
+        | inl full ↦ absurd (let never : s.events < s.events = omega (arith, full, room.0) in omega (arith, never))
+        | inr other ↦ absurd (other room.1)
+      ];
+      layout = room.1;
       usable = refl;
       known = r.replies;
       refusal = λ code is. r.refusal code (ap (λ x. Ok x) is);

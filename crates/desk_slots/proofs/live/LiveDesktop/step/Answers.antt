@@ -1,9 +1,11 @@
-use Rattle.std.proofs.Common.{ap, sym, subst}
+use Rattle.std.proofs.Common.{◌∙◌, ap, sym, subst}
 use Rattle.sector_disk.specs.Trail.{now}
+use Rattle.command_table.specs.Versions.{version_number}
 use Rattle.desktop_definitions.specs.Desktop.{Desktop}
 use Rattle.desktop_definitions.specs.Viewers.{text_of}
 use Rattle.screen_cells.specs.Lines.{AreLinesOf}
 use Rattle.desk_slots.specs.Live.{characters_of}
+use Rattle.desk_slots.proofs.Settled.{over_all}
 use Rattle.desk_slots.proofs.live.LiveDesktop.step.Goals as goal
 
 pub returns-clause-told : goal.returns-clause-told
@@ -14,6 +16,14 @@ returns-clause-told g c = record {
       let content = (now (g.D.Disk.trail c.args.disk.now)).reads in
       subst (λ (d : Desktop). AreLinesOf (text_of d) c.forget_stale.new.lines)
       (sym (ap (λ x. x.0) (c.in_ok-step_over.ensures.done before)))
-      (c.forget_stale.ensures (characters_of content c.args.self.now) (c.requires.live.over content)
-      (c.requires.told.lines before));
+      (c.forget_stale.ensures (version_number c.args.version) (characters_of content c.args.self.now)
+      (c.requires.live.over content) (c.requires.told.lines before));
+}
+
+pub returns-clause-live : goal.returns-clause-live
+returns-clause-live g c = record {
+  over = over_all c.step_over.new.pages c.step_over.new.desktop (now (g.D.Disk.trail c.step_over.new.disk)).reads
+      c.in_ok-step_over.ensures.over;
+  low = c.requires.live.low;
+  based = c.step_over.ensures.base ∙ c.requires.live.based;
 }

@@ -1,17 +1,17 @@
 use Rattle.std.proofs.Common.{ap, sym, ◌∙◌}
 use Rattle.desktop_definitions.specs.Seen.{seen}
-use Rattle.desktop_definitions.specs.Step.{step}
+use Rattle.desktop_definitions.specs.Step.{step_in}
 use Rattle.desktop_definitions.specs.Viewers.{text_of}
 use Rattle.stale_texts.specs.Stale.{is_stale, stale_of}
 use Rattle.stale_texts.specs.Kept.{others_stay, stale_seen}
 use Rattle.event_loop.proofs.desktop.Desktop.forget_stale.Goals as goal
 
 pub returns : goal.returns
-returns c = λ characters over told.
+returns c = λ version characters over told.
     let d = c.args.self.now in
     let event = c.args.event.now in
     let named = stale_seen characters d event ∙ ap (λ e. stale_of e event) (sym c.self.view_is)
     ∙ sym c.stale_of.ensures in
-    c.forget.ensures (text_of (seen characters d)) (text_of (step (seen characters d) event).0)
-    (λ n apart. others_stay (seen characters d) event n (over.whole.sound characters)
+    c.forget.ensures (text_of (seen characters d)) (text_of (step_in version (seen characters d) event).0)
+    (λ n apart. others_stay version (seen characters d) event n (over.whole.sound characters)
     (ap (λ stale. is_stale stale n) named ∙ apart)) told

@@ -27,7 +27,7 @@ use denote.Triple.Spec.{Meets, triple_of}
 use denote.Triple.Table.{entered}
 use denote.Triple.Walked.{says, Stays, stay_ref, walk_of, AllGo, Goes-ref, Walks, ends_at, walked, walk_Meets}
 use Rattle.sector_disk.specs.declared.calls.CallList.{CallList}
-use Rattle.sector_disk.specs.declared.call.Call.TheVariants.{Sync}
+use Rattle.sector_disk.specs.declared.call.DiskCall.TheVariants.{Sync}
 use Rattle.sector_disk.specs.contracts.calls.CallList as T
 use Rattle.sector_disk.specs.contracts.calls.CallList.sync.Key.{name as #it}
 use Rattle.sector_disk.specs.contracts.calls.CallList.sync as it

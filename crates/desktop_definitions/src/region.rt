@@ -2,7 +2,7 @@
 
 /// Where a cell of the display lies: in a filler, or in a part of the viewer of that id.
 #[derive(Clone, Copy, Debug, PartialEq, Eq)]
-pub enum Area {
+pub enum Region {
     /// No viewer has the cell.
     Filler,
     /// The top row of a viewer.

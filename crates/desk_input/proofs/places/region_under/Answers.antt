@@ -1,18 +1,18 @@
 use Rattle.std.proofs.Common.{◌∙◌, ◌+◌, ap, if◌then◌else◌}
 use Rattle.std.specs.Prelude.{◌==◌}
-use Rattle.desktop_definitions.specs.declared.area.Area.TheVariants.{Menu, Bar, Body}
-use Rattle.desktop_definitions.specs.Gesture.{area_at, part_of}
+use Rattle.desktop_definitions.specs.declared.region.Region.TheVariants.{Menu, Bar, Body}
+use Rattle.desktop_definitions.specs.Gesture.{region_at, part_of}
 use Rattle.desk_core.specs.Kept.{kept}
-use Rattle.desk_input.proofs.places.area_at.Goals as goal
+use Rattle.desk_input.proofs.places.region_under.Goals as goal
 
-pub returns-in-None-clause-area : goal.returns-in-None-clause-area
-unfolding area_at
-returns-in-None-clause-area c =
+pub returns-in-None-clause-region : goal.returns-in-None-clause-region
+unfolding region_at
+returns-in-None-clause-region c =
     ap (part_of (kept c.args.desk.now) c.args.x c.args.y) c.in-None.ensures.seen
 
-pub returns-in-Some-clause-area : goal.returns-in-Some-clause-area
-unfolding area_at
-returns-in-Some-clause-area c =
+pub returns-in-Some-clause-region : goal.returns-in-Some-clause-region
+unfolding region_at
+returns-in-Some-clause-region c =
     let place = c.place_of-place.ensures in
     let v = c.in-Some.viewer.0 in
     c.part_of.ensures

@@ -1,0 +1,79 @@
+//! The command that gives up the characters that no text has any more.
+ghost use Rattle.std.specs.Prelude.{IfOk, Ok};
+ghost use Rattle.sector_disk.specs.Faults.{FailsAs};
+ghost use Rattle.char_file.specs.Source.{OnlyReads};
+ghost use Rattle.desktop_definitions.specs.Effects.{collected};
+ghost use Rattle.desktop_definitions.specs.Sound.{IsOver};
+ghost use Rattle.desktop_laws.specs.Rewriting.{IsRewritten};
+ghost use Rattle.desk_core.specs.Kept.{kept};
+ghost use Rattle.desk_core.specs.Row.{Settles, Uses};
+ghost use Rattle.desk_core.specs.Stops.{IsStop};
+
+use crate::rewriting::{put_buffer, put_files, put_texts};
+use char_file::CharSource;
+use desk_core::desk::Desk;
+use desk_core::files::Files;
+use desk_core::stop::Stop;
+use desktop_definitions::Reply;
+use std::alloc::Global;
+use std::collections::BTreeMap;
+use std::vec::Vec;
+use text_core::{Buffer, Text};
+
+/// All texts, files and buffers of a desktop, written anew, and the characters that they name.
+#[derive(Drop)]
+struct WrittenAnew {
+    texts: BTreeMap<u16, Text>,
+    files: Files,
+    copied: Buffer,
+    deleted: Buffer,
+    made: Vec<u8>,
+}
+
+/// All texts, files and buffers written anew; the desktop stays. NoMemory where an allocation is refused, Fault where a
+/// character could not be read.
+fn rewritten<S: CharSource>(desk: &Desk, alloc: Global, source: &mut S) -> Result<WrittenAnew, Stop>
+    requires { IsOver (S.characters source.old) (kept desk.now) }
+    ensures rewritten { IfOk result (λ new. IsRewritten (S.honest source.old) (S.characters source.old)
+        (kept desk.now) new.made.items new.texts.entries new.files.entries new.copied new.deleted) }
+    ensures reads { OnlyReads S.characters S.failures S.honest S.same_ground source.old source.new }
+    ensures faults { FailsAs Stop.Fault IsStop result (S.failures source.old) (S.failures source.new) }
+{
+    let mut made = Vec::new(alloc);
+    let texts = put_texts(alloc, &desk.texts, &mut made, source)?;
+    let files = put_files(alloc, &desk.files, &mut made, source)?;
+    let copied = put_buffer(alloc, &desk.copied, &mut made, source)?;
+    let deleted = put_buffer(alloc, &desk.deleted, &mut made, source)?;
+    Ok(WrittenAnew {
+        texts,
+        files,
+        copied,
+        deleted,
+        made,
+    })
+}
+
+/// The characters are given up that no text, file or buffer has: all others are written anew, and are the only ones
+/// that count as written. It is never refused. NoMemory where an allocation is refused, Fault where a character could
+/// not be read.
+pub fn collect<S: CharSource>(desk: &mut Desk, alloc: Global, source: &mut S) -> Result<Reply, Stop>
+    requires { IsOver (S.characters source.old) (kept desk.old) }
+    ensures answered { IfOk result (Settles S.CharSource (λ d. Ok (collected d))
+        source.old source.new (kept desk.old) (kept desk.new)) }
+    ensures uses { Uses S.CharSource result source.old source.new }
+{
+    let WrittenAnew {
+        texts,
+        files,
+        copied,
+        deleted,
+        made,
+    } = rewritten(desk, alloc, source)?;
+    desk.written = made.len() as u32;
+    desk.texts = texts;
+    desk.files = files;
+    desk.copied = copied;
+    desk.deleted = deleted;
+    source.renew(made);
+    Ok(Reply::Done)
+}

@@ -1,0 +1,106 @@
+-- A post where a checkpoint comes first, by the store between.
+use Rattle.std.proofs.Common.{◌≡◌, ◌⊎◌, inl, inr, ◌<◌, ℕ, Result, Ok, Err, refl, sym, ◌∙◌, ap, subst, arith}
+use Rattle.std.specs.Prelude.{⊤, OnOk, IfOk, IfErr, IsErrOf}
+use Rattle.std.proofs.lemmas.Result.{IfErr-weaker, IfErr-at_err, IfOk-at_ok}
+use Rattle.sector_disk.specs.declared.disk.Disk.{Ghosts}
+use Rattle.sector_disk.specs.Faults.{FailsAs}
+use Rattle.event_bytes.specs.declared.event.Event.{Event}
+use Rattle.desktop_definitions.specs.declared.reply.Reply.{Reply}
+use Rattle.store_layout.specs.declared.layout.TheConstants.{JOURNAL_EVENTS, LAYOUT}
+use Rattle.desk_slots.specs.declared.error.Error.{Error}
+use Rattle.desk_slots.specs.declared.error.Error.TheVariants.{NoMemory, Fault, MustReopen, Worn}
+use Rattle.desk_slots.specs.Device.{IsSameDevice, StaysWithin}
+use Rattle.desk_slots.specs.Errors.{OfLook, OfPost}
+use Rattle.desk_journal.specs.Checkpointing.{IsCheckpointed, IsRenewed}
+use Rattle.desk_journal.specs.Migrating.{ChecksFirst}
+use Rattle.desk_journal.specs.Posting.{HasRoom, IsAcknowledged, IsBroken, IsLast, IsPosted, IsStarved, IsUnusable}
+use Rattle.desk_journal.specs.Posting.{LeavesEither, Needs, TurnsAway}
+use Rattle.desk_journal.specs.View.{StoreView}
+
+-- an error of a post to a store with room is one of any post
+widened : (e : Error) → OfLook e → OfPost e
+widened e named = elim named [
+  | inl memory ↦ inl memory
+  | inr (inl fault) ↦ inr (inl fault)
+  | inr (inr reopen) ↦ inr (inr (inl reopen))
+]
+
+-- and none is Worn
+not_worn : OfLook Worn → ⊥
+not_worn named = elim named [
+  | inl memory ↦ (let wrong : ⊥ = cc memory in wrong)
+  | inr (inl fault) ↦ (let wrong : ⊥ = cc fault in wrong)
+  | inr (inr reopen) ↦ (let wrong : ⊥ = cc reopen in wrong)
+]
+
+-- a store with room has no checkpoint due
+pub no_need : {D : Type 0} (store : StoreView D) → HasRoom store → Needs store → ⊥
+no_need store room need = elim need [
+  | inl full ↦ omega (arith, full, room.0)
+  | inr other ↦ other room.1
+]
+
+-- a new journal has room
+pub new_room : {D : Type 0} (d : Ghosts D) (old new : StoreView D) → IsRenewed d old new → HasRoom new
+new_room d old new renewed = (omega (arith, renewed.events), renewed.layout)
+
+module _ {D : Type 0} (d : Ghosts D) (event : Event) (answer : Result Reply Error) where
+  -- what the rest of a post says is what a post to a store with room says
+  pub put_posts : (mid new : StoreView D) → HasRoom mid → LeavesEither d event mid new
+      → IfOk answer (λ reply. IsAcknowledged d event reply mid new) → (IsErrOf answer NoMemory → IsStarved d mid new)
+      → (IsErrOf answer Fault → IsBroken new) → IsUnusable answer mid new
+      → FailsAs Fault OfLook answer (d.failures mid.disk) (d.failures new.disk) → IsSameDevice d mid.disk new.disk
+      → StaysWithin d mid.disk new.disk → IsPosted d event answer mid new
+  put_posts mid new room any_moment ok memory fault reopen faults device within = record {
+    any_moment = any_moment;
+    ok = ok;
+    memory = memory;
+    fault = fault;
+    worn = record {
+      only = λ is. absurd (never is);
+      always = λ both. absurd (no_need mid room both.1);
+      unchanged = λ is. absurd (never is);
+    };
+    reopen = reopen;
+    faults = record {
+      rose = faults.rose;
+      calm = faults.calm;
+      errors = IfErr-weaker answer OfLook OfPost widened faults.errors;
+    };
+    device = device;
+    within = within;
+  }
+    where
+      never : IsErrOf answer Worn → ⊥
+      never is = not_worn (IfErr-at_err OfLook is faults.errors)
+
+  -- the checkpoint is done, and the rest of the post follows
+  pub done_first : (old mid new : StoreView D) {outcome : Result ⊤ Error} {unit : ⊤} → outcome ≡ Ok unit
+      → IsCheckpointed d outcome old mid → (HasRoom mid → IsPosted d event answer mid new)
+      → ChecksFirst d event answer old new
+  done_first old mid new {unit = unit} done before behind = record {
+    between = mid;
+    outcome = Ok unit;
+    before = checked;
+    room = has;
+    behind = behind has;
+    refused = tt;
+  }
+    where
+      checked : IsCheckpointed d (Ok unit) old mid
+      checked = subst (λ (r : Result ⊤ Error). IsCheckpointed d r old mid) done before
+
+      has : HasRoom mid
+      has = new_room d old mid checked.ok
+
+  -- it isn't, and the post ends with it
+  pub stopped_first : (old new : StoreView D) {outcome : Result ⊤ Error} {error : Error} → outcome ≡ Err error
+      → IsCheckpointed d outcome old new → answer ≡ Err error → ChecksFirst d event answer old new
+  stopped_first old new {error = error} stopped before is = record {
+    between = new;
+    outcome = Err error;
+    before = subst (λ (r : Result ⊤ Error). IsCheckpointed d r old new) stopped before;
+    room = tt;
+    behind = tt;
+    refused = (is, refl);
+  }
