@@ -16,7 +16,6 @@ mod region;
 mod reply;
 mod viewer;
 
-pub use region::Region;
 pub use call::Call;
 pub use entry::{Entry, MenuName};
 pub use laws::constants_are_defined;
@@ -24,5 +23,6 @@ pub use limits::{
     COLOURS, FONTS, GREATEST_OFFSET, LEAST_OFFSET, MOST_FILES, MOST_HELD, MOST_PATTERN,
     MOST_WRITTEN,
 };
+pub use region::Region;
 pub use reply::Reply;
 pub use viewer::{Caret, Kept, Selection, Viewer};
