@@ -483,7 +483,7 @@ fn no_second_read(rt: HostRuntime) -> Result<(), Fail> {
     for number in [1, 2] {
         let mut none = KeptLines::new(alloc);
         assert!(rt; printed_over(&rt, alloc, &mut refusing, &mut none)?.is_none());
-        lines.forget_text(number);
+        lines.forget_text(number, 0);
         assert!(rt; printed_over(&rt, alloc, &mut refusing, &mut lines)?.is_none());
     }
     Ok(())

@@ -25,7 +25,7 @@ ghost use Rattle.desktop_definitions.specs.Viewers.{text_of};
 ghost use Rattle.screen_cells.specs.Lines.{AreLinesOf};
 
 use crate::events::act;
-use crate::stale::{forget, stale_of};
+use crate::stale::{forget, stale_from, stale_of};
 use char_file::{CharSource, Fault};
 use command_table::Version;
 use desk_core::desk::{Desk, empty_desk};
@@ -164,7 +164,11 @@ impl Desktop {
             → AreLinesOf (text_of (seen characters self.now)) lines.old
             → AreLinesOf (text_of (step_in version (seen characters self.now) event.now).0) lines.new }
     {
-        forget(lines, stale_of(&self.desk, event));
+        forget(
+            lines,
+            stale_of(&self.desk, event),
+            stale_from(&self.desk, event),
+        );
     }
 
     /// Paints what the desktop shows: its viewers, with the caret and what is selected, and the marker. `lines` has

@@ -1,5 +1,5 @@
 //! Which texts an event may change, and lines that are given up for it.
-ghost use Rattle.std.specs.Prelude.{◌≡◌, ◌&&◌, ℕ, List, Option, false, if◌then◌else◌};
+ghost use Rattle.std.specs.Prelude.{◌≡◌, ◌&&◌, ℕ, List, Option, false, if◌then◌else◌, take};
 ghost use Rattle.piece_ring.specs.Text.{Text as AText};
 ghost use Rattle.desktop_definitions.specs.declared.region.Region.TheVariants.{Filler, Menu, Body};
 ghost use Rattle.desktop_definitions.specs.declared.viewer.Viewer.{Viewer as AViewer};
@@ -9,7 +9,7 @@ ghost use Rattle.desktop_definitions.specs.Viewers.{newest};
 ghost use Rattle.desktop_definitions.specs.Gesture.{is_on_display, region_at};
 ghost use Rattle.stale_texts.specs.declared.stale.Stale.TheVariants.{Nothing};
 ghost use Rattle.stale_texts.specs.Stale.{is_stale, stale_in, stale_at_caret, stale_selected, stale_by_key};
-ghost use Rattle.stale_texts.specs.Stale.{stale_by_gesture, stale_of};
+ghost use Rattle.stale_texts.specs.Stale.{stale_by_gesture, stale_of, stale_from, position_or_zero};
 ghost use Rattle.screen_cells.specs.Lines.{AreLinesOf};
 ghost use Rattle.desk_core.specs.Kept.{kept};
 
@@ -160,14 +160,37 @@ fn stale_selected(viewers: &ViewerTable, selection: Option<Selection>) -> Stale
     }
 }
 
-/// Gives up the lines of these texts. Those that are left are so of all texts of which the others are as before.
-pub fn forget(lines: &mut KeptLines, stale: Stale)
+/// From which position on the event may change a text.
+#[tactic(auto, unfolding(stale_texts::specs::Stale::stale_from))]
+pub fn stale_from(desk: &Desk, event: &Event) -> u32
+    ensures { result ≡ stale_from (kept desk.now) event.now }
+{
+    match event {
+        Event::Typed(_) => position_or_zero(desk.caret),
+        _ => 0,
+    }
+}
+
+/// Where the caret stands.
+fn position_or_zero(caret: Option<Caret>) -> u32
+    ensures { result ≡ position_or_zero caret }
+{
+    match caret {
+        None => 0,
+        Some(caret) => caret.position,
+    }
+}
+
+/// Gives up the lines of these texts that may change where a text changes from that position on. Those that are left
+/// are so of all texts of which the others are as before, and all have the same characters before the position.
+pub fn forget(lines: &mut KeptLines, stale: Stale, from: u32)
     ensures { (before after : ℕ → AText ℕ) → ((n : ℕ) → is_stale stale n ≡ false → after n ≡ before n)
+        → ((n : ℕ) → take from (after n) ≡ take from (before n))
         → AreLinesOf before lines.old → AreLinesOf after lines.new }
 {
     match stale {
         Stale::Nothing => (),
-        Stale::Text(number) => lines.forget_text(number),
+        Stale::Text(number) => lines.forget_text(number, from),
         Stale::All => lines.forget_all(),
     }
 }

@@ -7,3 +7,4 @@ pub mod Painting
 pub mod Strips
 pub mod Walking
 pub mod Keeping
+pub mod Fronts

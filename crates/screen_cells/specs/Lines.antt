@@ -1,10 +1,11 @@
 -- Lines that are kept from one screen to the next, and what is true of them. Texts go by number: `texts` tells the text
 -- of each number.
-use Rattle.std.specs.Prelude.{◌≡◌, ◌≤◌, ℕ, List, length, Option, None, Some, IfSome}
+use Rattle.std.specs.Prelude.{◌≡◌, ◌≤◌, ◌<◌, ◌⊎◌, ℕ, List, length, map, Option, None, Some, IfSome}
 use Rattle.std.specs.List.{All}
 use Rattle.piece_ring.specs.Text.{Text}
 use Rattle.piece_ring.specs.Flat.{flat}
 use Rattle.readers_scanners.specs.Reading.{contents}
+use Rattle.text_frames.specs.Cells.{row_of}
 use Rattle.text_frames.specs.Row.{row_cells}
 use Rattle.screen_pictures.specs.Picture.{caret_at}
 use Rattle.viewer_tracks.specs.declared.display.TheConstants.{ROWS}
@@ -38,6 +39,16 @@ pub record AreLinesOf (texts : ℕ → Text ℕ) (lines : KeptLines) : Type 0 wh
 pub record IsNumbered (texts : ℕ → Text ℕ) (characters : List ℕ) (s : Shown) : Type 0 where
   pub menu : texts s.menu_text ≡ contents characters (flat s.menu.now)
   pub main : texts s.frame.now.text ≡ contents characters (flat s.main.now)
+
+-- ---- rows above a position
+
+-- the row is that of the position in a frame that shows the text from org on, or 0, above which there is none
+abbrev pub IsAbove : Text ℕ → ℕ → ℕ → ℕ → Type 0
+IsAbove text p org row = (row ≡ 0) ⊎ ((org ≤ p) × (p ≤ length text) × (row ≡ row_of (map (λ c. c.0) text) org p))
+
+-- the rows above that one are the same in both texts, however wide they are
+abbrev pub HasSameRows : Text ℕ → Text ℕ → ℕ → ℕ → Type 0
+HasSameRows before after org row = (w r : ℕ) → r < row → row_cells w after org r ≡ row_cells w before org r
 
 -- ---- what is kept
 

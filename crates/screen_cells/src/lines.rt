@@ -1,5 +1,6 @@
 //! Lines that are kept from one screen to the next.
-ghost use Rattle.std.specs.Prelude.{◌≡◌, ◌==◌, ◌≤◌, ◌<◌, ℕ, List, length, All, Some, IfOk, IfSome, IfNone, OnOk, IsOk};
+ghost use Rattle.std.specs.Prelude.{◌≡◌, ◌==◌, ◌&&◌, ◌≤◌, ◌<◌, nat_lt, ℕ, List, length, take, All, Some};
+ghost use Rattle.std.specs.Prelude.{IfOk, IfSome, IfNone, OnOk, IsOk};
 ghost use Rattle.piece_ring.specs.Flat.{flat};
 ghost use Rattle.piece_ring.specs.Text.{Text as AText};
 ghost use Rattle.readers_scanners.specs.Words.{CountsFault, OnlyReads};
@@ -7,6 +8,7 @@ ghost use Rattle.text_frames.specs.Row.{row_cells};
 ghost use Rattle.screen_pictures.specs.Picture.{caret_at};
 ghost use Rattle.screen_cells.specs.Shown.{IsShowable, as_read};
 ghost use Rattle.screen_cells.specs.Lines.{IsSlotOf, IsCaretOf, AreLinesOf, IsNumbered, HasLine, HasCaret, AreReady};
+ghost use Rattle.screen_cells.specs.Lines.{IsAbove, HasSameRows};
 ghost use Rattle.screen_cells.specs.Walks.{IsWalk};
 
 use crate::shown::Shown;
@@ -96,13 +98,17 @@ impl KeptLines {
         self.caret = None;
     }
 
-    /// Gives up the lines of the text of that number. What is left is so of all texts that are as before but for it.
-    pub fn forget_text(&mut self, number: u16)
+    /// Gives up the lines of the text of that number that may change where it changes from that position on: all but
+    /// those in rows above the caret, where the one that was painted last stood before that position. What is left is
+    /// so of all texts that are as before but for it, while it has the same characters before the position.
+    pub fn forget_text(&mut self, number: u16, position: u32)
         ensures { (before after : ℕ → AText ℕ) → ((n : ℕ) → ¬ (n ≡ number) → after n ≡ before n)
+            → take position (after number) ≡ take position (before number)
             → AreLinesOf before self.old → AreLinesOf after self.new }
     {
-        forget_in(&mut self.user, number);
-        forget_in(&mut self.system, number);
+        let (org, row) = rows_above(self.caret, number, position);
+        forget_in(&mut self.user, number, org, row);
+        forget_in(&mut self.system, number, org, row);
         forget_caret(&mut self.caret, number);
     }
 }
@@ -119,23 +125,59 @@ fn fill(slots: &mut Vec<Slot>) -> Result<(), AllocError>
     Ok(())
 }
 
-/// Gives up the lines of a text.
-fn forget_in(slots: &mut Vec<Slot>, number: u16)
-    ensures { (before after : ℕ → AText ℕ) → ((n : ℕ) → ¬ (n ≡ number) → after n ≡ before n)
-        → All (IsSlotOf before) slots.old.items → All (IsSlotOf after) slots.new.items }
+/// From where on the frame shows the text of that number whose caret was painted last, and in which of its rows that
+/// caret stands. It is row 0 where that wasn't the caret before that position.
+fn rows_above(caret: Option<KeptCaret>, number: u16, position: u32) -> (u32, u8)
+    ensures { (texts : ℕ → AText ℕ) → IfSome caret (IsCaretOf texts)
+        → IsAbove (texts number) position result.0 result.1 }
 {
-    for at in 0..slots.len() {
-        forget_slot(&mut slots[at], number);
+    match caret {
+        Some(kept) if kept.key.text == number && kept.key.position == position => {
+            (kept.key.org, row_of_cell(kept.cell))
+        }
+        _ => (0, 0),
     }
 }
 
-/// Gives up a line, where it is one of that text.
-fn forget_slot(slot: &mut Slot, number: u16)
-    ensures { (before after : ℕ → AText ℕ) → ((n : ℕ) → ¬ (n ≡ number) → after n ≡ before n)
-        → IsSlotOf before slot.old → IsSlotOf after slot.new }
+/// The row of a cell, or row 0 where there is none.
+fn row_of_cell(cell: Option<(u8, u8)>) -> u8
+    ensures some { IfSome cell (λ c. result ≡ c.1) }
+    ensures none { IfNone cell (result ≡ 0) }
 {
-    if is_of(slot, number) {
+    match cell {
+        None => 0,
+        Some((_, row)) => row,
+    }
+}
+
+/// Gives up the lines of a text, but for those above that row of a frame that shows it from `org` on.
+fn forget_in(slots: &mut Vec<Slot>, number: u16, org: u32, row: u8)
+    ensures { (before after : ℕ → AText ℕ) → ((n : ℕ) → ¬ (n ≡ number) → after n ≡ before n)
+        → HasSameRows (before number) (after number) org row
+        → All (IsSlotOf before) slots.old.items → All (IsSlotOf after) slots.new.items }
+{
+    for at in 0..slots.len() {
+        forget_slot(&mut slots[at], number, org, row);
+    }
+}
+
+/// Gives up a line, where it is one of that text, and not above that row of a frame that shows it from `org` on.
+fn forget_slot(slot: &mut Slot, number: u16, org: u32, row: u8)
+    ensures { (before after : ℕ → AText ℕ) → ((n : ℕ) → ¬ (n ≡ number) → after n ≡ before n)
+        → HasSameRows (before number) (after number) org row → IsSlotOf before slot.old → IsSlotOf after slot.new }
+{
+    if is_of(slot, number) && !is_above(slot, org, row) {
         *slot = None;
+    }
+}
+
+/// Whether a line is kept of a row above that one of a frame that shows its text from `org` on.
+fn is_above(slot: &Slot, org: u32, row: u8) -> bool
+    ensures { IfSome slot.now (λ line. result ≡ ((line.key.org == org) && nat_lt line.key.row row)) }
+{
+    match slot {
+        None => false,
+        Some(line) => line.key.org == org && line.key.row < row,
     }
 }
 

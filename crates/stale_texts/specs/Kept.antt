@@ -1,5 +1,5 @@
 -- What an event leaves of the texts that it doesn't change.
-use Rattle.std.specs.Prelude.{◌≡◌, ◌≢◌, ℕ, suc, ◌+◌, ◌-◌, ◌==◌, nat_lt, ◌&&◌, Bool, true, false, cond, if◌then◌else◌}
+use Rattle.std.specs.Prelude.{◌≡◌, ℕ, ◌+◌, ◌-◌, ◌==◌, nat_lt, ◌&&◌, Bool, true, false, cond, if◌then◌else◌}
 use Rattle.std.specs.Prelude.{List, [], ◌∷◌, length, Option, Some, None, Result, Ok, Err, IfOk}
 use Rattle.std.specs.Map.{set_value}
 use Rattle.std.proofs.Common.{refl, sym, ap, subst, ◌∙◌, arith}
@@ -29,13 +29,13 @@ use Rattle.text_frames.specs.Cells.{position_at, row_of}
 use Rattle.desktop_definitions.specs.declared.reply.Reply.{Reply}
 use Rattle.desktop_definitions.specs.declared.reply.Reply.TheVariants.{Done, No}
 use Rattle.desktop_definitions.specs.Sound.{IsSound}
-use Rattle.desktop_definitions.specs.Tables.{Texts, numbered, with_values, has_room}
+use Rattle.desktop_definitions.specs.Tables.{Texts, numbered, has_room}
 use Rattle.desktop_definitions.specs.Desktop.{Desktop, KeptDesktop}
 use Rattle.desktop_definitions.specs.Seen.{seen}
 use Rattle.desktop_definitions.specs.Viewers.{viewer_of, newest, text_of, with_org, with_selection, unselected}
 use Rattle.desktop_definitions.specs.Viewers.{selected, main_of}
 use Rattle.desktop_definitions.specs.Needs.{needs, unless}
-use Rattle.desktop_definitions.specs.Change.{edited, followed, after_change, insertion, deletion, looks_set, showing}
+use Rattle.desktop_definitions.specs.Change.{edited, after_change, insertion, deletion, looks_set, showing}
 use Rattle.desktop_definitions.specs.Change.{bytes_of, in_look, caret_shown, put_in, put_at_caret, cut_out}
 use Rattle.desktop_definitions.specs.Changed.{texts_shown}
 use Rattle.desktop_definitions.specs.Keys.{typed, pressed, without_character_before, with_copied, escaped}
@@ -48,8 +48,7 @@ use Rattle.desktop_laws.specs.ChangeLaws.{followed_shown, org_shown}
 use Rattle.desktop_laws.specs.PlaceLaws.{at_is}
 use Rattle.desktop_laws.specs.RowLaws.{shown_rest}
 use Rattle.desktop_laws.specs.StepLaws.{AllShown, all_stay}
-use Rattle.stale_texts.specs.declared.stale.Stale.{Stale}
-use Rattle.stale_texts.specs.declared.stale.Stale.TheVariants.{Nothing, Text as One, All}
+use Rattle.stale_texts.specs.declared.stale.Stale.TheVariants.{Nothing}
 use Rattle.stale_texts.specs.Stale.{is_stale, stale_by_key, stale_by_gesture, stale_of, stale_at_caret, stale_selected}
 
 -- ---- a table

@@ -1,2 +1,3 @@
 pub mod Stale
 pub mod Kept
+pub mod Front

@@ -5,12 +5,12 @@ use Rattle.event_bytes.specs.declared.event.Event.TheVariants.{Typed, Key as Pre
 use Rattle.event_bytes.specs.declared.keys.Key.{Key}
 use Rattle.event_bytes.specs.declared.keys.Key.TheVariants.{Back, Copy, Paste, Cut, Escape}
 use Rattle.event_bytes.specs.declared.keys.Keys.{Keys}
-use Rattle.event_bytes.specs.declared.keys.Keys.TheVariants.{Left, LeftMiddle, LeftRight, Middle}
-use Rattle.event_bytes.specs.declared.keys.Keys.TheVariants.{Right, RightLeft, RightMiddle}
+use Rattle.event_bytes.specs.declared.keys.Keys.TheVariants.{LeftMiddle, LeftRight, Middle}
+use Rattle.event_bytes.specs.declared.keys.Keys.TheVariants.{RightLeft, RightMiddle}
 use Rattle.desktop_definitions.specs.declared.viewer.Caret.{Caret}
 use Rattle.desktop_definitions.specs.declared.viewer.Selection.{Selection}
 use Rattle.desktop_definitions.specs.declared.region.Region.{Region}
-use Rattle.desktop_definitions.specs.declared.region.Region.TheVariants.{Filler, Menu, Bar, Body}
+use Rattle.desktop_definitions.specs.declared.region.Region.TheVariants.{Filler, Menu, Body}
 use Rattle.desktop_definitions.specs.Desktop.{DesktopOf}
 use Rattle.desktop_definitions.specs.declared.viewer.Viewer.{Viewer}
 use Rattle.desktop_definitions.specs.Viewers.{viewer_or_none, newest}
@@ -32,6 +32,11 @@ stale_in viewers v = Text (viewer_or_none viewers v).main
 abbrev pub stale_at_caret : List (ℕ × Viewer) → Option Caret → Stale
 stale_at_caret viewers None = Nothing
 stale_at_caret viewers (Some c) = stale_in viewers c.viewer
+
+-- where the caret stands
+abbrev pub position_or_zero : Option Caret → ℕ
+position_or_zero None = 0
+position_or_zero (Some c) = c.position
 
 -- the text of a selection
 abbrev pub stale_selected : List (ℕ × Viewer) → Option Selection → Stale
@@ -67,3 +72,11 @@ stale_of d (Point keys x0 y0 x1 y1) =
     if is_on_display x0 y0 && is_on_display x1 y1
     then stale_by_gesture d.viewers d.caret (newest d) (region_at d x0 y0) keys else Nothing
 stale_of d (File name bytes) = Nothing
+
+-- from where on an event changes a text: what is typed comes in at the caret; all else may change it from its beginning
+unfoldable pub stale_from : {T : Type 0} → DesktopOf T → Event → ℕ
+stale_from d (Typed bytes) = position_or_zero d.caret
+stale_from d (Pressed key) = 0
+stale_from d (Mark x y) = 0
+stale_from d (Point keys x0 y0 x1 y1) = 0
+stale_from d (File name bytes) = 0

@@ -1,8 +1,9 @@
-use Rattle.std.proofs.Common.{ap, sym, ◌∙◌}
+use Rattle.std.proofs.Common.{◌≡◌, ℕ, ap, subst, sym, take, ◌∙◌}
 use Rattle.desktop_definitions.specs.Seen.{seen}
 use Rattle.desktop_definitions.specs.Step.{step_in}
 use Rattle.desktop_definitions.specs.Viewers.{text_of}
-use Rattle.stale_texts.specs.Stale.{is_stale, stale_of}
+use Rattle.stale_texts.specs.Stale.{is_stale, stale_from, stale_of}
+use Rattle.stale_texts.specs.Front.{fronts_stay, from_seen}
 use Rattle.stale_texts.specs.Kept.{others_stay, stale_seen}
 use Rattle.event_loop.proofs.desktop.Desktop.forget_stale.Goals as goal
 
@@ -12,6 +13,11 @@ returns c = λ version characters over told.
     let event = c.args.event.now in
     let named = stale_seen characters d event ∙ ap (λ e. stale_of e event) (sym c.self.view_is)
     ∙ sym c.stale_of.ensures in
+    let from = from_seen characters d event ∙ ap (λ e. stale_from e event) (sym c.self.view_is)
+    ∙ sym c.stale_from.ensures in
     c.forget.ensures (text_of (seen characters d)) (text_of (step_in version (seen characters d) event).0)
     (λ n apart. others_stay version (seen characters d) event n (over.whole.sound characters)
-    (ap (λ stale. is_stale stale n) named ∙ apart)) told
+    (ap (λ stale. is_stale stale n) named ∙ apart))
+    (λ n. subst (λ k. take k (text_of (step_in version (seen characters d) event).0 n)
+    ≡ take k (text_of (seen characters d) n)) from
+    (fronts_stay version (seen characters d) event n (over.whole.sound characters))) told
