@@ -25,7 +25,7 @@ of fresh; clear 1; say 'no gate is open'
 of fresh; put 1 OPENGATF; say 'a gate that is almost open'
 of fresh; put 1 x 8; say 'other bytes behind an open gate'
 
-for version in 0 3 9; do
+for version in 0 4 9; do
     of fresh; put 2 "\\000\\000\\000\\$version"; say "version $version"
 done
 of fresh; put 2 '\000\000\000\000' 4; say 'epoch 0'
@@ -36,18 +36,18 @@ of fresh; clear 2; say 'a head of zeros'
 of fresh; put 2 '\000\000\000\002' 16; say 'an area that there is not'
 of fresh; put 2 x 20; say 'other bytes behind a head'
 
-for length in 32 34 0; do
-    of fresh; put 2 "\\$length" 15; say "image length 0$length (octal; it is 033)"
+for length in 35 37 0; do
+    of fresh; put 2 "\\$length" 15; say "image length 0$length (octal; it is 036)"
 done
 of fresh; put 2 '\000\000\000\001' 8; say 'one character written, and no tail'
-of fresh; put 2 '\000\000\000\001' 8; put 2 '\034' 15
-put 1029 '\101\000\017\100\000\000\000\001\000'; put 1029 '\000' 27; say 'one character written, and a tail'
+of fresh; put 2 '\000\000\000\001' 8; put 2 '\037' 15
+put 1029 '\101\000\017\100\000\000\000\001\000'; put 1029 '\000\001\000\001\000\000' 25; say 'one character written, and a tail'
 echo list | "$OBERON" play desk.disk
-for byte in '0 005' '1 020' '2 200' '3 040' '4 002' '6 000' '26 002'; do
+for byte in '0 005' '1 020' '2 200' '3 040' '4 002' '6 000' '25 000' '29 002'; do
     of fresh; put 1029 "\\${byte#* }" "${byte% *}"; say "byte ${byte% *} of the image is 0${byte#* }"
 done
 of fresh; put 1029 '\077' 2; say 'offset -1'
-of fresh; put 1029 '\001' 27; say 'a byte behind the image'
+of fresh; put 1029 '\001' 30; say 'a byte behind the image'
 
 of fresh; put 5 OPENGATE; say 'an open gate before a body of zeros'
 of fresh; put 5 OPENGATE; put 6 '\004\011\000\000\000\000'; say 'keys that there are not'

@@ -1,8 +1,8 @@
-# A file that ends within a sector reads as zeros from there on: of the image in sector 1029 the first 7 bytes must be
-# there, and the others are zeros.
+# A file that ends within a sector reads as zeros from there on: of the image in sector 1029 the first 28 bytes must
+# be there, and the others are zeros.
 "$OBERON" format desk.disk
 echo 'file A.Text a' | "$OBERON" play desk.disk
-for bytes in 8 7 6 0; do
+for bytes in 29 28 27 0; do
     head -c $((1029 * 1024 + bytes)) desk.disk > short.disk
     "$OBERON" check short.disk
     echo "$?"

@@ -1,4 +1,4 @@
-# Bytes of an image are changed: those of the empty desktop, which has 27 of them, and those of a desktop that has some
+# Bytes of an image are changed: those of the empty desktop, which has 30 of them, and those of a desktop that has some
 # of everything. What an image says must fit together, so that most changes are damages; others make another desktop.
 "$OBERON" format fresh.disk
 # Puts $2 (hexadecimal) at byte $1 of the image.
@@ -12,11 +12,14 @@ put 1 10
 put 2 80
 put 4 02
 put 6 00
-put 26 02
+put 25 00
+put 25 02
+put 25 09
+put 29 02
 put 2 3f
-put 27 01
+put 30 01
 echo 'each bit of the empty desktop, and of a byte behind it'
-"$TESTS/each_byte" fresh.disk 1029 0 28
+"$TESTS/each_byte" fresh.disk 1029 0 31
 
 cp fresh.disk full.disk
 {

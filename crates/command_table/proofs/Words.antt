@@ -14,7 +14,7 @@ use Rattle.command_table.specs.declared.command.Command.TheVariants.{SystemDirec
 use Rattle.command_table.specs.declared.command.Command.TheVariants.{SystemSetFont, SystemSetColor, SystemSetOffset}
 use Rattle.command_table.specs.declared.command.Command.TheVariants.{EditChangeFont, EditChangeColor}
 use Rattle.command_table.specs.declared.command.Command.TheVariants.{EditChangeOffset, EditStore, EditSearch}
-use Rattle.command_table.specs.declared.command.Command.TheVariants.{EditRecall, SystemCollect}
+use Rattle.command_table.specs.declared.command.Command.TheVariants.{EditRecall, SystemCollect, SystemGrow}
 use Rattle.command_table.specs.Commands.{word_of, since, commands, command_named, OneWordEach}
 
 found_passes : {X : Type 0} (test : X → Bool) (xs : List X) (x : X) → find test xs ≡ Some x → test x ≡ true
@@ -62,6 +62,7 @@ found_word version EditStore h = first_found _ _ _ (lets_in 1 version h)
 found_word version EditSearch h = first_found _ _ _ (lets_in 1 version h)
 found_word version EditRecall h = first_found _ _ _ (lets_in 1 version h)
 found_word version SystemCollect h = first_found _ _ _ (lets_in 2 version h)
+found_word version SystemGrow h = first_found _ _ _ (lets_in 3 version h)
 
 own_word : (version : ℕ) (word : List ℕ) (command : Command) → command_named version word ≡ Some command
     → (word ≡ word_of command) × (since command ≤ version)
@@ -97,6 +98,7 @@ short_word EditStore = omega arith
 short_word EditSearch = omega arith
 short_word EditRecall = omega arith
 short_word SystemCollect = omega arith
+short_word SystemGrow = omega arith
 
 -- a longer word calls nothing
 pub long_word : (version : ℕ) (word : List ℕ) → 18 < length word → command_named version word ≡ None

@@ -9,7 +9,7 @@ use Rattle.command_table.specs.declared.command.Command.TheVariants.{SystemDirec
 use Rattle.command_table.specs.declared.command.Command.TheVariants.{SystemSetFont, SystemSetColor, SystemSetOffset}
 use Rattle.command_table.specs.declared.command.Command.TheVariants.{EditChangeFont, EditChangeColor}
 use Rattle.command_table.specs.declared.command.Command.TheVariants.{EditChangeOffset, EditStore, EditSearch}
-use Rattle.command_table.specs.declared.command.Command.TheVariants.{EditRecall, SystemCollect}
+use Rattle.command_table.specs.declared.command.Command.TheVariants.{EditRecall, SystemCollect, SystemGrow}
 
 -- the word that calls a command
 abbrev pub word_of : Command → List ℕ
@@ -32,6 +32,7 @@ word_of EditStore = codes "Edit.Store"
 word_of EditSearch = codes "Edit.Search"
 word_of EditRecall = codes "Edit.Recall"
 word_of SystemCollect = codes "System.Collect"
+word_of SystemGrow = codes "System.Grow"
 
 -- every command
 unfoldable pub commands : List Command
@@ -39,11 +40,12 @@ commands =
     EditOpen ∷ SystemOpen ∷ SystemOpenLog ∷ SystemClose ∷ SystemRecall ∷ SystemCopy ∷ SystemClear ∷ SystemDirectory ∷
     SystemDeleteFiles ∷
     SystemSetFont ∷ SystemSetColor ∷ SystemSetOffset ∷ EditChangeFont ∷ EditChangeColor ∷ EditChangeOffset ∷ EditStore
-    ∷ EditSearch ∷ EditRecall ∷ SystemCollect ∷ []
+    ∷ EditSearch ∷ EditRecall ∷ SystemCollect ∷ SystemGrow ∷ []
 
 -- the first version of the table that has the command
 abbrev pub since : Command → ℕ
 since SystemCollect = 2
+since SystemGrow = 3
 since command = 1
 
 -- the command that a word calls in a version of the table

@@ -46,10 +46,12 @@ pub enum Command {
     EditRecall,
     /// Gives up the characters that no text has any more.
     SystemCollect,
+    /// Opens a viewer on the same text that has a whole column, over the track that was shown there.
+    SystemGrow,
 }
 
 /// The number of commands.
-const COUNT: usize = 19;
+const COUNT: usize = 20;
 
 /// Every command.
 const COMMANDS: [Command; COUNT] = [
@@ -72,6 +74,7 @@ const COMMANDS: [Command; COUNT] = [
     Command::EditSearch,
     Command::EditRecall,
     Command::SystemCollect,
+    Command::SystemGrow,
 ];
 
 impl Command {
@@ -90,6 +93,7 @@ impl Command {
     {
         match self {
             Command::SystemCollect => 2,
+            Command::SystemGrow => 3,
             _ => 1,
         }
     }
@@ -118,6 +122,7 @@ impl Command {
             Command::EditSearch => b"Edit.Search",
             Command::EditRecall => b"Edit.Recall",
             Command::SystemCollect => b"System.Collect",
+            Command::SystemGrow => b"System.Grow",
         }
     }
 }

@@ -10,10 +10,12 @@ pub enum Version {
     V1,
     /// With the command that gives up characters that no text has any more.
     V2,
+    /// With the command that covers a track by a new one.
+    V3,
 }
 
 /// The newest version.
-pub const NEWEST: Version = Version::V2;
+pub const NEWEST: Version = Version::V3;
 
 impl Version {
     /// The number of the version, from 1 on.
@@ -23,6 +25,7 @@ impl Version {
         match self {
             Version::V1 => 1,
             Version::V2 => 2,
+            Version::V3 => 3,
         }
     }
 
@@ -35,6 +38,9 @@ impl Version {
         }
         if number == 2 {
             return Some(Version::V2);
+        }
+        if number == 3 {
+            return Some(Version::V3);
         }
         None
     }

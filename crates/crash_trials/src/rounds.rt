@@ -4,6 +4,7 @@ use crate::random::Random;
 use crate::scene::Scene;
 use crate::search::Search;
 use crate::stores::{after, aged, fresh};
+use command_table::Version;
 use sector_disk::MemoryDisk;
 use std::alloc::{AllocError, Global};
 
@@ -13,7 +14,7 @@ const JOURNAL: u32 = 256;
 /// A tool text, a text in a viewer with a selection that has a look of its own, the log, and the marker.
 const DESK: [&[u8]; 13] = [
     b"file System.Tool Edit.Open A.Text%0dSystem.Recall%0dEdit.Recall%0dSystem.OpenLog%0dEdit.ChangeColor 3%0d\
-Edit.Open D.Text%0dEdit.Search%0dfox%0dSystem.Collect%0d\n",
+Edit.Open D.Text%0dEdit.Search%0dfox%0dSystem.Collect%0dSystem.Grow%0d\n",
     b"point m 60 31 60 31\n",
     b"point m 52 30 52 30\n",
     b"point l 1 30 1 30\n",
@@ -40,7 +41,7 @@ const DOCUMENTS: [&[u8]; 4] = [
 const LINE: &[u8] = b"a fox jumps on dogs%0d";
 
 /// Events that may follow.
-const LINES: [&[u8]; 28] = [
+const LINES: [&[u8]; 30] = [
     b"type abc\n",
     b"type x%0d\n",
     b"type the quick brown fox jumps over the lazy dog, and the dog over the fox and the fox over it again%0d\n",
@@ -67,6 +68,9 @@ const LINES: [&[u8]; 28] = [
     b"point m 52 22 52 22\n",
     b"point m 0 20 0 20\n",
     b"point m 47 31 47 31\n",
+    // System.Grow, and the close of the upper viewer on the left.
+    b"point m 52 21 52 21\n",
+    b"point m 12 31 12 31\n",
     b"file B.Text other text\n",
     b"file C.Text the quick brown fox jumps over the lazy dog, and the dog over the fox and the fox over it%0d\n",
     b"file A.Text\n",
@@ -97,6 +101,15 @@ fn line(random: &mut Random) -> &'static [u8] {
     LINES[random.below(LINES.len() as u32) as usize]
 }
 
+/// Adds the events that make a desk and documents.
+fn add_desk_and_documents(script: &mut Vec<u8>) -> Result<(), AllocError> {
+    add_desk(script)?;
+    for document in DOCUMENTS {
+        add_document(script, document)?;
+    }
+    Ok(())
+}
+
 /// Adds so many random events.
 fn add_lines(script: &mut Vec<u8>, random: &mut Random, count: u32) -> Result<(), AllocError> {
     for _ in 0..count {
@@ -109,10 +122,7 @@ fn add_lines(script: &mut Vec<u8>, random: &mut Random, count: u32) -> Result<()
 /// gates and events of an earlier use.
 fn paged(alloc: Global, random: &mut Random) -> Result<MemoryDisk, AllocError> {
     let mut script = Vec::new(alloc);
-    add_desk(&mut script)?;
-    for document in DOCUMENTS {
-        add_document(&mut script, document)?;
-    }
+    add_desk_and_documents(&mut script)?;
     script.extend_from_slice(CHECKPOINT)?;
     add_lines(&mut script, random, 12)?;
     script.extend_from_slice(CHECKPOINT)?;
@@ -168,34 +178,43 @@ fn full_journal(
     search.try_scene(alloc, &scene)
 }
 
-/// Stops the event and the checkpoint that make a store of the first version one of the newest.
-fn migrations(alloc: Global, search: &mut Search, disk: &MemoryDisk) -> Result<(), AllocError> {
-    let old = aged(alloc, disk)?;
+/// A store that has all its events in the journal of slot 0.
+fn begun(alloc: Global, random: &mut Random) -> Result<MemoryDisk, AllocError> {
+    let mut script = Vec::new(alloc);
+    add_desk_and_documents(&mut script)?;
+    add_lines(&mut script, random, 12)?;
+    after(alloc, &fresh(alloc)?, &script)
+}
+
+/// Stops the event and the checkpoint that make a store of an older version one of the newest.
+fn migrations(alloc: Global, search: &mut Search, version: Version) -> Result<(), AllocError> {
+    let disk = begun(alloc, &mut search.random)?;
+    let old = aged(alloc, &disk, version)?;
     posts(
         alloc,
         search,
         old,
-        "an event at a store of the first version",
+        "an event at a store of an older version",
     )?;
-    let old = aged(alloc, disk)?;
+    let old = aged(alloc, &disk, version)?;
     checkpoint(
         alloc,
         search,
         old,
-        "a checkpoint of a store of the first version",
+        "a checkpoint of a store of an older version",
     )?;
     Ok(())
 }
 
-/// One round: events and checkpoints in both directions, stores of the first version, and a full journal in one slot or
+/// One round: events and checkpoints in both directions, stores of the older versions, and a full journal in one slot or
 /// the other.
 fn round(alloc: Global, search: &mut Search, is_odd: bool) -> Result<(), AllocError> {
     let mut disk = paged(alloc, &mut search.random)?;
     disk = posts(alloc, search, disk, "an event in slot 0")?;
-    migrations(alloc, search, &disk)?;
+    migrations(alloc, search, Version::V1)?;
     disk = checkpoint(alloc, search, disk, "a checkpoint from slot 0 to slot 1")?;
     disk = posts(alloc, search, disk, "an event in slot 1")?;
-    migrations(alloc, search, &disk)?;
+    migrations(alloc, search, Version::V2)?;
     disk = checkpoint(alloc, search, disk, "a checkpoint from slot 1 to slot 0")?;
     if is_odd {
         return full_journal(alloc, search, disk, "an event at a full journal in slot 0");

@@ -1,8 +1,10 @@
 //! Stores in memory, by the scripts that are played over them.
 
+use command_table::Version;
 use oberon_main::{CountedReader, CountedWriter, STORE_SECTORS, Store, play, refuse};
 use sector_disk::{Disk, Fault, Fuse, MemoryDisk};
 use std::alloc::{AllocError, Global};
+use store_layout::{JOURNAL_EVENTS, body, gate};
 
 /// What a store is asked that must be as it was: its files, its viewers, and its screen.
 const LOOKS: &[u8] =
@@ -43,30 +45,38 @@ pub fn after(alloc: Global, disk: &MemoryDisk, script: &[u8]) -> Result<MemoryDi
     disk.crash(alloc, &[])
 }
 
-/// The head of a slot as one of the first version, which has the same image and journal, where it has one of the newest
-/// and its characters stand in area 0.
-fn age_head(disk: &mut MemoryDisk, head: u32) -> Result<(), Fault> {
-    if head >= disk.sectors() {
+/// Copies a sector that begins with a byte other than zero, as gates that are open and bodies do.
+fn copy_sector(from: &mut MemoryDisk, to: &mut MemoryDisk, n: u32) -> Result<(), Fault> {
+    if n >= from.sectors() || n >= to.sectors() {
         return Err(Fault);
     }
     let mut bytes = [0; 1024];
-    disk.read(head, &mut bytes)?;
-    if bytes[3] == 2 && bytes[19] == 0 {
-        bytes[3] = 1;
-        disk.write(head, &bytes)?;
+    from.read(n, &mut bytes)?;
+    if bytes[0] != 0 {
+        to.write(n, &bytes)?;
     }
-    disk.sync()
+    Ok(())
 }
 
-/// The store as one of the first version, as far as its characters stand in area 0.
-pub fn aged(alloc: Global, disk: &MemoryDisk) -> Result<MemoryDisk, AllocError> {
-    let mut old = disk.crash(alloc, &[])?;
-    for head in [2, 4] {
-        if age_head(&mut old, head).is_err() {
-            return Err(AllocError);
-        }
+/// Copies the journal of slot 0.
+fn copy_journal(from: &mut MemoryDisk, to: &mut MemoryDisk) -> Result<(), Fault> {
+    for k in 0..JOURNAL_EVENTS {
+        copy_sector(from, to, gate(0, k))?;
+        copy_sector(from, to, body(0, k))?;
     }
-    Ok(old)
+    to.sync()
+}
+
+/// A store of that version whose journal has the events of the journal in slot 0 of a disk.
+pub fn aged(alloc: Global, disk: &MemoryDisk, version: Version) -> Result<MemoryDisk, AllocError> {
+    let mut new = disk.crash(alloc, &[])?;
+    let Ok(mut old) = Store::format_as(MemoryDisk::new(alloc, STORE_SECTORS)?, version) else {
+        return Err(AllocError);
+    };
+    if copy_journal(&mut new, &mut old).is_err() {
+        return Err(AllocError);
+    }
+    old.crash(alloc, &[])
 }
 
 /// What a store shows; or why there is none.

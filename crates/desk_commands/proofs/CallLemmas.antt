@@ -1,5 +1,5 @@
 -- What commands do, by what they take.
-use Rattle.std.specs.Prelude.{◌≡◌, ℕ, ℤ, Bool, List, Option, Some, None, Result, Ok, Err}
+use Rattle.std.specs.Prelude.{◌≡◌, ℕ, Bool, List, Option, Some, None, Result, Ok, Err}
 use Rattle.std.specs.Option.{ok_or}
 use Rattle.std.proofs.Common.{refl, sym, ap, ◌∙◌}
 use Rattle.sector_disk.specs.Faults.{OneOf}
@@ -20,7 +20,7 @@ use Rattle.desktop_definitions.specs.Sound.{IsOver}
 use Rattle.desktop_definitions.specs.Outcome.{reply_codes}
 use Rattle.desktop_definitions.specs.Call.{text_called, meant, number_in, value_of, name_of, number_of}
 use Rattle.desktop_definitions.specs.Commands.{command_at, commanded, called}
-use Rattle.desk_commands.specs.Calls.{done_with_name, done_with_number, done_with_viewer}
+use Rattle.desk_commands.specs.Calls.{done_with_viewer}
 use Rattle.desk_core.specs.Row.{Settles}
 use Rattle.desk_commands.proofs.ReadFirst.{Reads, refused_after}
 

@@ -1,6 +1,6 @@
 -- What a source of characters is after some calls of rows, where none failed, and lines of the log that are made one
 -- from each file.
-use Rattle.std.proofs.Common.{◌≡◌, ℕ, length, map, refl, ap, subst, ◌∙◌, arith}
+use Rattle.std.proofs.Common.{◌≡◌, ℕ, length, map, refl, subst, ◌∙◌, arith}
 use Rattle.std.proofs.Common.{List, [], ◌∷◌}
 use Rattle.std.specs.Prelude.{Result, IsErrOf}
 use Rattle.sector_disk.specs.Faults.{FailsAs}

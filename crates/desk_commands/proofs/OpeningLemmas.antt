@@ -1,7 +1,7 @@
 -- What an opening counts, and where its viewer comes into the table.
 use Rattle.std.proofs.Common.{◌≡◌, ℕ, suc, ◌+◌, ◌≤◌, Bool, true, false, cond, not, ◌==◌, nat_lt, List, []}
 use Rattle.std.proofs.Common.{◌∷◌}
-use Rattle.std.proofs.Common.{length, Option, Some, None, refl, ap, ◌∙◌, arith, ⊎_elim, ◌||◌}
+use Rattle.std.proofs.Common.{length, Option, Some, None, refl, ap, subst, ◌∙◌, arith, ⊎_elim, ◌||◌}
 use Rattle.std.specs.Prelude.{insert, if◌then◌else◌}
 use Rattle.std.specs.List.{position_or_len}
 use Rattle.std.specs.Map.{lookup}
@@ -17,9 +17,10 @@ use Rattle.desktop_definitions.specs.declared.viewer.Viewer.{Viewer}
 use Rattle.desktop_definitions.specs.Tables.{Texts, lengths}
 use Rattle.desktop_laws.specs.TableLaws.{lengths_seen, length_seen_text}
 use Rattle.desktop_definitions.specs.Desktop.{KeptDesktop, held}
-use Rattle.desktop_definitions.specs.Opening.{dropped}
+use Rattle.desktop_definitions.specs.Opening.{new_id, with_viewer, dropped}
 use Rattle.desktop_definitions.specs.Seen.{seen, seen_table}
 use Rattle.desktop_definitions.specs.Sound.{IsKeptWhole}
+use Rattle.desktop_laws.specs.OpeningDone.{CanOpen}
 use Rattle.desktop_laws.specs.LeftLaws.{kept_left, still_shown, held_left, left_fewer}
 use Rattle.desktop_definitions.specs.Viewers.{without_viewer}
 use Rattle.desktop_definitions.specs.Limits.{most_held}
@@ -100,6 +101,12 @@ not_taken columns after v taken fresh sum =
     ⊎_elim (λ some. absurd (fresh some)) (λ no. omega (arith, no)) (cases_lt 0 (times_placed v columns)) in
     let other : times_meant v (Some (v + 1)) ≡ 0 = rw (ne_eqb (v + 1) v (λ same. absurd (omega (arith, same)))) refl in
     omega (arith, sum, none, other)
+
+-- it stands nowhere once it has joined
+pub stands_nowhere : (d joined : KeptDesktop) (menu : List Piece) (main org id : ℕ) → CanOpen d
+    → joined ≡ with_viewer d menu main org → id ≡ new_id d → ¬ IsPlaced id joined.columns
+stands_nowhere d joined menu main org id can is id_is = λ placed.
+    can.fresh (subst (λ (e : ℕ × Columns). IsPlaced e.0 e.1) (λ k. (id_is k, (is k).columns)) placed)
 
 -- ---- the tool
 

@@ -1,14 +1,15 @@
 -- What commands do, sorted by what they take after their words.
 use Rattle.std.specs.Prelude.{◌≤◌, ℕ, ℤ, List, length, Result, Ok}
 use Rattle.piece_ring.specs.Flat.{flat}
-use Rattle.viewer_tracks.specs.Columns.{IsPlaced}
+use Rattle.viewer_tracks.specs.Columns.{IsOnTop}
 use Rattle.desktop_definitions.specs.declared.call.Call.{Call}
 use Rattle.desktop_definitions.specs.Limits.{bad_value}
 use Rattle.desktop_definitions.specs.Needs.{needs}
 use Rattle.desktop_definitions.specs.Desktop.{Desktop, KeptDesktop}
 use Rattle.desktop_definitions.specs.Call.{text_called}
 use Rattle.desktop_definitions.specs.Looks.{font_set, colour_set, offset_set}
-use Rattle.desktop_definitions.specs.Effects.{document_opened, file_opened, put_away, viewer_copied, stored, searched}
+use Rattle.desktop_definitions.specs.Effects.{document_opened, file_opened, put_away, viewer_copied, viewer_grown}
+use Rattle.desktop_definitions.specs.Effects.{stored, searched}
 use Rattle.desktop_definitions.specs.Effects.{look_set, selection_set}
 use Rattle.desk_commands.specs.declared.calls.NameCommand.{NameCommand}
 use Rattle.desk_commands.specs.declared.calls.NameCommand.TheVariants.{OpenDocument, OpenFile, SetFont, ChangeFont}
@@ -16,11 +17,11 @@ use Rattle.desk_commands.specs.declared.calls.NumberCommand.{NumberCommand}
 use Rattle.desk_commands.specs.declared.calls.NumberCommand.TheVariants.{SetColor, SetOffset, ChangeColor}
 use Rattle.desk_commands.specs.declared.calls.NumberCommand.TheVariants.{ChangeOffset}
 use Rattle.desk_commands.specs.declared.calls.ViewerCommand.{ViewerCommand}
-use Rattle.desk_commands.specs.declared.calls.ViewerCommand.TheVariants.{Close, Copy, Store, Search}
+use Rattle.desk_commands.specs.declared.calls.ViewerCommand.TheVariants.{Close, Copy, Store, Search, Grow}
 
--- The viewer of a call stands on the display, and the word that was called in its text.
+-- The viewer of a call stands in a track that is shown, and the word that was called in its text.
 pub record IsCall (d : KeptDesktop) (call : Call) : Type 0 where
-  pub placed : IsPlaced call.viewer d.columns
+  pub placed : IsOnTop call.viewer d.columns
   pub within : call.after ≤ length (flat (text_called d call.viewer call.in_menu))
 
 -- with a name
@@ -43,3 +44,4 @@ done_with_viewer d Close v = Ok (put_away d v)
 done_with_viewer d Copy v = viewer_copied d v
 done_with_viewer d Store v = stored d v
 done_with_viewer d Search v = searched d v
+done_with_viewer d Grow v = viewer_grown d v

@@ -5,7 +5,7 @@ ghost use Rattle.sector_disk.specs.Faults.{OneOf};
 ghost use Rattle.char_file.specs.Source.{OnlyReads};
 ghost use Rattle.piece_ring.specs.Flat.{flat};
 ghost use Rattle.readers_scanners.specs.Symbol.{IsShaped};
-ghost use Rattle.viewer_tracks.specs.Columns.{IsPlaced};
+ghost use Rattle.viewer_tracks.specs.Columns.{IsOnTop};
 ghost use Rattle.command_table.specs.Parameters.{place_of, text_of, listed, first_names};
 ghost use Rattle.desktop_definitions.specs.Limits.{no_viewer};
 ghost use Rattle.command_table.specs.Versions.{version_number};
@@ -24,7 +24,7 @@ ghost use Rattle.desk_commands.specs.Calls.{IsCall, done_with_name, done_with_nu
 
 use crate::closings::{close_viewer, recall_viewer};
 use crate::collecting::collect;
-use crate::documents::{copy_viewer, open_document, open_file, open_log};
+use crate::documents::{copy_viewer, grow_viewer, open_document, open_file, open_log};
 use crate::log::{clear_log, log_directory};
 use crate::looks::{change_look, colour_set, font_set, offset_set, set_look};
 use crate::searches::{recall_deleted, search};
@@ -79,6 +79,8 @@ pub enum ViewerCommand {
     Store,
     /// Finds the next place of the pattern in its text.
     Search,
+    /// Opens a second one on its text, which has the whole column.
+    Grow,
 }
 
 /// The number that a symbol is. None where it is another symbol.
@@ -97,12 +99,12 @@ pub fn call<S: CharSource>(
     desk: &mut Desk,
     version: Version,
     alloc: Global,
-    id: u8,
+    id: u16,
     in_menu: bool,
     pos: u32,
     source: &mut S,
 ) -> Result<Reply, Stop>
-    requires placed { IsPlaced id (kept desk.old).columns }
+    requires placed { IsOnTop id (kept desk.old).columns }
     requires place { pos ≤ length (flat (text_called (kept desk.old) id in_menu)) }
     requires over { IsOver (S.characters source.old) (kept desk.old) }
     ensures answered { IfOk result (Settles S.CharSource (λ d. called (version_number version) d id in_menu pos)
@@ -203,6 +205,7 @@ fn do_command<S: CharSource>(
             call,
             source,
         ),
+        Command::SystemGrow => command_with_viewer(desk, alloc, ViewerCommand::Grow, call, source),
         Command::SystemDeleteFiles => delete_named_files(desk, alloc, call, source),
         Command::SystemOpenLog => open_log(desk, alloc, source),
         Command::SystemRecall => recall_viewer(desk, source),
@@ -325,10 +328,10 @@ fn do_with_viewer<S: CharSource>(
     desk: &mut Desk,
     alloc: Global,
     command: ViewerCommand,
-    id: u8,
+    id: u16,
     source: &mut S,
 ) -> Result<Reply, Stop>
-    requires placed { IsPlaced id (kept desk.old).columns }
+    requires placed { IsOnTop id (kept desk.old).columns }
     requires over { IsOver (S.characters source.old) (kept desk.old) }
     ensures answered { IfOk result (Settles S.CharSource (λ d. done_with_viewer d command id)
         source.old source.new (kept desk.old) (kept desk.new)) }
@@ -339,6 +342,7 @@ fn do_with_viewer<S: CharSource>(
         ViewerCommand::Copy => copy_viewer(desk, alloc, id, source),
         ViewerCommand::Store => store(desk, alloc, id, source),
         ViewerCommand::Search => search(desk, id, source),
+        ViewerCommand::Grow => grow_viewer(desk, alloc, id, source),
     }
 }
 
@@ -365,10 +369,10 @@ fn delete_named_files<S: CharSource>(
 // ---- what stands after the word
 
 /// The viewer that is seen at the marker. None where there is none.
-fn at_marker(desk: &Desk) -> Option<u8>
+fn at_marker(desk: &Desk) -> Option<u16>
     requires { IsKeptWhole (kept desk.now) }
     ensures viewer { result ≡ seen_at_marker (kept desk.now) }
-    ensures placed { IfSome result (λ v. IsPlaced v (kept desk.now).columns) }
+    ensures placed { IfSome result (λ v. IsOnTop v (kept desk.now).columns) }
 {
     let (x, y) = desk.marker?;
     let viewer = desk.tracks.at(x, y)?;
@@ -376,11 +380,11 @@ fn at_marker(desk: &Desk) -> Option<u8>
 }
 
 /// The viewer in whose menu the word stands, or else the one at the marker. None where there is none.
-fn meant(desk: &Desk, call: Call) -> Option<u8>
+fn meant(desk: &Desk, call: Call) -> Option<u16>
     requires whole { IsKeptWhole (kept desk.now) }
     requires call { IsCall (kept desk.now) call }
     ensures viewer { result ≡ meant (kept desk.now) call }
-    ensures placed { IfSome result (λ v. IsPlaced v (kept desk.now).columns) }
+    ensures placed { IfSome result (λ v. IsOnTop v (kept desk.now).columns) }
 {
     if call.in_menu {
         Some(call.viewer)

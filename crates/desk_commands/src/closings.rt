@@ -1,7 +1,7 @@
 //! Viewers close, and the one that was closed last opens again.
 ghost use Rattle.std.specs.Prelude.{◌≡◌, IfOk, Ok, option_map};
 ghost use Rattle.viewer_tracks.specs.declared.display.Track.{Track as ATrack};
-ghost use Rattle.viewer_tracks.specs.Columns.{IsPlaced};
+ghost use Rattle.viewer_tracks.specs.Columns.{IsOnTop};
 ghost use Rattle.viewer_tracks.specs.Display.{left_of};
 ghost use Rattle.viewer_tracks.specs.Viewers.{id_number};
 ghost use Rattle.desktop_definitions.specs.Limits.{no_viewer};
@@ -19,7 +19,7 @@ use desktop_definitions::{Kept, Reply, codes};
 use viewer_tracks::{SYSTEM_LEFT, Track, ViewerId, edits_keep_columns, edits_place_viewers};
 
 /// The track whose leftmost column this is.
-fn track_from(left: u8) -> Track
+pub fn track_from(left: u8) -> Track
     ensures { (track : ATrack) → left ≡ left_of track → result ≡ track }
 {
     if left == SYSTEM_LEFT {
@@ -38,8 +38,8 @@ fn viewer_kept(kept: Option<Kept>) -> Option<ViewerId>
 
 /// A viewer goes from the display with what is marked in it, and is kept with its place. The one that was kept
 /// before is gone, with the texts that nobody else shows.
-pub fn close_viewer<S: CharSource>(desk: &mut Desk, id: u8, source: &mut S) -> Result<Reply, Stop>
-    requires placed { IsPlaced id (kept desk.old).columns }
+pub fn close_viewer<S: CharSource>(desk: &mut Desk, id: u16, source: &mut S) -> Result<Reply, Stop>
+    requires placed { IsOnTop id (kept desk.old).columns }
     requires over { IsOver (S.characters source.old) (kept desk.old) }
     ensures answered { IfOk result (Settles S.CharSource (λ d. Ok (put_away d id))
         source.old source.new (kept desk.old) (kept desk.new)) }
@@ -56,8 +56,8 @@ pub fn close_viewer<S: CharSource>(desk: &mut Desk, id: u8, source: &mut S) -> R
 }
 
 /// A viewer of the display with its place, as it is kept once it is closed.
-fn place_kept(desk: &Desk, id: u8) -> Kept
-    requires { IsPlaced id (kept desk.now).columns }
+fn place_kept(desk: &Desk, id: u16) -> Kept
+    requires { IsOnTop id (kept desk.now).columns }
     ensures value { result ≡ place_kept (kept desk.now).columns id }
     ensures place { IsKeptPlace result }
 {

@@ -5,7 +5,7 @@ ghost use Rattle.piece_ring.specs.Flat.{flat};
 ghost use Rattle.piece_ring.specs.Offsets.{AreWithin};
 ghost use Rattle.piece_ring.specs.Text.{Text as AText};
 ghost use Rattle.viewer_tracks.specs.declared.display.TheConstants.{ROWS, COLUMNS};
-ghost use Rattle.viewer_tracks.specs.Columns.{IsPlaced, allocated};
+ghost use Rattle.viewer_tracks.specs.Columns.{IsOnTop, allocated};
 ghost use Rattle.desktop_definitions.specs.Limits.{most_written};
 ghost use Rattle.desktop_definitions.specs.Looks.{AreLooks};
 ghost use Rattle.desktop_definitions.specs.Tables.{named};
@@ -13,7 +13,7 @@ ghost use Rattle.desktop_definitions.specs.Desktop.{file_of};
 ghost use Rattle.desktop_definitions.specs.Change.{plain, more_written};
 ghost use Rattle.desktop_definitions.specs.Opening.{menu_line, opening, dropped};
 ghost use Rattle.desktop_definitions.specs.Effects.{opened_on_copy, document_opened, file_opened, log_opened};
-ghost use Rattle.desktop_definitions.specs.Effects.{viewer_copied};
+ghost use Rattle.desktop_definitions.specs.Effects.{viewer_copied, viewer_grown};
 ghost use Rattle.desktop_definitions.specs.Gesture.{tool_opened};
 ghost use Rattle.desktop_definitions.specs.Seen.{seen, seen_text};
 ghost use Rattle.desktop_definitions.specs.Step.{fits};
@@ -22,7 +22,10 @@ ghost use Rattle.desktop_laws.specs.OpeningOnLaws.{IsPlaceOf};
 ghost use Rattle.desk_core.specs.Kept.{kept};
 ghost use Rattle.desk_core.specs.Row.{Settles, SettlesBringing, Uses};
 
-use crate::openings::{add_text, copy_of, open_on, opening_fits, opening_on_fits};
+use crate::closings::track_from;
+use crate::openings::{
+    add_text, copy_of, open_on, open_over, opening_fits, opening_on_fits, opening_over_fits,
+};
 use arrayvec::ArrayVec;
 use char_file::CharSource;
 use desk_core::desk::Desk;
@@ -35,7 +38,7 @@ use event_bytes::Name;
 use piece_ring::DEFAULT_LOOK;
 use std::alloc::Global;
 use text_core::Text;
-use viewer_tracks::{Place, Track, ViewerId, edits_keep_columns, edits_place_viewers};
+use viewer_tracks::{DEPTH, Place, Track, ViewerId, edits_keep_columns, edits_place_viewers};
 
 /// The menu of a viewer of that name.
 fn menu_line(name: &[u8]) -> ArrayVec<u8, 100>
@@ -80,8 +83,8 @@ fn free_cell(desk: &Desk, track: Track) -> (u8, u8)
 }
 
 /// Where a viewer stands.
-fn place_of(desk: &Desk, id: u8) -> Place
-    requires { IsPlaced id (kept desk.now).columns }
+fn place_of(desk: &Desk, id: u16) -> Place
+    requires { IsOnTop id (kept desk.now).columns }
     ensures { IsPlaceOf (kept desk.now).columns id result.x result.bottom result.top }
 {
     desk.tracks.place_of(ViewerId(id))
@@ -248,10 +251,10 @@ pub fn open_log<S: CharSource>(
 pub fn copy_viewer<S: CharSource>(
     desk: &mut Desk,
     alloc: Global,
-    id: u8,
+    id: u16,
     source: &mut S,
 ) -> Result<Reply, Stop>
-    requires placed { IsPlaced id (kept desk.old).columns }
+    requires placed { IsOnTop id (kept desk.old).columns }
     requires over { IsOver (S.characters source.old) (kept desk.old) }
     ensures answered { IfOk result (Settles S.CharSource (λ d. viewer_copied d id)
         source.old source.new (kept desk.old) (kept desk.new)) }
@@ -272,5 +275,34 @@ pub fn copy_viewer<S: CharSource>(
     }
     let menu = copy_of(alloc, menu)?;
     open_on(desk, menu, viewer.main, viewer.org, place.x, y)?;
+    Ok(Reply::Done)
+}
+
+/// A second viewer of a viewer's text has the column of that whole, over the track in which it stands, with a copy of
+/// its menu and the same first line; nothing is marked in the covered track any more. Refused where the column has as
+/// many tracks as it may have.
+pub fn grow_viewer<S: CharSource>(
+    desk: &mut Desk,
+    alloc: Global,
+    id: u16,
+    source: &mut S,
+) -> Result<Reply, Stop>
+    requires placed { IsOnTop id (kept desk.old).columns }
+    requires over { IsOver (S.characters source.old) (kept desk.old) }
+    ensures answered { IfOk result (Settles S.CharSource (λ d. viewer_grown d id)
+        source.old source.new (kept desk.old) (kept desk.new)) }
+    ensures uses { Uses S.CharSource result source.old source.new }
+{
+    let track = track_from(place_of(desk, id).x);
+    if desk.tracks.levels(track) == DEPTH {
+        return Ok(Reply::No(codes::TOO_DEEP));
+    }
+    let viewer = viewer_or_none(&desk.viewers, id);
+    let menu = text_there(&desk.texts, viewer.menu);
+    if !opening_over_fits(desk, menu.len() as usize) {
+        return Ok(Reply::No(codes::FULL));
+    }
+    let menu = copy_of(alloc, menu)?;
+    open_over(desk, menu, viewer.main, viewer.org, track)?;
     Ok(Reply::Done)
 }

@@ -169,7 +169,7 @@ fn log_len(desk: &Desk) -> u32
     }
 }
 
-/// Puts lines in at the end of the log, one by one: each viewer of the log on the display shows its end before the
+/// Puts lines in at the end of the log, one by one: each viewer of the log in a track shows its end before the
 /// next line comes. NoMemory where an allocation is refused, Fault where a character could not be read.
 pub fn log_lines<S: CharSource>(
     desk: &mut Desk,
@@ -191,7 +191,7 @@ pub fn log_lines<S: CharSource>(
     Ok(())
 }
 
-/// Puts a line in at the end of the log, and each viewer of the log on the display shows its end. NoMemory where an
+/// Puts a line in at the end of the log, and each viewer of the log in a track shows its end. NoMemory where an
 /// allocation is refused, Fault where a character could not be read.
 pub fn log_line<S: CharSource>(
     desk: &mut Desk,
@@ -215,7 +215,8 @@ pub fn log_line<S: CharSource>(
     Ok(())
 }
 
-/// Each viewer of the log on the display shows the end of the log. Fault: the source failed in this call.
+/// Each viewer of the log in a track, be that covered or not, shows the end of the log. Fault: the source failed in
+/// this call.
 fn show_log_end<S: CharSource>(desk: &mut Desk, source: &mut S) -> Result<(), Stop>
     requires built { IsBuilt (length (S.characters source.old)) (kept desk.old) }
     ensures changed { OnOk result (IsChanged (S.honest source.old) (S.characters source.old) (kept desk.old)
@@ -238,16 +239,16 @@ fn viewer_count(desk: &Desk) -> usize
 }
 
 /// The id of a viewer, by its place among all.
-fn viewer_at(desk: &Desk, at: usize) -> u8
+fn viewer_at(desk: &Desk, at: usize) -> u16
     requires { at < length (kept desk.now).viewers }
     ensures { slice_get (keys_of (kept desk.now).viewers) at ≡ Some result }
 {
     desk.viewers[at].0
 }
 
-/// The end of the log is shown in a viewer, where that shows the log and stands on the display. Fault: the source
-/// failed in this call.
-fn show_log_in<S: CharSource>(desk: &mut Desk, id: u8, source: &mut S) -> Result<(), Stop>
+/// The end of the log is shown in a viewer, where that shows the log and stands in a track. Fault: the source failed in
+/// this call.
+fn show_log_in<S: CharSource>(desk: &mut Desk, id: u16, source: &mut S) -> Result<(), Stop>
     requires built { IsBuilt (length (S.characters source.old)) (kept desk.old) }
     ensures changed { OnOk result (IsChanged (S.honest source.old) (S.characters source.old) (kept desk.old)
         (kept desk.new) (log_shown (seen (S.characters source.old) (kept desk.old)) id) 0 0) }

@@ -7,19 +7,20 @@ ghost use Rattle.std.specs.Ordering.{nat_cmp};
 ghost use Rattle.std.specs.BTreeMap.{insert_entry};
 ghost use Rattle.piece_ring.specs.Flat.{flat};
 ghost use Rattle.piece_ring.specs.Text.{Text as AText};
-ghost use Rattle.viewer_tracks.specs.declared.display.TheConstants.{COLUMNS};
+ghost use Rattle.viewer_tracks.specs.declared.display.TheConstants.{COLUMNS, DEPTH};
+ghost use Rattle.viewer_tracks.specs.declared.display.Track.{Track as ATrack};
 ghost use Rattle.viewer_tracks.specs.Viewers.{id_number};
-ghost use Rattle.viewer_tracks.specs.Columns.{replaced_at, times_meant};
+ghost use Rattle.viewer_tracks.specs.Columns.{stack_of, replaced_at, times_meant};
 ghost use Rattle.desktop_definitions.specs.Limits.{most_written, most_held};
 ghost use Rattle.desktop_definitions.specs.Tables.{lengths};
 ghost use Rattle.desktop_definitions.specs.Desktop.{held};
 ghost use Rattle.desktop_definitions.specs.Viewers.{viewer_in, without_viewer};
 ghost use Rattle.desktop_definitions.specs.Change.{more_written};
-ghost use Rattle.desktop_definitions.specs.Opening.{least_unused, with_new, opening, opening_on, dropped};
+ghost use Rattle.desktop_definitions.specs.Opening.{least_unused, with_new, new_id, with_viewer, opening, opening_on};
+ghost use Rattle.desktop_definitions.specs.Opening.{opening_over, dropped};
 ghost use Rattle.desktop_definitions.specs.Seen.{seen, seen_table};
 ghost use Rattle.desktop_definitions.specs.Step.{fits};
 ghost use Rattle.desktop_definitions.specs.Sound.{IsKeptWhole};
-ghost use Rattle.desktop_laws.specs.OpenedLaws.{new_id};
 ghost use Rattle.desktop_laws.specs.OpeningDone.{CanOpen};
 ghost use Rattle.desktop_laws.specs.LeftLaws.{is_taken, still_shown, kept_left};
 ghost use Rattle.desk_core.specs.Kept.{kept};
@@ -33,7 +34,7 @@ use desktop_definitions::Viewer;
 use std::alloc::Global;
 use std::collections::BTreeMap;
 use text_core::{Buffer, Text};
-use viewer_tracks::{ViewerId, edits_place_viewers};
+use viewer_tracks::{Track, ViewerId, edits_place_viewers};
 
 /// A copy of a text. NoMemory where an allocation is refused.
 pub fn copy_of(alloc: Global, text: &Text) -> Result<Text, NoMemory>
@@ -47,7 +48,7 @@ pub fn copy_of(alloc: Global, text: &Text) -> Result<Text, NoMemory>
 }
 
 /// Whether a viewer is the one that goes.
-fn is_taken(gone: Option<ViewerId>, id: u8) -> bool
+fn is_taken(gone: Option<ViewerId>, id: u16) -> bool
     ensures { result ≡ is_taken (id_number gone) id }
 {
     match gone {
@@ -89,7 +90,7 @@ fn lengths_left(texts: &BTreeMap<u16, Text>, viewers: &ViewerTable, gone: Option
 }
 
 /// The place of the first viewer of a greater id, or the number of viewers.
-fn place_above(viewers: &[(u8, Viewer)], id: u8) -> usize
+fn place_above(viewers: &[(u16, Viewer)], id: u16) -> usize
     ensures value { result ≡ position_or_len (λ e. nat_lt id e.0) viewers.now }
     ensures within { result ≤ length viewers.now }
 {
@@ -111,7 +112,7 @@ pub fn add_text(texts: &mut Texts, text: Text) -> Result<u16, NoMemory>
 }
 
 /// A viewer of a new id comes into the table. NoMemory where an allocation is refused.
-fn add_viewer(viewers: &mut ViewerTable, id: u8, viewer: Viewer) -> Result<(), NoMemory>
+fn add_viewer(viewers: &mut ViewerTable, id: u16, viewer: Viewer) -> Result<(), NoMemory>
     requires { viewer_in viewers.old.items id ≡ None }
     ensures { OnOk result (viewers.new.items ≡ insert_entry nat_cmp viewers.old.items id viewer) }
 {
@@ -179,6 +180,24 @@ pub fn opening_on_fits(desk: &Desk, made: usize, menu: usize, x: u8, y: u8) -> b
     within_limits(desk.written as usize + made, held_before(desk, x, y) + menu)
 }
 
+/// A viewer of a new menu and of the text of a number comes to the desktop, but stands nowhere yet; returns its id.
+/// NoMemory where an allocation is refused.
+fn join(desk: &mut Desk, menu: Text, main: u16, org: u32) -> Result<u16, NoMemory>
+    requires { CanOpen (kept desk.old) }
+    ensures desk { OnOk result (kept desk.new ≡ with_viewer (kept desk.old) menu main org) }
+    ensures id { IfOk result (λ id. id ≡ new_id (kept desk.old)) }
+{
+    let number = add_text(&mut desk.texts, menu)?;
+    let id = unused_id(desk.viewers.as_slice());
+    let viewer = Viewer {
+        menu: number,
+        main,
+        org,
+    };
+    add_viewer(&mut desk.viewers, id, viewer)?;
+    Ok(id)
+}
+
 /// A viewer of a new menu and of the text of a number opens in the track of column `x`, up to row `y`. One whose
 /// whole place it takes is gone, with the texts that nobody else shows. NoMemory where an allocation is refused.
 pub fn open_on(
@@ -193,14 +212,36 @@ pub fn open_on(
     requires column { x < COLUMNS }
     ensures { OnOk result (kept desk.new ≡ dropped (opening_on (kept desk.old) menu main org (x, y))) }
 {
-    let number = add_text(&mut desk.texts, menu)?;
-    let id = unused_id(desk.viewers.as_slice());
-    let viewer = Viewer {
-        menu: number,
-        main,
-        org,
-    };
-    add_viewer(&mut desk.viewers, id, viewer)?;
+    let id = join(desk, menu, main, org)?;
     desk.open_at(id, x, y);
+    Ok(())
+}
+
+/// Whether the limits on characters hold once a viewer has a new track, over one that is shown, with a menu of so many
+/// characters, none of them written anew.
+pub fn opening_over_fits(desk: &Desk, menu: usize) -> bool
+    requires whole { IsKeptWhole (kept desk.now) }
+    requires menu { menu < 2 ^ 32 }
+    ensures { (characters : List ℕ) (menu_text : AText ℕ) (main org : ℕ) (k : ATrack) → length menu_text ≡ menu
+        → result ≡ fits (dropped (opening_over (seen characters (kept desk.now)) menu_text main org k)) }
+{
+    within_limits(desk.written as usize, desk.held() + menu)
+}
+
+/// A viewer of a new menu and of the text of a number has a new track, over the one that the column shows, in which
+/// nothing is marked any more. NoMemory where an allocation is refused.
+pub fn open_over(
+    desk: &mut Desk,
+    menu: Text,
+    main: u16,
+    org: u32,
+    track: Track,
+) -> Result<(), NoMemory>
+    requires can { CanOpen (kept desk.old) }
+    requires room { length (stack_of (kept desk.old).columns track) < DEPTH }
+    ensures { OnOk result (kept desk.new ≡ opening_over (kept desk.old) menu main org track) }
+{
+    let id = join(desk, menu, main, org)?;
+    desk.cover(id, track);
     Ok(())
 }

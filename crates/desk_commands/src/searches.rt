@@ -6,7 +6,7 @@ ghost use Rattle.char_file.specs.Source.{OnlyReads};
 ghost use Rattle.piece_ring.specs.Flat.{flat};
 ghost use Rattle.piece_ring.specs.Offsets.{AreWithin};
 ghost use Rattle.readers_scanners.specs.Reading.{bytes};
-ghost use Rattle.viewer_tracks.specs.Columns.{IsPlaced};
+ghost use Rattle.viewer_tracks.specs.Columns.{IsOnTop};
 ghost use Rattle.desktop_definitions.specs.Limits.{no_caret, most_pattern};
 ghost use Rattle.desktop_definitions.specs.Needs.{needs};
 ghost use Rattle.desktop_definitions.specs.Change.{put_at_caret};
@@ -122,8 +122,8 @@ fn pattern_after<S: CharSource>(desk: &Desk, source: &mut S) -> Result<Pattern, 
 /// The caret goes after the first place with the pattern in a viewer's main text, from where it stands there or
 /// else from the beginning, and is shown. Refused without a pattern, and where it isn't found; the old pattern then
 /// stays.
-pub fn search<S: CharSource>(desk: &mut Desk, id: u8, source: &mut S) -> Result<Reply, Stop>
-    requires placed { IsPlaced id (kept desk.old).columns }
+pub fn search<S: CharSource>(desk: &mut Desk, id: u16, source: &mut S) -> Result<Reply, Stop>
+    requires placed { IsOnTop id (kept desk.old).columns }
     requires over { IsOver (S.characters source.old) (kept desk.old) }
     ensures answered { IfOk result (Settles S.CharSource (λ d. searched d id)
         source.old source.new (kept desk.old) (kept desk.new)) }
@@ -144,7 +144,7 @@ pub fn search<S: CharSource>(desk: &mut Desk, id: u8, source: &mut S) -> Result<
 }
 
 /// Where a search starts in a viewer's main text: at the caret, and where that isn't there at the beginning.
-fn start_in(desk: &Desk, id: u8) -> u32
+fn start_in(desk: &Desk, id: u16) -> u32
     ensures { result ≡ start_in id (kept desk.now).caret }
 {
     position_in(id, desk.caret).unwrap_or(0)

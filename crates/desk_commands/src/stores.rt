@@ -2,7 +2,7 @@
 ghost use Rattle.std.specs.Prelude.{◌≡◌, ◌+◌, ◌≤◌, ℕ, List, [], length, fold, map, IsTrue, IfOk, Ok};
 ghost use Rattle.sector_disk.specs.Trail.{CountsFault};
 ghost use Rattle.char_file.specs.Source.{OnlyReads};
-ghost use Rattle.viewer_tracks.specs.Columns.{IsPlaced};
+ghost use Rattle.viewer_tracks.specs.Columns.{IsOnTop};
 ghost use Rattle.command_table.specs.Deciding.{is_among, can_be_deleted};
 ghost use Rattle.desktop_laws.specs.StoreLaws.{can_go};
 ghost use Rattle.desktop_definitions.specs.Effects.{menu_name, stored, stored_as, files_deleted, without_file};
@@ -125,10 +125,10 @@ pub fn delete_files<S: CharSource>(
 pub fn store<S: CharSource>(
     desk: &mut Desk,
     alloc: Global,
-    id: u8,
+    id: u16,
     source: &mut S,
 ) -> Result<Reply, Stop>
-    requires placed { IsPlaced id (kept desk.old).columns }
+    requires placed { IsOnTop id (kept desk.old).columns }
     requires over { IsOver (S.characters source.old) (kept desk.old) }
     ensures answered { IfOk result (Settles S.CharSource (λ d. stored d id)
         source.old source.new (kept desk.old) (kept desk.new)) }
@@ -141,8 +141,8 @@ pub fn store<S: CharSource>(
 }
 
 /// The first symbol of a viewer's menu. None where it is no name. Fault: the source failed in this call.
-fn menu_name<S: CharSource>(desk: &Desk, id: u8, source: &mut S) -> Result<Option<Name>, Fault>
-    requires placed { IsPlaced id (kept desk.now).columns }
+fn menu_name<S: CharSource>(desk: &Desk, id: u16, source: &mut S) -> Result<Option<Name>, Fault>
+    requires placed { IsOnTop id (kept desk.now).columns }
     requires over { IsOver (S.characters source.old) (kept desk.now) }
     ensures exact { IfOk result (λ name. S.honest source.old
         → name ≡ menu_name (seen (S.characters source.old) (kept desk.now)) id) }
@@ -158,11 +158,11 @@ fn menu_name<S: CharSource>(desk: &Desk, id: u8, source: &mut S) -> Result<Optio
 fn store_as<S: CharSource>(
     desk: &mut Desk,
     alloc: Global,
-    id: u8,
+    id: u16,
     name: &Name,
     source: &mut S,
 ) -> Result<Reply, Stop>
-    requires placed { IsPlaced id (kept desk.old).columns }
+    requires placed { IsOnTop id (kept desk.old).columns }
     requires over { IsOver (S.characters source.old) (kept desk.old) }
     ensures answered { IfOk result (Settles S.CharSource
         (λ d. unless (has_room d.files name.now) too_many_files (Ok (stored_as d name.now (main_of d id))))

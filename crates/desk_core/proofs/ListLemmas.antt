@@ -10,7 +10,7 @@ use Rattle.desktop_definitions.specs.Tables.{Files}
 use Rattle.desktop_definitions.specs.Desktop.{KeptDesktop}
 use Rattle.desktop_laws.specs.TableLaws.{length_seen_text}
 use Rattle.desktop_definitions.specs.Seen.{seen, seen_table}
-use Rattle.desktop_definitions.specs.Listing.{file_entry, track_entries, entries_of}
+use Rattle.desktop_definitions.specs.Listing.{file_entry, column_entries, entries_of}
 
 -- the entry of a file that is kept
 abbrev pub kept_entry : List ℕ × List Piece → Entry
@@ -30,18 +30,18 @@ entry_more before after name len e rest now all pushed same_name same_len next l
     rw (pushed, same_name, same_len, append_assoc)
     (subst (λ (es : Files (List Piece)). before ++ map kept_entry es ≡ all) next listed)
 
--- files, then the viewers of both tracks, then what was written
+-- files, then the viewers of both columns, then what was written
 pub list_whole : (characters : List ℕ) (d : KeptDesktop) (files user system all : List Entry)
     → files ≡ map file_entry (seen_table characters d.files)
-    → user ≡ files ++ track_entries (seen characters d) User
-    → system ≡ user ++ track_entries (seen characters d) System
+    → user ≡ files ++ column_entries (seen characters d) User
+    → system ≡ user ++ column_entries (seen characters d) System
     → all ≡ system ++ Written d.written ∷ []
     → all ≡ entries_of (seen characters d)
 unfolding entries_of seen
 list_whole characters d files user system all f u s w =
     let named = map file_entry (seen_table characters d.files) in
-    let left = track_entries (seen characters d) User in
-    let right = track_entries (seen characters d) System in
+    let left = column_entries (seen characters d) User in
+    let right = column_entries (seen characters d) System in
     let last : List Entry = Written d.written ∷ [] in
     w ∙ ap (λ (l : List Entry). l ++ last)
     (s ∙ ap (λ (l : List Entry). l ++ right) (u ∙ ap (λ (l : List Entry). l ++ left) f))

@@ -6,7 +6,7 @@ use Rattle.std.proofs.Common.{refl, sym, ap, subst, ◌∙◌}
 use Rattle.std.proofs.lemmas.Bool.{and_parts, ltb-true}
 use Rattle.piece_ring.specs.Flat.{flat}
 use Rattle.viewer_tracks.specs.declared.display.TheConstants.{ROWS, COLUMNS}
-use Rattle.viewer_tracks.specs.Columns.{IsPlaced}
+use Rattle.viewer_tracks.specs.Columns.{IsOnTop}
 use Rattle.desktop_definitions.specs.declared.viewer.Selection.{Selection}
 use Rattle.desktop_definitions.specs.declared.reply.Reply.TheVariants.{Done, No}
 use Rattle.desktop_definitions.specs.Limits.{outside}
@@ -55,14 +55,14 @@ module _ (H : Type 0) (old : List ℕ) (d : KeptDesktop) (over : IsOver old d) w
       (changed_done (marked d x y) (marked (seen old d) x y)
       (let cell = inside x y is in marked_changed H old d (over_built old d over) x y cell.0 cell.1))
 
-  pub caret_answered : (v p : ℕ) → IsPlaced v d.columns
+  pub caret_answered : (v p : ℕ) → IsOnTop v d.columns
       → p ≤ length (flat (text_in d.texts (viewer_or_none d.viewers v).main))
       → IsAnswered H old old d (with_caret d v p) (settled (seen old d) (Ok (with_caret (seen old d) v p))) Done
   caret_answered v p placed low =
       changed_done (with_caret d v p) (with_caret (seen old d) v p)
       (with_caret_changed H old d (over_built old d over) v p placed low)
 
-  module _ (s : Selection) (placed : IsPlaced s.viewer d.columns)
+  module _ (s : Selection) (placed : IsOnTop s.viewer d.columns)
       (low : s.end ≤ length (flat (text_in d.texts (viewer_or_none d.viewers s.viewer).main))) (test : Bool)
       (test_is : test ≡ is_some_stretch s) where
     drawn_answered : IsAnswered H old old d (drawn_in d s) (settled (seen old d) (Ok (drawn_in (seen old d) s))) Done

@@ -11,7 +11,7 @@ use Rattle.piece_ring.specs.declared.piece.Piece.{Piece}
 use Rattle.piece_ring.specs.Flat.{flat}
 use Rattle.piece_ring.specs.Offsets.{AreWithin}
 use Rattle.readers_scanners.specs.Reading.{bytes, contents}
-use Rattle.viewer_tracks.specs.Columns.{placed_top, StandsAt, IsPlaced}
+use Rattle.viewer_tracks.specs.Columns.{placed_top, StandsAt, IsPlaced, IsOnTop}
 use Rattle.text_frames.specs.Lines.{greatest, line_start}
 use Rattle.text_frames.specs.Cells.{row_of, column_of, comes_by, stands_by, position_at, is_inside, cell_of}
 use Rattle.desktop_definitions.specs.declared.region.Region.TheVariants.{Menu, Bar, Body}
@@ -36,7 +36,7 @@ pub region_seen : (characters : List ℕ) (d : KeptDesktop) (x y : ℕ) → regi
 unfolding region_at seen
 region_seen characters d x y = refl
 
-stands_in : (d : KeptDesktop) (v y : ℕ) (top first : Bool) → IsPlaced v d.columns
+stands_in : (d : KeptDesktop) (v y : ℕ) (top first : Bool) → IsOnTop v d.columns
     → (top ≡ false → frame_row d v y < rows_of d v)
     → IsRegionOf d y (if top then Menu v else (if first then Bar v else Body v))
 stands_in d v y true first placed low = placed

@@ -27,6 +27,7 @@ use Rattle.desktop_laws.specs.RowPartLaws.{kept_main, kept_caret, kept_newest, c
 use Rattle.desktop_laws.specs.KeyLaws.{refusal_answered, main_small, copy_changed}
 use Rattle.desk_core.specs.Mouse.{position_in, start_of_row}
 use Rattle.desk_core.specs.Positions.{IsPosition, CanGo}
+use Rattle.desktop_laws.specs.PlaceLaws.{on_top_placed}
 use Rattle.desk_core.proofs.PositionLemmas.{start_read}
 
 -- ---- what stands
@@ -50,7 +51,8 @@ module _ {d : KeptDesktop} (whole : IsKeptWhole d) where
   pub selection_there : {o : Option Selection} → o ≡ newest d
       → IfSome o (λ s. IsSome (numbered d.texts (viewer_or_none d.viewers s.viewer).main))
   selection_there {o} is = if_some _ o (λ s here.
-      main_kept d.written d built s.viewer (kept_newest d.written d s built (sym is ∙ here)).0)
+      main_kept d.written d built s.viewer
+      (on_top_placed d.columns s.viewer (kept_newest d.written d s built (sym is ∙ here)).0))
 
   pub caret_stands : IfSome d.caret (λ c. IsPosition d c.viewer c.position)
   caret_stands = if_some _ d.caret (λ c here.

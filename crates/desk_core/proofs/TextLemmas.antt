@@ -13,7 +13,7 @@ use Rattle.piece_ring.specs.Lengths.{length-inserted, length-deleted, length-loo
 use Rattle.piece_ring.specs.Offsets.{AreWithin, inserted-AreWithin, deleted-AreWithin, looks_changed-AreWithin}
 use Rattle.piece_ring.specs.Text.{Text, inserted, deleted, looks_changed}
 use Rattle.readers_scanners.specs.Reading.{bytes}
-use Rattle.viewer_tracks.specs.Columns.{IsPlaced, times_placed, times_meant}
+use Rattle.viewer_tracks.specs.Columns.{IsPlaced, IsOnTop, times_placed, times_meant}
 use Rattle.desktop_definitions.specs.declared.viewer.Viewer.{Viewer}
 use Rattle.desktop_definitions.specs.declared.viewer.Selection.{Selection}
 use Rattle.desktop_definitions.specs.Tables.{Texts, numbered, with_values}
@@ -124,7 +124,7 @@ module _ (characters : List ℕ) (d : KeptDesktop) (texts : Texts (List Piece)) 
       (λ h. deletion_seen characters d n p q (text_in texts n) viewers some set.is (exact h))
 
 module _ (characters : List ℕ) (d : KeptDesktop) (texts : Texts (List Piece)) (s : Selection) (selector : ℕ)
-    (look : Look) (placed : IsPlaced s.viewer d.columns)
+    (look : Look) (placed : IsOnTop s.viewer d.columns)
     (there : IsSome (numbered d.texts (viewer_or_none d.viewers s.viewer).main)) (some : s.beg < s.end)
     (low : s.end ≤ length (flat (text_in d.texts (viewer_or_none d.viewers s.viewer).main)))
     (set : IsSet d.texts texts (viewer_or_none d.viewers s.viewer).main
@@ -152,7 +152,7 @@ module _ (characters : List ℕ) (d : KeptDesktop) (texts : Texts (List Piece)) 
       (looks_set (seen characters d) s selector look) (looks_seen characters d s selector look pieces set.is))
 
 pub relooked_by : (characters : List ℕ) (d : KeptDesktop) (texts : Texts (List Piece)) (s : Selection) (selector : ℕ)
-    (look : Look) (placed : IsPlaced s.viewer d.columns)
+    (look : Look) (placed : IsOnTop s.viewer d.columns)
     (there : IsSome (numbered d.texts (viewer_or_none d.viewers s.viewer).main)) (some : s.beg < s.end)
     (low : s.end ≤ length (flat (text_in d.texts (viewer_or_none d.viewers s.viewer).main)))
     (w : Viewer) → w ≡ viewer_or_none d.viewers s.viewer
@@ -216,18 +216,19 @@ module _ (characters : List ℕ) (d : KeptDesktop) (v : ℕ) (built : IsBuilt (l
   pub movable : IsMovable (length characters) d.texts (viewer_or_none d.viewers v)
   movable = record { there = main_there; org = org_there; offsets = characters_there }
 
-  pub caret_put : (H : Type 0) (p org rows : ℕ) (viewers : List (ℕ × Viewer))
-      → p ≤ length (flat (text_in d.texts (viewer_or_none d.viewers v).main))
-      → org ≤ length (flat (text_in d.texts (viewer_or_none d.viewers v).main)) → rows ≡ rows_of d v
-      → (H → org ≡ shown_org (bytes characters (flat (text_in d.texts (viewer_or_none d.viewers v).main))) rows p
-      (viewer_or_none d.viewers v).org)
-      → viewers ≡ set_value (is_at (nat_cmp v)) d.viewers (record (viewer_or_none d.viewers v) { org = org })
-      → IsChanged H characters d (record (with_caret d v p) { viewers = viewers })
-      (caret_shown (seen characters d) v p) 0 0
-  caret_put H p org rows viewers low org_low rows_is exact set =
-      subst (λ (vs : List (ℕ × Viewer)). IsChanged H characters d (record (with_caret d v p) { viewers = vs })
-      (caret_shown (seen characters d) v p) 0 0) (sym set)
-      (caret_shown_changed H characters d v p org built placed low org_low
-      (λ h. exact h ∙ ap (λ (r : ℕ). shown_org
-      (bytes characters (flat (text_in d.texts (viewer_or_none d.viewers v).main))) r p
-      (viewer_or_none d.viewers v).org) rows_is))
+pub caret_put : (characters : List ℕ) (d : KeptDesktop) (v : ℕ) → IsBuilt (length characters) d → IsOnTop v d.columns
+    → (H : Type 0) (p org rows : ℕ) (viewers : List (ℕ × Viewer))
+    → p ≤ length (flat (text_in d.texts (viewer_or_none d.viewers v).main))
+    → org ≤ length (flat (text_in d.texts (viewer_or_none d.viewers v).main)) → rows ≡ rows_of d v
+    → (H → org ≡ shown_org (bytes characters (flat (text_in d.texts (viewer_or_none d.viewers v).main))) rows p
+    (viewer_or_none d.viewers v).org)
+    → viewers ≡ set_value (is_at (nat_cmp v)) d.viewers (record (viewer_or_none d.viewers v) { org = org })
+    → IsChanged H characters d (record (with_caret d v p) { viewers = viewers })
+    (caret_shown (seen characters d) v p) 0 0
+caret_put characters d v built placed H p org rows viewers low org_low rows_is exact set =
+    subst (λ (vs : List (ℕ × Viewer)). IsChanged H characters d (record (with_caret d v p) { viewers = vs })
+    (caret_shown (seen characters d) v p) 0 0) (sym set)
+    (caret_shown_changed H characters d v p org built placed low org_low
+    (λ h. exact h ∙ ap (λ (r : ℕ). shown_org
+    (bytes characters (flat (text_in d.texts (viewer_or_none d.viewers v).main))) r p
+    (viewer_or_none d.viewers v).org) rows_is))

@@ -3,14 +3,14 @@ use Rattle.std.specs.Prelude.{ℕ, List, length, ◌+◌, ◌<◌, ◌≤◌, �
 use Rattle.piece_ring.specs.declared.piece.Piece.{Piece}
 use Rattle.piece_ring.specs.Flat.{flat}
 use Rattle.piece_ring.specs.Offsets.{AreWithin}
-use Rattle.viewer_tracks.specs.Columns.{IsPlaced}
+use Rattle.viewer_tracks.specs.Columns.{IsOnTop}
 use Rattle.desktop_definitions.specs.Desktop.{KeptDesktop}
 use Rattle.desktop_definitions.specs.Looks.{AreLooks}
 use Rattle.desktop_laws.specs.RowPartLaws.{kept_main}
 
--- a position in the main text of a viewer on the display
+-- a position in the main text of a viewer in a track that is shown
 pub record IsPosition (d : KeptDesktop) (v p : ℕ) : Type 0 where
-  pub placed : IsPlaced v d.columns
+  pub placed : IsOnTop v d.columns
   pub place : p ≤ length (flat (kept_main d v))
 
 -- characters that can go into the main text of a viewer: each is one of the first n, and has a look that there is

@@ -74,7 +74,7 @@ impl Desk {
     }
 
     /// The number of a viewer's main text.
-    pub fn main_of(&self, id: u8) -> u16
+    pub fn main_of(&self, id: u16) -> u16
         ensures { result ≡ (viewer_or_none (kept self.now).viewers id).main }
     {
         match viewer_of(&self.viewers, id) {
@@ -115,7 +115,7 @@ impl Desk {
     pub fn put_in<S: CharSource>(
         &mut self,
         alloc: Global,
-        id: u8,
+        id: u16,
         pos: u32,
         buffer: &mut Buffer,
         source: &mut S,

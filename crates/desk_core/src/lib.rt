@@ -1,6 +1,7 @@
 //! What a desktop keeps, and the changes of its texts and viewers that events and commands are made of.
 #![tactic(auto)]
 
+mod covers;
 pub mod desk;
 pub mod edits;
 pub mod files;

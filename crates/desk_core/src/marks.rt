@@ -60,7 +60,7 @@ impl Desk {
     /// The caret comes to stand at `pos` in a viewer.
     pub fn set_caret<S: CharSource>(
         &mut self,
-        id: u8,
+        id: u16,
         pos: u32,
         source: &mut S,
     ) -> Result<Reply, Stop>

@@ -1,6 +1,6 @@
 //! What the mouse does in a menu: viewers move and change their height.
 ghost use Rattle.std.specs.Prelude.{◌≡◌, ◌<◌, ◌+◌, IfOk, Ok};
-ghost use Rattle.viewer_tracks.specs.Columns.{IsPlaced};
+ghost use Rattle.viewer_tracks.specs.Columns.{IsOnTop, IsPlaced};
 ghost use Rattle.desktop_definitions.specs.Viewers.{opened_at};
 ghost use Rattle.desktop_definitions.specs.Opening.{dropped};
 ghost use Rattle.desktop_definitions.specs.Sound.{IsOver};
@@ -17,8 +17,8 @@ use viewer_tracks::{ViewerId, edits_keep_columns, edits_place_viewers};
 
 impl Desk {
     /// The top of a viewer goes to row `y`, or as near to it as the display and the viewer above let it.
-    pub fn resize<S: CharSource>(&mut self, id: u8, y: u8, source: &mut S) -> Result<Reply, Stop>
-        requires placed { IsPlaced id (kept self.old).columns }
+    pub fn resize<S: CharSource>(&mut self, id: u16, y: u8, source: &mut S) -> Result<Reply, Stop>
+        requires placed { IsOnTop id (kept self.old).columns }
         requires row { y < ROWS }
         requires over { IsOver (S.characters source.old) (kept self.old) }
         ensures answered { IfOk result (Settles S.CharSource (λ d. Ok (resized d id y))
@@ -35,12 +35,12 @@ impl Desk {
     /// place it takes is gone, with the texts that nobody else shows.
     pub fn carry<S: CharSource>(
         &mut self,
-        id: u8,
+        id: u16,
         x: u8,
         y: u8,
         source: &mut S,
     ) -> Result<Reply, Stop>
-        requires placed { IsPlaced id (kept self.old).columns }
+        requires placed { IsOnTop id (kept self.old).columns }
         requires column { x < COLUMNS }
         requires row { y < ROWS }
         requires over { IsOver (S.characters source.old) (kept self.old) }
@@ -58,7 +58,7 @@ impl Desk {
 
     /// A viewer that stands nowhere opens in the track of column `x`, up to row `y`. One whose whole place it takes is
     /// gone, with the texts that nobody else shows.
-    pub fn open_at(&mut self, id: u8, x: u8, y: u8)
+    pub fn open_at(&mut self, id: u16, x: u8, y: u8)
         requires fresh { ¬ IsPlaced id (kept self.old).columns }
         requires column { x < COLUMNS }
         ensures { kept self.new ≡ dropped (opened_at (kept self.old) id (x, y)) }

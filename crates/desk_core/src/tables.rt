@@ -18,7 +18,7 @@ use text_core::Text;
 use viewer_tracks::ViewerId;
 
 /// The place of the viewer of that id in the table, or the number of viewers.
-fn place_of(viewers: &[(u8, Viewer)], id: u8) -> usize
+fn place_of(viewers: &[(u16, Viewer)], id: u16) -> usize
     ensures { result ≡ position_or_len (λ e. e.0 == id) viewers.now }
 {
     viewers
@@ -28,7 +28,7 @@ fn place_of(viewers: &[(u8, Viewer)], id: u8) -> usize
 }
 
 /// The viewer of that id goes from the table. Where there is none nothing changes.
-fn remove_viewer(viewers: &mut ViewerTable, id: u8)
+fn remove_viewer(viewers: &mut ViewerTable, id: u16)
     ensures { viewers.new.items ≡ remove_entry (is_at (nat_cmp id)) viewers.old.items }
 {
     let at = place_of(viewers.as_slice(), id);
@@ -38,7 +38,7 @@ fn remove_viewer(viewers: &mut ViewerTable, id: u8)
 }
 
 /// The caret, unless it stands in that viewer.
-fn caret_outside(caret: Option<Caret>, id: u8) -> Option<Caret>
+fn caret_outside(caret: Option<Caret>, id: u16) -> Option<Caret>
     ensures { result ≡ caret_outside (λ w. w == id) caret }
 {
     match caret {
@@ -48,7 +48,7 @@ fn caret_outside(caret: Option<Caret>, id: u8) -> Option<Caret>
 }
 
 /// The selections in that viewer go.
-pub fn unselect(selections: &mut Vec<Selection>, id: u8)
+pub fn unselect(selections: &mut Vec<Selection>, id: u16)
     ensures { selections.new.items ≡ selections_outside (λ w. w == id) selections.old.items }
 {
     selections.retain(|selection| selection.viewer != id);
@@ -75,26 +75,26 @@ pub fn unused_number(texts: &BTreeMap<u16, Text>) -> u16
 }
 
 /// Whether there is a viewer of that id.
-pub fn has_id(viewers: &[(u8, Viewer)], id: u8) -> bool
+pub fn has_id(viewers: &[(u16, Viewer)], id: u16) -> bool
     ensures { result ≡ list_any (λ e. e.0 == id) viewers.now }
 {
     viewers.iter().any(|entry| entry.0 == id)
 }
 
 /// The least id that no viewer has.
-pub fn unused_id(viewers: &[(u8, Viewer)]) -> u8
-    requires { length viewers.now < 2 ^ 8 }
+pub fn unused_id(viewers: &[(u16, Viewer)]) -> u16
+    requires { length viewers.now < 2 ^ 16 }
     ensures { result ≡ least_unused (keys_of viewers.now) }
 {
-    let len = viewers.len() as u8;
+    let len = viewers.len() as u16;
     (0..len)
         .position(|id| !has_id(viewers, id))
-        .unwrap_or(len as usize) as u8
+        .unwrap_or(len as usize) as u16
 }
 
 impl Desk {
     /// Neither the caret nor a selection stands in that viewer any more.
-    pub fn unmark_viewer(&mut self, id: u8)
+    pub fn unmark_viewer(&mut self, id: u16)
         ensures { kept self.new ≡ unmarked (λ w. w == id) (kept self.old) }
     {
         self.caret = caret_outside(self.caret, id);
@@ -102,7 +102,7 @@ impl Desk {
     }
 
     /// The viewer of that id goes, with what is marked in it.
-    fn remove_viewer(&mut self, id: u8)
+    fn remove_viewer(&mut self, id: u16)
         ensures { kept self.new ≡ without_viewer (kept self.old) (Some id) }
     {
         remove_viewer(&mut self.viewers, id);

@@ -6,7 +6,7 @@ ghost use Rattle.std.specs.Prelude.{◌≡◌, ◌+◌, ◌-◌, ◌<◌, ◌≤
 ghost use Rattle.std.specs.Prelude.{IsSome, OnOk, ⊤};
 ghost use Rattle.sector_disk.specs.Faults.{FailsAs};
 ghost use Rattle.piece_ring.specs.Text.{stretch, inserted, deleted, looks_changed};
-ghost use Rattle.viewer_tracks.specs.Columns.{IsPlaced};
+ghost use Rattle.viewer_tracks.specs.Columns.{IsOnTop, IsPlaced};
 ghost use Rattle.readers_scanners.specs.Words.{CountsFault, OnlyReads, flat, AreWithin, bytes};
 ghost use Rattle.desktop_definitions.specs.Tables.{numbered, with_values};
 ghost use Rattle.desktop_definitions.specs.Looks.{IsLook, AreLooks};
@@ -156,7 +156,7 @@ impl Desk {
     }
 
     /// How many rows a viewer's main frame has.
-    pub fn rows_of(&self, id: u8) -> u8
+    pub fn rows_of(&self, id: u16) -> u8
         requires { IsPlaced id (kept self.now).columns }
         ensures rows { result ≡ rows_of (kept self.now) id }
         ensures few { result ≤ 31 }
@@ -237,7 +237,7 @@ impl Desk {
         selector: u8,
         look: Look,
     ) -> Result<(), NoMemory>
-        requires placed { IsPlaced selection.viewer (kept self.old).columns }
+        requires placed { IsOnTop selection.viewer (kept self.old).columns }
         requires there { IsSome (numbered (kept self.old).texts
             (viewer_or_none (kept self.old).viewers selection.viewer).main) }
         requires some { selection.beg < selection.end }
@@ -257,7 +257,7 @@ impl Desk {
     }
 
     /// A viewer shows a position of its main text. Fault: the source failed in this call.
-    pub fn show<S: CharSource>(&mut self, id: u8, pos: u32, source: &mut S) -> Result<(), Stop>
+    pub fn show<S: CharSource>(&mut self, id: u16, pos: u32, source: &mut S) -> Result<(), Stop>
         requires built { IsBuilt (length (S.characters source.old)) (kept self.old) }
         requires placed { IsPlaced id (kept self.old).columns }
         requires place { pos ≤ length (flat (text_in (kept self.old).texts
@@ -276,12 +276,12 @@ impl Desk {
     /// The caret comes to stand at `pos` in a viewer, which shows that position.
     pub fn show_caret<S: CharSource>(
         &mut self,
-        id: u8,
+        id: u16,
         pos: u32,
         source: &mut S,
     ) -> Result<(), Stop>
         requires built { IsBuilt (length (S.characters source.old)) (kept self.old) }
-        requires placed { IsPlaced id (kept self.old).columns }
+        requires placed { IsOnTop id (kept self.old).columns }
         requires place { pos ≤ length (flat (text_in (kept self.old).texts
             (viewer_or_none (kept self.old).viewers id).main)) }
         ensures changed { OnOk result (IsChanged (S.honest source.old) (S.characters source.old) (kept self.old)

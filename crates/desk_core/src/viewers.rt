@@ -26,13 +26,13 @@ use text_core::Text;
 use text_frames::Frame;
 
 /// Viewers by rising ids.
-pub type ViewerTable = Vec<(u8, Viewer)>;
+pub type ViewerTable = Vec<(u16, Viewer)>;
 
 /// Texts by number.
 pub type Texts = BTreeMap<u16, Text>;
 
 /// The viewer of that id. None where there is none.
-pub fn viewer_of(viewers: &ViewerTable, id: u8) -> Option<Viewer>
+pub fn viewer_of(viewers: &ViewerTable, id: u16) -> Option<Viewer>
     ensures { result ≡ viewer_in viewers.now.items id }
 {
     for (number, viewer) in viewers {
@@ -44,7 +44,7 @@ pub fn viewer_of(viewers: &ViewerTable, id: u8) -> Option<Viewer>
 }
 
 /// The viewer of that id shows its main text from that position on. Where there is no such viewer nothing changes.
-pub fn set_org(viewers: &mut ViewerTable, id: u8, org: u32)
+pub fn set_org(viewers: &mut ViewerTable, id: u16, org: u32)
     ensures { viewers.new.items ≡ set_value (is_at (nat_cmp id)) viewers.old.items
         (record (viewer_or_none viewers.old.items id) { org = org }) }
 {
@@ -57,7 +57,7 @@ pub fn set_org(viewers: &mut ViewerTable, id: u8, org: u32)
 }
 
 /// The viewer of that id, and where there is none one of no texts.
-pub fn viewer_or_none(viewers: &ViewerTable, id: u8) -> Viewer
+pub fn viewer_or_none(viewers: &ViewerTable, id: u16) -> Viewer
     ensures { result ≡ viewer_or_none viewers.now.items id }
 {
     match viewer_of(viewers, id) {
@@ -71,7 +71,7 @@ pub fn viewer_or_none(viewers: &ViewerTable, id: u8) -> Viewer
 }
 
 /// Whether the viewer of that id shows the text of a number as its main one.
-fn shows(viewers: &ViewerTable, number: u16, id: u8) -> bool
+fn shows(viewers: &ViewerTable, number: u16, id: u16) -> bool
     ensures { result ≡ ((viewer_or_none viewers.now.items id).main == number) }
 {
     viewer_or_none(viewers, id).main == number
@@ -174,7 +174,7 @@ fn org_to_show<S: CharSource>(
 /// The change rule at one viewer: where its main frame shows the text of that number, it follows its first character.
 /// `Fault`: the source failed in this call.
 fn follow<S: CharSource>(
-    entry: &mut (u8, Viewer),
+    entry: &mut (u16, Viewer),
     text: &Text,
     number: u16,
     pos: u32,
@@ -267,7 +267,7 @@ pub fn follow_text<S: CharSource>(
 pub fn org_in<S: CharSource>(
     texts: &Texts,
     viewers: &ViewerTable,
-    id: u8,
+    id: u16,
     rows: u8,
     pos: u32,
     source: &mut S,

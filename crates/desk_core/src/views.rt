@@ -1,6 +1,6 @@
 //! The texts and frames of viewers.
 ghost use Rattle.std.specs.Prelude.{◌≡◌, IsSome};
-ghost use Rattle.viewer_tracks.specs.Columns.{IsPlaced};
+ghost use Rattle.viewer_tracks.specs.Columns.{IsOnTop};
 ghost use Rattle.desktop_definitions.specs.Tables.{numbered};
 ghost use Rattle.desktop_definitions.specs.Viewers.{text_in};
 ghost use Rattle.desktop_definitions.specs.Shown.{caret_position};
@@ -27,7 +27,7 @@ pub fn text_there(texts: &Texts, number: u16) -> &Text
 }
 
 /// The position of the caret, where it stands in that viewer.
-pub fn position_in(id: u8, caret: Option<Caret>) -> Option<u32>
+pub fn position_in(id: u16, caret: Option<Caret>) -> Option<u32>
     ensures { result ≡ caret_position id caret }
 {
     match caret {
@@ -44,9 +44,9 @@ pub fn position_in(id: u8, caret: Option<Caret>) -> Option<u32>
 
 impl Desk {
     /// The text in which a word stands that is called.
-    pub fn text_called(&self, id: u8, in_menu: bool) -> &Text
+    pub fn text_called(&self, id: u16, in_menu: bool) -> &Text
         requires whole { IsKeptWhole (kept self.now) }
-        requires placed { IsPlaced id (kept self.now).columns }
+        requires placed { IsOnTop id (kept self.now).columns }
         ensures { result.now ≡ text_called (kept self.now) id in_menu }
     {
         let viewer = viewer_or_none(&self.viewers, id);
@@ -58,9 +58,9 @@ impl Desk {
     }
 
     /// The main text of a viewer.
-    pub fn main_text(&self, id: u8) -> &Text
+    pub fn main_text(&self, id: u16) -> &Text
         requires whole { IsKeptWhole (kept self.now) }
-        requires placed { IsPlaced id (kept self.now).columns }
+        requires placed { IsOnTop id (kept self.now).columns }
         ensures { result.now ≡ text_in (kept self.now).texts (viewer_or_none (kept self.now).viewers id).main }
     {
         let viewer = viewer_or_none(&self.viewers, id);
@@ -71,7 +71,7 @@ impl Desk {
     }
 
     /// The frame in which a viewer shows it, without what is marked there.
-    pub fn main_frame(&self, id: u8) -> Frame
+    pub fn main_frame(&self, id: u16) -> Frame
         ensures { result.org ≡ (viewer_or_none (kept self.now).viewers id).org }
     {
         let viewer = viewer_or_none(&self.viewers, id);

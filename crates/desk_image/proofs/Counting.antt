@@ -3,9 +3,10 @@ use Rattle.std.proofs.Common.{◌≡◌, ℕ, ◌+◌, ◌*◌, List, [], ◌∷
 use Rattle.std.specs.List.{flat_map}
 use Rattle.piece_ring.specs.declared.piece.Piece.{Piece}
 use Rattle.viewer_tracks.specs.Viewers.{Entry}
+use Rattle.command_table.specs.Versions.{newest_version}
 use Rattle.desk_image.specs.Image.{Image, piece_bytes, entry_bytes, look_bytes, optional, cell_bytes, listed}
-use Rattle.desk_image.specs.Image.{text_bytes}
-use Rattle.desk_image.specs.Image.{file_bytes, pieces_bytes, viewer_bytes, kept_bytes, image_bytes}
+use Rattle.desk_image.specs.Image.{text_bytes, file_bytes, pieces_bytes, viewers_bytes, stack_bytes, kept_bytes}
+use Rattle.desk_image.specs.Image.{image_bytes}
 use Rattle.event_bytes.specs.Parts.{byte, word, counted}
 
 pub long_pieces : (pieces : List Piece) → length (flat_map piece_bytes pieces) ≡ 12 * length pieces
@@ -15,11 +16,12 @@ long_pieces (p ∷ pieces) =
     let both = length-append (piece_bytes p) (flat_map piece_bytes pieces) in
     omega (arith, rest, both)
 
-pub long_entries : (entries : List Entry) → length (flat_map entry_bytes entries) ≡ 2 * length entries
+pub long_entries : (entries : List Entry)
+    → length (flat_map (entry_bytes newest_version) entries) ≡ 3 * length entries
 long_entries [] = omega arith
 long_entries (e ∷ entries) =
     let rest = long_entries entries in
-    let both = length-append (entry_bytes e) (flat_map entry_bytes entries) in
+    let both = length-append (entry_bytes newest_version e) (flat_map (entry_bytes newest_version) entries) in
     omega (arith, rest, both)
 
 -- ---- a sum over items: what was counted, and what is to come
@@ -54,14 +56,15 @@ long_parts : (a b c d e f g h k l m : List ℕ)
     + (length l + length m)))))))))
 long_parts a b c d e f g h k l m = simp length-append
 
-pub long_image : (i : Image) → length (image_bytes i) ≡ length (look_bytes i.look) + (length (counted byte i.pattern)
+pub long_image : (version : ℕ) (i : Image) → length (image_bytes version i)
+    ≡ length (look_bytes i.look) + (length (counted byte i.pattern)
     + (length (optional cell_bytes i.marker) + (length (listed word text_bytes i.texts)
     + (length (listed word file_bytes i.files) + (length (pieces_bytes i.copied) + (length (pieces_bytes i.deleted)
-    + (length (listed byte viewer_bytes i.viewers) + (length (listed byte entry_bytes i.user)
-    + (length (listed byte entry_bytes i.system) + length (optional kept_bytes i.kept))))))))))
+    + (length (viewers_bytes version i.viewers) + (length (stack_bytes version i.user)
+    + (length (stack_bytes version i.system) + length (optional (kept_bytes version) i.kept))))))))))
 unfolding image_bytes
-long_image i =
+long_image version i =
     long_parts (look_bytes i.look) (counted byte i.pattern) (optional cell_bytes i.marker)
     (listed word text_bytes i.texts) (listed word file_bytes i.files) (pieces_bytes i.copied) (pieces_bytes i.deleted)
-    (listed byte viewer_bytes i.viewers) (listed byte entry_bytes i.user) (listed byte entry_bytes i.system)
-    (optional kept_bytes i.kept)
+    (viewers_bytes version i.viewers) (stack_bytes version i.user) (stack_bytes version i.system)
+    (optional (kept_bytes version) i.kept)

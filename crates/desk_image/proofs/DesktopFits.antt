@@ -17,7 +17,7 @@ use Rattle.desk_image.specs.Fitting.{FitsCell, FitsTexts, FitsFiles, FitsImage, 
 use Rattle.desk_image.proofs.PieceFits.{pieces_fit}
 use Rattle.desk_image.proofs.Room.{IsShort, short_image, most_texts}
 use Rattle.desk_image.proofs.TableFits.{text_fits, table_fits, texts_fit, files_fit}
-use Rattle.desk_image.proofs.ViewersFit.{AreSmall, viewers_fit, track_fits, kept_fits}
+use Rattle.desk_image.proofs.ViewersFit.{AreSmall, viewers_fit, column_fits, kept_fits}
 
 cell_fits : (marker : Option (ℕ × ℕ)) → ForSome marker (λ m. (m.0 < COLUMNS) × (m.1 < ROWS)) → IfSome marker FitsCell
 cell_fits None within = tt
@@ -28,31 +28,34 @@ texts_low : (e : Desktop) → held e ≤ most_held → lengths e.texts ≤ most_
 unfolding held
 texts_low e low = omega (arith, low)
 
-small : (d : KeptDesktop) → IsKeptWhole d → IsSpellable d
-    → AreSmall (seen_table [] d.texts) d.viewers d.columns d.kept d.caret d.selections
+small : (version : ℕ) (d : KeptDesktop) → IsKeptWhole d → IsSpellable version d
+    → AreSmall version (seen_table [] d.texts) d.viewers d.columns d.kept d.caret d.selections
 unfolding seen
-small d whole parts =
+small version d whole parts =
     let sound : IsSound (seen [] d) = whole.sound [] in
     let shaped = sound.shaped in
     record {
       numbers = subst (λ (numbers : List ℕ). All InWord numbers) (sym (keys_of-map_values (seen_text []) d.texts))
           parts.numbers;
       ids = parts.ids;
+      user = parts.user;
+      system = parts.system;
       low = texts_low (seen [] d) sound.held_within;
       viewers_hold = shaped.viewers;
       places = shaped.places;
       marks = shaped.marks;
     }
 
-pub desktop_fits : (d : KeptDesktop) → IsKeptWhole d → IsSpellable d → FitsImage d.written (image_of d)
+pub desktop_fits : (version : ℕ) (d : KeptDesktop) → IsKeptWhole d → IsSpellable version d
+    → FitsImage version d.written (image_of d)
 unfolding FitsImage image_of seen
-desktop_fits d whole parts =
+desktop_fits version d whole parts =
     let sound : IsSound (seen [] d) = whole.sound [] in
     let shaped = sound.shaped in
     let looks : HasLooks (seen [] d) = shaped.looks in
     let within = whole.within in
-    let are = small d whole parts in
-    let short : IsShort (image_of d) = short_image d whole parts in
+    let are = small version d whole parts in
+    let short : IsShort (image_of d) = short_image version d whole parts in
     let few : length d.texts ≤ most_texts = short.texts in
     let low : totals d.texts + totals d.files + total d.copied + total d.deleted ≤ most_held = short.low in
     let numbers = subst (λ (numbers : List ℕ). IsStrictlySortedBy nat_cmp numbers)
@@ -73,9 +76,10 @@ desktop_fits d whole parts =
     (text_fits [] d.written d.copied parts.copied within.copied looks.copied) (omega (arith, low)) (omega arith) in
     let deleted = pieces_fit d.written (most_held - totals d.texts - totals d.files - total d.copied) d.deleted
     (text_fits [] d.written d.deleted parts.deleted within.deleted looks.deleted) (omega (arith, low)) (omega arith) in
-    let viewers = viewers_fit (seen_table [] d.texts) d.viewers d.columns d.kept d.caret d.selections are in
-    let user = track_fits (seen_table [] d.texts) d.viewers d.columns d.kept d.caret d.selections are User in
-    let system = track_fits (seen_table [] d.texts) d.viewers d.columns d.kept d.caret d.selections are System in
-    let kept = kept_fits (seen_table [] d.texts) d.viewers d.columns d.kept d.caret d.selections are in
+    let viewers = viewers_fit version (seen_table [] d.texts) d.viewers d.columns d.kept d.caret d.selections are in
+    let user = column_fits version (seen_table [] d.texts) d.viewers d.columns d.kept d.caret d.selections are User in
+    let system =
+    column_fits version (seen_table [] d.texts) d.viewers d.columns d.kept d.caret d.selections are System in
+    let kept = kept_fits version (seen_table [] d.texts) d.viewers d.columns d.kept d.caret d.selections are in
     let marker = cell_fits d.marker shaped.marker in
     (looks.look, (shaped.pattern, (marker, (texts, (files, (copied, (deleted, (viewers, (user, (system, kept))))))))))

@@ -1,11 +1,11 @@
 -- The parts of an image that are lists, and the image.
-use Rattle.std.proofs.Common.{◌≡◌, ℕ, ◌-◌, ◌<◌, ◌≤◌, Bool, true, false, List, [], ◌∷◌, ◌++◌, length, Option, Some, None}
+use Rattle.std.proofs.Common.{◌≡◌, ℕ, ◌-◌, ◌<◌, ◌≤◌, ◌^◌, Bool, true, false, List, [], ◌∷◌, ◌++◌, length, Option, Some, None}
 use Rattle.std.proofs.Common.{refl, sym, ap, subst, ◌∙◌, arith}
-use Rattle.std.specs.Prelude.{cond, nat_le, nat_eq}
+use Rattle.std.specs.Prelude.{cond, if◌then◌else◌, ◌&&◌, nat_le, nat_lt, nat_eq}
 use Rattle.std.proofs.lemmas.Bool.{eqb-true}
 use Rattle.std.proofs.lemmas.Bool.Decides.{nat_tests}
 use Rattle.std.proofs.lemmas.List.{append-nil}
-use Rattle.event_bytes.specs.Parts.{Reader, byte, word, byte_at, IsPart}
+use Rattle.event_bytes.specs.Parts.{Reader, byte, word, byte_at, pair_at, Takes, IsPart}
 use Rattle.event_bytes.proofs.EventParts.{name_part}
 use Rattle.event_bytes.proofs.PartLaws.{given, some_is, bind_some, test_some, Nothing, whole, field, last, only, recast}
 use Rattle.event_bytes.proofs.PartLaws.{byte_part, word_part}
@@ -13,7 +13,7 @@ use Rattle.piece_ring.specs.declared.piece.Look.{Look}
 use Rattle.piece_ring.specs.declared.piece.Piece.{Piece}
 use Rattle.viewer_tracks.specs.declared.display.Track.{Track}
 use Rattle.viewer_tracks.specs.declared.display.Track.TheVariants.{User, System}
-use Rattle.viewer_tracks.specs.declared.display.TheConstants.{ROWS, SYSTEM_LEFT}
+use Rattle.viewer_tracks.specs.declared.display.TheConstants.{ROWS, DEPTH, SYSTEM_LEFT}
 use Rattle.viewer_tracks.specs.Display.{left_of}
 use Rattle.viewer_tracks.specs.Viewers.{Entry}
 use Rattle.desktop_definitions.specs.declared.viewer.Kept.{Kept}
@@ -21,15 +21,17 @@ use Rattle.desktop_definitions.specs.Limits.{most_files, most_held}
 use Rattle.desktop_definitions.specs.Tables.{Texts, Files}
 use Rattle.desk_image.specs.declared.picture.Ranked.{Ranked}
 use Rattle.desk_image.specs.declared.picture.ViewerPicture.{ViewerPicture}
-use Rattle.desk_image.specs.Image.{Image, listed, pieces_bytes, text_bytes, file_bytes, ranked_bytes, viewer_bytes}
-use Rattle.desk_image.specs.Image.{entry_bytes, kept_bytes, image_bytes, InByte, InLong}
+use Rattle.desk_image.specs.declared.limits.TheConstants.{MOST_VIEWERS}
+use Rattle.desk_image.specs.Image.{Image, listed, pieces_bytes, text_bytes, file_bytes, ranked_bytes, has_overlays}
+use Rattle.desk_image.specs.Image.{id_bytes, viewer_bytes, viewers_bytes, entry_bytes, track_bytes, depth_bytes}
+use Rattle.desk_image.specs.Image.{stack_bytes, kept_bytes, image_bytes, InByte, InLong, InId}
 use Rattle.desk_image.specs.Fitting.{Chain, FitsPieces, less, total, totals, FitsText, after_text, FitsTexts, follows}
 use Rattle.desk_image.specs.Fitting.{FitsFile, after_file, FitsFiles, FitsRanked, FitsViewer, after_viewer, FitsViewers}
-use Rattle.desk_image.specs.Fitting.{FitsEntry, above, FitsTrack, FitsKept, FitsImage}
+use Rattle.desk_image.specs.Fitting.{FitsEntry, above, FitsTrack, FitsLevel, overlaid, FitsStack, FitsKept, FitsImage}
 use Rattle.desk_image.specs.Reading.{keyed_at}
-use Rattle.desk_image.specs.Reading.{pieces_at, text_at, texts_at, file_at, files_at, ranked_at, viewer_at, viewers_at}
-use Rattle.desk_image.specs.Reading.{raw_entry_at, is_entry, entry_at, track_at, side_at, raw_kept_at, is_kept, kept_at}
-use Rattle.desk_image.specs.Reading.{image_at, whole_image_at}
+use Rattle.desk_image.specs.Reading.{pieces_at, text_at, texts_at, file_at, files_at, ranked_at, id_at, viewer_at}
+use Rattle.desk_image.specs.Reading.{viewers_at, raw_entry_at, is_entry, entry_at, track_at, level_at, depth_at}
+use Rattle.desk_image.specs.Reading.{stack_at, side_at, raw_kept_at, is_kept, kept_at, image_at, whole_image_at}
 use Rattle.desk_image.proofs.Lists.{tested, ruled, items, listed_part, optional_part}
 use Rattle.desk_image.proofs.Fields.{long_part, look_part, piece_part, pattern_part, cell_part}
 
@@ -85,9 +87,19 @@ ranked_part = whole (
     last (λ (r : Ranked). r.end) (λ end. record { rank = rank; beg = beg; end = end }) long_part
     (λ end. ((tt, refl), refl)) (λ end. refl) (λ r known. rw (← known.0.1, ← known.1) refl))))
 
-pub viewer_part : (least : ℕ) → IsPart viewer_bytes (FitsViewer least) (viewer_at least)
-viewer_part least = whole (
-    field _ (λ (v : ViewerPicture). v.id) byte_part (λ id _.
+id_part_in : (overlays : Bool) → IsPart (λ n. if overlays then word n else byte n)
+    (λ n. n < (if overlays then 2 ^ 16 else 2 ^ 8)) (λ bytes. if overlays then pair_at bytes else byte_at bytes)
+id_part_in true = word_part
+id_part_in false = byte_part
+
+pub id_part : (version : ℕ) → IsPart (id_bytes version) (InId version) (id_at version)
+unfolding id_at
+id_part version = id_part_in (has_overlays version)
+
+pub viewer_part : (version least : ℕ)
+    → IsPart (viewer_bytes version) (FitsViewer version least) (viewer_at version least)
+viewer_part version least = whole (
+    field _ (λ (v : ViewerPicture). v.id) (id_part version) (λ id _.
     tested (λ (v : ViewerPicture). nat_le least v.id) (nat_le least id) (λ v known. ap (nat_le least) known.1) (λ _.
     field _ (λ (v : ViewerPicture). v.viewer.menu) word_part (λ menu _.
     field _ (λ (v : ViewerPicture). v.viewer.main) word_part (λ main _.
@@ -105,51 +117,116 @@ viewer_part least = whole (
       selection = selection;
     }
 
-pub viewers_part : IsPart (listed byte viewer_bytes) FitsViewers viewers_at
+pub viewers_part : (version : ℕ) → IsPart (viewers_bytes version) (FitsViewers version) (viewers_at version)
 unfolding viewers_at
-viewers_part = listed_part after_viewer viewer_part 0 byte_part
+viewers_part version =
+    recast (λ viewers fits. (fits.0, (grind (arith, nat_tests, fits.1.0), fits.1.1)))
+    (λ viewers fits. (fits.0, (grind (arith, nat_tests, fits.1.0), fits.1.1)))
+    (whole (
+    field _ (λ (viewers : List ViewerPicture). length viewers) (id_part version) (λ count _.
+    tested (λ viewers. nat_le (length viewers) MOST_VIEWERS) (nat_le count MOST_VIEWERS)
+    (λ viewers known. ap (λ n. nat_le n MOST_VIEWERS) known.1)
+    (λ _. items after_viewer (viewer_part version) count 0))))
 
 -- ---- tracks
 
 -- what an entry has that is read where so many rows are left
-abbrev ReadEntry : ℕ → Entry → Type 0
-ReadEntry room e = (InByte e.viewer × InByte e.height) × (is_entry room e ≡ true)
+abbrev ReadEntry : ℕ → ℕ → Entry → Type 0
+ReadEntry version room e = (InId version e.viewer × InByte e.height) × (is_entry room e ≡ true)
 
-entry_part : (room : ℕ) → IsPart entry_bytes (ReadEntry room) (entry_at room)
+entry_part : (version room : ℕ) → IsPart (entry_bytes version) (ReadEntry version room) (entry_at version room)
 unfolding entry_at raw_entry_at
-entry_part room = only (is_entry room) (whole (
-    field _ (λ (e : Entry). e.viewer) byte_part (λ viewer _.
+entry_part version room = only (is_entry room) (whole (
+    field _ (λ (e : Entry). e.viewer) (id_part version) (λ viewer _.
     last (λ (e : Entry). e.height) (λ height. record { viewer = viewer; height = height }) byte_part
     (λ height. (tt, refl)) (λ height. refl) (λ e known. rw (← known.1) refl))))
 
-entries_fit : (room : ℕ) (track : List Entry) → Chain ReadEntry above room track → Chain FitsEntry above room track
-entries_fit room [] fits = tt
-entries_fit room (e ∷ track) fits = (
+entries_fit : (version room : ℕ) (track : List Entry) → Chain (ReadEntry version) above room track
+    → Chain (FitsEntry version) above room track
+entries_fit version room [] fits = tt
+entries_fit version room (e ∷ track) fits = (
   record {
     viewer = fits.0.0.0;
     some = grind (arith, nat_tests, fits.0.1);
     short = grind (arith, nat_tests, fits.0.1);
   },
-  entries_fit (above room e) track fits.1,
+  entries_fit version (above room e) track fits.1,
 )
 
 -- each entry has a row at least, so there are no more of them than rows
-fits_entries : (room : ℕ) (track : List Entry) → room ≤ ROWS → Chain FitsEntry above room track
-    → (length track ≤ room) × Chain ReadEntry above room track
-fits_entries room [] small fits = (omega arith, tt)
-fits_entries room (e ∷ track) small fits =
+fits_entries : (version room : ℕ) (track : List Entry) → room ≤ ROWS → Chain (FitsEntry version) above room track
+    → (length track ≤ room) × Chain (ReadEntry version) above room track
+fits_entries version room [] small fits = (omega arith, tt)
+fits_entries version room (e ∷ track) small fits =
     let some : 0 < e.height = fits.0.some in
     let short : e.height ≤ room = fits.0.short in
-    let (count, others) = fits_entries (above room e) track (omega (arith, small)) fits.1 in
+    let (count, others) = fits_entries version (above room e) track (omega (arith, small)) fits.1 in
     let height : InByte e.height = omega (arith, short, small) in
     (omega (arith, count, some, short), (((fits.0.viewer, height), grind (arith, nat_tests, some, short)), others))
 
-pub track_part : IsPart (listed byte entry_bytes) FitsTrack track_at
+pub track_part : (version : ℕ) → IsPart (track_bytes version) (FitsTrack version) (track_at version)
 unfolding track_at
-track_part =
-    recast (λ track fits. entries_fit ROWS track fits.1)
-    (λ track fits. let (count, others) = fits_entries ROWS track (omega arith) fits in (omega (arith, count), others))
-    (listed_part above entry_part ROWS byte_part)
+track_part version =
+    recast (λ track fits. entries_fit version ROWS track fits.1)
+    (λ track fits. let (count, others) = fits_entries version ROWS track (omega arith) fits in
+    (omega (arith, count), others))
+    (listed_part above (entry_part version) ROWS byte_part)
+
+-- ---- columns
+
+level_part : (version least : ℕ) → IsPart (track_bytes version) (FitsLevel version least) (level_at version least)
+unfolding level_at
+level_part version least =
+    recast (λ track fits. (fits.1, fits.0)) (λ track fits. (fits.1, fits.0))
+    (only (λ track. nat_le least (length track)) (track_part version))
+
+-- what a number of tracks has that is read
+abbrev IsDepth : Bool → ℕ → Type 0
+IsDepth true n = InByte n
+IsDepth false n = n ≡ 1
+
+depth_part_in : (overlays : Bool) → IsPart (λ n. if overlays then byte n else []) (IsDepth overlays)
+    (λ bytes. if overlays then byte_at bytes else Some (1, bytes))
+depth_part_in true = byte_part
+depth_part_in false = record {
+  takes = λ bytes n rest e.
+      subst (λ (y : ℕ × List ℕ). Takes (λ m. []) (IsDepth false) bytes y.0 y.1)
+      (some_is {A = ℕ × List ℕ} (1, bytes) (n, rest) e) (record { fits = refl; parts = refl });
+  again = λ n rest fits. ap (λ m. given {A = ℕ × List ℕ} (m, rest)) (sym fits);
+}
+
+depth_part : (version : ℕ) → IsPart (depth_bytes version) (IsDepth (has_overlays version)) (depth_at version)
+unfolding depth_at
+depth_part version = depth_part_in (has_overlays version)
+
+-- as many tracks as a column may have
+abbrev is_depth : ℕ → Bool
+is_depth n = nat_lt 0 n && nat_le n DEPTH
+
+some_deep : (overlays : Bool) (n : ℕ) → IsDepth overlays n → is_depth n ≡ true
+    → (0 < n) × (n ≤ (if overlays then DEPTH else 1))
+some_deep true n small test = (grind (arith, nat_tests, test), grind (arith, nat_tests, test))
+some_deep false n one test = (omega (arith, one), omega (arith, one))
+
+deep_enough : (overlays : Bool) (n : ℕ) → 0 < n → n ≤ (if overlays then DEPTH else 1)
+    → IsDepth overlays n × (is_depth n ≡ true)
+deep_enough true n some few = (omega (arith, few), grind (arith, nat_tests, some, few))
+deep_enough false n some few =
+    let one : n ≡ 1 = omega (arith, some, few) in
+    (one, grind (arith, nat_tests, one))
+
+pub stack_part : (version : ℕ) → IsPart (stack_bytes version) (FitsStack version) (stack_at version)
+unfolding stack_at
+stack_part version =
+    recast
+    (λ stack fits. let (some, few) = some_deep (has_overlays version) (length stack) fits.0 fits.1.0 in
+    (some, (few, fits.1.1)))
+    (λ stack fits. let (depth, test) = deep_enough (has_overlays version) (length stack) fits.0 fits.1.0 in
+    (depth, (test, fits.1.1)))
+    (whole (
+    field _ (λ (stack : List (List Entry)). length stack) (depth_part version) (λ depth _.
+    tested (λ stack. is_depth (length stack)) (is_depth depth) (λ stack known. ap is_depth known.1)
+    (λ _. items overlaid (level_part version) depth 0))))
 
 -- ---- the viewer that was closed last
 
@@ -186,29 +263,30 @@ side_part = record {
   again = side_again;
 }
 
-abbrev RawKept : Kept → Type 0
-RawKept k = InByte k.viewer × (Unit {0} × InByte k.top)
+abbrev RawKept : ℕ → Kept → Type 0
+RawKept version k = InId version k.viewer × (Unit {0} × InByte k.top)
 
-kept_fits : (k : Kept) → RawKept k × (is_kept k ≡ true) → FitsKept k
-kept_fits k (raw, test) = (raw.0, (grind (arith, nat_tests, test), grind (arith, nat_tests, test)))
+kept_fits : (version : ℕ) (k : Kept) → RawKept version k × (is_kept k ≡ true) → FitsKept version k
+kept_fits version k (raw, test) = (raw.0, (grind (arith, nat_tests, test), grind (arith, nat_tests, test)))
 
-fits_kept : (k : Kept) → FitsKept k → RawKept k × (is_kept k ≡ true)
-fits_kept k (viewer, (some, top)) = ((viewer, (tt, omega (arith, top))), grind (arith, nat_tests, some, top))
+fits_kept : (version : ℕ) (k : Kept) → FitsKept version k → RawKept version k × (is_kept k ≡ true)
+fits_kept version k (viewer, (some, top)) = ((viewer, (tt, omega (arith, top))), grind (arith, nat_tests, some, top))
 
-pub kept_part : IsPart kept_bytes FitsKept kept_at
+pub kept_part : (version : ℕ) → IsPart (kept_bytes version) (FitsKept version) (kept_at version)
 unfolding kept_at raw_kept_at
-kept_part =
-    recast kept_fits fits_kept (only is_kept (whole (
-    field _ (λ (k : Kept). k.viewer) byte_part (λ viewer _.
+kept_part version =
+    recast (kept_fits version) (fits_kept version) (only is_kept (whole (
+    field _ (λ (k : Kept). k.viewer) (id_part version) (λ viewer _.
     field _ (λ (k : Kept). k.track) side_part (λ track _.
     last (λ (k : Kept). k.top) (λ top. record { viewer = viewer; track = track; top = top }) byte_part
     (λ top. ((tt, refl), refl)) (λ top. refl) (λ k known. rw (← known.0.1, ← known.1) refl))))))
 
 -- ---- images
 
-pub image_part : (written : ℕ) → InLong written → IsPart image_bytes (FitsImage written) (image_at written)
+pub image_part : (version written : ℕ) → InLong written
+    → IsPart (image_bytes version) (FitsImage version written) (image_at version written)
 unfolding image_bytes FitsImage image_at
-image_part written small = whole (
+image_part version written small = whole (
     field _ (λ (i : Image). i.look) look_part (λ look _.
     field _ (λ (i : Image). i.pattern) pattern_part (λ pattern _.
     field _ (λ (i : Image). i.marker) (optional_part cell_part) (λ marker _.
@@ -223,11 +301,11 @@ image_part written small = whole (
     ruled (FitsPieces written) _ (λ (i : Image). i.deleted)
     (λ i. most_held - totals i.texts - totals i.files - total i.copied) room
     (λ i known. rw (known.0.0.1, known.0.1, known.1) refl) (pieces_part written room small) (λ deleted _.
-    field _ (λ (i : Image). i.viewers) viewers_part (λ viewers _.
-    field _ (λ (i : Image). i.user) track_part (λ user _.
-    field _ (λ (i : Image). i.system) track_part (λ system _.
+    field _ (λ (i : Image). i.viewers) (viewers_part version) (λ viewers _.
+    field _ (λ (i : Image). i.user) (stack_part version) (λ user _.
+    field _ (λ (i : Image). i.system) (stack_part version) (λ system _.
     last (λ (i : Image). i.kept) (image look pattern marker texts files copied deleted viewers user system)
-    (optional_part kept_part)
+    (optional_part (kept_part version))
     (λ kept. ((((((((((tt, refl), refl), refl), refl), refl), refl), refl), refl), refl), refl)) (λ kept. refl)
     (λ i known. rw (
       ← known.0.0.0.0.0.0.0.0.0.1,
@@ -243,7 +321,7 @@ image_part written small = whole (
     ) refl))))))))))))
   where
     image : Look → List ℕ → Option (ℕ × ℕ) → Texts (List Piece) → Files (List Piece) → List Piece → List Piece
-        → List ViewerPicture → List Entry → List Entry → Option Kept → Image
+        → List ViewerPicture → List (List Entry) → List (List Entry) → Option Kept → Image
     image look pattern marker texts files copied deleted viewers user system kept = record {
       look = look;
       pattern = pattern;
@@ -260,19 +338,21 @@ image_part written small = whole (
 
 -- ---- an image, and no byte after it
 
-pub whole_takes : (written : ℕ) (bytes : List ℕ) (i : Image) → InLong written
-    → whole_image_at written bytes ≡ Some (i, []) → FitsImage written i × (bytes ≡ image_bytes i)
+pub whole_takes : (version written : ℕ) (bytes : List ℕ) (i : Image) → InLong written
+    → whole_image_at version written bytes ≡ Some (i, [])
+    → FitsImage version written i × (bytes ≡ image_bytes version i)
 unfolding whole_image_at
-whole_takes written bytes i small e =
-    let (x, x_is, e1) = bind_some (image_at written bytes) _ _ e in
+whole_takes version written bytes i small e =
+    let (x, x_is, e1) = bind_some (image_at version written bytes) _ _ e in
     let (none_left, e2) = test_some (nat_eq (length x.1) 0) (given {A = Image × List ℕ} x) (i, []) e1 in
-    let t = (image_part written small).takes bytes i [] (x_is ∙ e2) in
-    (t.fits, t.parts ∙ append-nil (image_bytes i))
+    let t = (image_part version written small).takes bytes i [] (x_is ∙ e2) in
+    (t.fits, t.parts ∙ append-nil (image_bytes version i))
 
-pub whole_again : (written : ℕ) (bytes : List ℕ) (i : Image) → InLong written → FitsImage written i
-    → bytes ≡ image_bytes i → whole_image_at written bytes ≡ Some (i, [])
+pub whole_again : (version written : ℕ) (bytes : List ℕ) (i : Image) → InLong written → FitsImage version written i
+    → bytes ≡ image_bytes version i → whole_image_at version written bytes ≡ Some (i, [])
 unfolding whole_image_at
-whole_again written bytes i small fits exact =
-    let read : image_at written bytes ≡ Some (i, []) =
-    ap (image_at written) (exact ∙ sym (append-nil (image_bytes i))) ∙ (image_part written small).again i [] fits in
+whole_again version written bytes i small fits exact =
+    let read : image_at version written bytes ≡ Some (i, []) =
+    ap (image_at version written) (exact ∙ sym (append-nil (image_bytes version i)))
+    ∙ (image_part version written small).again i [] fits in
     rw read refl

@@ -1,7 +1,9 @@
 -- More ways to put parts together: lists, options, tests of what was read, and parts that depend on earlier ones.
-use Rattle.std.proofs.Common.{◌≡◌, ℕ, zero, suc, Bool, true, false, cond, List, [], ◌∷◌, ◌++◌, length, Option}
-use Rattle.std.proofs.Common.{Some, None, refl, sym, ap, subst, ◌∙◌, append_assoc}
-use Rattle.std.specs.Prelude.{IfSome, ◌==◌}
+use Rattle.std.proofs.Common.{◌≡◌, ℕ, zero, suc, ◌-◌, ◌<◌, Bool, true, false, cond, List, [], ◌∷◌, ◌++◌, length, Option}
+use Rattle.std.proofs.Common.{Some, None, refl, sym, ap, subst, ◌∙◌, append_assoc, arith}
+use Rattle.std.specs.Prelude.{IfSome, ◌==◌, All, reverse}
+use Rattle.std.proofs.lemmas.List.{length-reverse, get_or-reverse}
+use Rattle.std.proofs.lemmas.List.Elements.{All-get_or, All-from_get_or}
 use Rattle.std.specs.List.{flat_map}
 use Rattle.std.proofs.lemmas.Bool.{eqb-true}
 use Rattle.std.proofs.lemmas.List.Concat.{flat_map-cons}
@@ -166,3 +168,12 @@ module _ {A : Type 0} {write : A → List ℕ} {Fits : A → Type 0} {read : Rea
           let first = byte_part.takes bytes flag.0 flag.1 flag_is in
           subst (λ bytes. Here bytes (o, rest)) (sym first.parts)
           (flagged flag.0 (flag.0 == 0) (flag.0 == 1) flag.1 (o, rest) (eqb-true flag.0 0) (eqb-true flag.0 1) e1)
+
+-- ---- what holds of all items, in the other order
+
+pub all_reversed : {X : Type 0} (P : X → Type 0) (xs : List X) (d : X) → All P xs → All P (reverse xs)
+all_reversed P xs d all = All-from_get_or P (reverse xs) d (λ i low.
+    let same = length-reverse xs in
+    let place : length xs - 1 - i < length xs = omega (arith, low, same) in
+    subst P (sym (get_or-reverse xs i d (omega (arith, low, same))))
+    (All-get_or P xs (length xs - 1 - i) d place all))

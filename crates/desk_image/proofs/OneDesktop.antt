@@ -1,17 +1,18 @@
 -- Desktops that hold together are told apart by their parts.
-use Rattle.std.specs.Prelude.{◌≡◌, ℕ, ◌+◌, ◌≤◌, ◌==◌, true, false, cond, Bool, List, [], ◌∷◌, length, map}
+use Rattle.std.specs.Prelude.{◌≡◌, ℕ, ◌+◌, ◌≤◌, ◌==◌, true, false, cond, Bool, List, [], ◌∷◌, map, reverse}
 use Rattle.std.specs.Prelude.{count_by, All, IsSome, Option, Some, None}
 use Rattle.std.specs.List.{slice_index_or}
 use Rattle.std.specs.Ordering.{nat_cmp}
 use Rattle.std.specs.BTreeMap.{is_at}
 use Rattle.std.proofs.Common.{refl, sym, ap, subst, ◌∙◌, arith}
 use Rattle.std.proofs.lemmas.Bool.{eq-eqb, eqb-true}
+use Rattle.std.proofs.lemmas.List.{reverse-reverse}
 use Rattle.std.proofs.lemmas.List.Elements.{All-head, All-tail}
 use Rattle.std.proofs.lemmas.List.Sums.{sum_by-cons}
 use Rattle.event_bytes.proofs.PartLaws.{some_is}
 use Rattle.viewer_tracks.specs.declared.display.Track.TheVariants.{User, System}
 use Rattle.viewer_tracks.specs.Viewers.{Entry}
-use Rattle.viewer_tracks.specs.Columns.{Columns, IsColumns, IsPlaced, topmost, shown}
+use Rattle.viewer_tracks.specs.Columns.{Columns, IsOnTop, stack_of}
 use Rattle.desktop_definitions.specs.declared.viewer.Viewer.{Viewer}
 use Rattle.desktop_definitions.specs.declared.viewer.Caret.{Caret}
 use Rattle.desktop_definitions.specs.declared.viewer.Selection.{Selection}
@@ -19,26 +20,22 @@ use Rattle.desktop_definitions.specs.Desktop.{KeptDesktop}
 use Rattle.desktop_definitions.specs.Seen.{seen}
 use Rattle.desktop_definitions.specs.Viewers.{viewer_in}
 use Rattle.desktop_definitions.specs.Sound.{IsKeptWhole, IsShaped}
-use Rattle.desktop_laws.specs.PlaceLaws.{at_same}
+use Rattle.desktop_laws.specs.PlaceLaws.{at_same, on_top_placed}
 use Rattle.desktop_laws.specs.ViewLaws.{placed_there}
 use Rattle.desk_image.specs.declared.picture.Ranked.{Ranked}
 use Rattle.desk_image.specs.declared.picture.ViewerPicture.{ViewerPicture}
 use Rattle.desk_image.specs.Image.{Image, image_of, caret_in, ranked_in, picture_of}
 
--- ---- stacks of one track
+-- ---- columns
 
-one_track : (a b : List (List Entry)) → length a ≡ 1 → length b ≡ 1 → topmost a ≡ topmost b → a ≡ b
-one_track [] b one other same = absurd (omega (arith, one))
-one_track (t ∷ []) [] one other same = absurd (omega (arith, other))
-one_track (t ∷ []) (u ∷ []) one other same = ap (λ (x : List Entry). x ∷ []) same
-one_track (t ∷ []) (u ∷ more ∷ b) one other same = absurd (omega (arith, other))
-one_track (t ∷ more ∷ a) b one other same = absurd (omega (arith, one))
+pub same_stack : (a b : List (List Entry)) → reverse a ≡ reverse b → a ≡ b
+same_stack a b same = sym (reverse-reverse a) ∙ ap reverse same ∙ reverse-reverse b
 
-pub same_columns : (c e : Columns) → IsColumns c → IsColumns e → shown c User ≡ shown e User
-    → shown c System ≡ shown e System → c ≡ e
-same_columns c e one other user system = λ k. record {
-  user = one_track c.user e.user one.one_user other.one_user user k;
-  system = one_track c.system e.system one.one_system other.one_system system k;
+pub same_columns : (c e : Columns) → reverse (stack_of c User) ≡ reverse (stack_of e User)
+    → reverse (stack_of c System) ≡ reverse (stack_of e System) → c ≡ e
+same_columns c e user system = λ k. record {
+  user = same_stack c.user e.user user k;
+  system = same_stack c.system e.system system k;
 }
 
 -- ---- viewers
@@ -231,16 +228,16 @@ same_desktop d e one other count same =
     let all : map (picture_of d.caret d.selections) d.viewers ≡ map (picture_of e.caret e.selections) e.viewers =
     ap (λ (i : Image). i.viewers) same in
     let viewers = same_viewers d.caret e.caret d.selections e.selections d.viewers e.viewers all in
-    let columns = same_columns d.columns e.columns shaped.places.columns_hold those.places.columns_hold
-    (ap (λ (i : Image). i.user) same) (ap (λ (i : Image). i.system) same) in
+    let columns = same_columns d.columns e.columns (ap (λ (i : Image). i.user) same)
+    (ap (λ (i : Image). i.system) same) in
     let agree : (v : ℕ) → IsSome (viewer_in d.viewers v) → SameIn d.caret e.caret d.selections e.selections v =
     λ v found. same_in d.caret e.caret d.selections e.selections v d.viewers
     (all ∙ ap (map (picture_of e.caret e.selections)) (sym viewers)) found in
-    let here : (v : ℕ) → IsPlaced v d.columns → IsSome (viewer_in d.viewers v) =
-    λ v placed. placed_there d.viewers d.columns d.kept v shaped.places placed in
-    let there : (v : ℕ) → IsPlaced v e.columns → IsSome (viewer_in d.viewers v) =
-    λ v placed. subst (λ (vs : List (ℕ × Viewer)). IsSome (viewer_in vs v)) (sym viewers)
-    (placed_there e.viewers e.columns e.kept v those.places placed) in
+    let here : (v : ℕ) → IsOnTop v d.columns → IsSome (viewer_in d.viewers v) =
+    λ v shown. placed_there d.viewers d.columns d.kept v shaped.places (on_top_placed d.columns v shown) in
+    let there : (v : ℕ) → IsOnTop v e.columns → IsSome (viewer_in d.viewers v) =
+    λ v shown. subst (λ (vs : List (ℕ × Viewer)). IsSome (viewer_in vs v)) (sym viewers)
+    (placed_there e.viewers e.columns e.kept v those.places (on_top_placed e.columns v shown)) in
     let caret = same_caret d.caret e.caret
     (λ c is. (agree c.viewer (here c.viewer (shaped.marks.caret_stands c is).placed)).caret_same)
     (λ c is. (agree c.viewer (there c.viewer (those.marks.caret_stands c is).placed)).caret_same) in

@@ -19,16 +19,17 @@ unfolding seen
 written_low d whole = (whole.sound []).written_within
 
 -- the bytes of an image are read as it
-pub read_back : (written : ℕ) (bytes : List ℕ) (d : KeptDesktop) → Spells written bytes d
-    → whole_image_at written bytes ≡ Some (image_of d, [])
-read_back written bytes d spells =
+pub read_back : (version written : ℕ) (bytes : List ℕ) (d : KeptDesktop) → Spells version written bytes d
+    → whole_image_at version written bytes ≡ Some (image_of d, [])
+read_back version written bytes d spells =
     let low = written_low d spells.whole in
     let count = spells.count in
-    whole_again written bytes (image_of d) (omega (arith, low, count))
-    (subst (λ (n : ℕ). FitsImage n (image_of d)) count (desktop_fits d spells.whole spells.parts)) spells.exact
+    whole_again version written bytes (image_of d) (omega (arith, low, count))
+    (subst (λ (n : ℕ). FitsImage version n (image_of d)) count (desktop_fits version d spells.whole spells.parts))
+    spells.exact
 
 pub one_image : UniqueLaw
-one_image written bytes d e first second = same_desktop d e first.whole second.whole
+one_image version written bytes d e first second = same_desktop d e first.whole second.whole
     (first.count ∙ sym second.count) (ap (λ (x : Image × List ℕ). x.0)
     (some_is {A = Image × List ℕ} (image_of d, []) (image_of e, [])
-    (sym (read_back written bytes d first) ∙ read_back written bytes e second)))
+    (sym (read_back version written bytes d first) ∙ read_back version written bytes e second)))

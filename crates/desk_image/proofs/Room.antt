@@ -1,11 +1,11 @@
 -- How many bytes an image has at most: twelve for each character that the desktop holds, and some thousands.
 use Rattle.std.specs.Prelude.{◌≡◌, ℕ, ◌+◌, ◌*◌, ◌%◌, ◌<◌, ◌≤◌, ◌&&◌, nat_le, true, false, Bool, IsTrue}
-use Rattle.std.specs.Prelude.{List, [], ◌∷◌, ◌++◌, length, All, Option, Some, None}
+use Rattle.std.specs.Prelude.{List, [], ◌∷◌, ◌++◌, length, reverse, sum_by, All, Option, Some, None, if◌then◌else◌}
 use Rattle.std.specs.List.{flat_map, slice_index_or}
 use Rattle.std.specs.Map.{keys_of, values_of}
 use Rattle.std.proofs.Common.{refl, ap, subst, ◌∙◌, arith, length-append}
 use Rattle.std.proofs.lemmas.Bool.{leb-true}
-use Rattle.std.proofs.lemmas.List.{length-map}
+use Rattle.std.proofs.lemmas.List.{length-map, length-reverse}
 use Rattle.std.proofs.lemmas.List.Concat.{flat_map-cons, length-flat_map}
 use Rattle.std.proofs.lemmas.List.Elements.{All-head, All-tail}
 use Rattle.std.proofs.lemmas.List.Sums.{sum_by-cons, sum_by-le}
@@ -13,8 +13,11 @@ use Rattle.std.proofs.lemmas.Map.Made.{keys_of-map_values}
 use Rattle.event_bytes.specs.Bytes.{is_name}
 use Rattle.event_bytes.specs.Parts.{byte, word, counted}
 use Rattle.piece_ring.specs.declared.piece.Piece.{Piece}
-use Rattle.viewer_tracks.specs.declared.display.TheConstants.{ROWS}
-use Rattle.viewer_tracks.specs.declared.display.Track.TheVariants.{User, System}
+use Rattle.viewer_tracks.specs.declared.display.TheConstants.{ROWS, DEPTH}
+use Rattle.viewer_tracks.specs.Display.{left_of}
+use Rattle.viewer_tracks.specs.Viewers.{Entry, IsTrack}
+use Rattle.viewer_tracks.specs.Columns.{IsStack}
+use Rattle.desktop_definitions.specs.declared.viewer.Kept.{Kept}
 use Rattle.desktop_definitions.specs.Limits.{most_files, most_held, most_pattern}
 use Rattle.desktop_definitions.specs.Tables.{Texts, Files}
 use Rattle.desktop_definitions.specs.Desktop.{KeptDesktop, held}
@@ -22,14 +25,15 @@ use Rattle.desktop_definitions.specs.Seen.{seen, seen_text}
 use Rattle.desktop_definitions.specs.Sound.{IsKeptWhole, IsSound}
 use Rattle.desktop_laws.specs.FewLaws.{few_viewers, few_texts}
 use Rattle.desktop_laws.specs.TableLaws.{length_seen, length_seen_text, lengths_seen}
-use Rattle.desktop_laws.specs.ViewLaws.{few_stand}
-use Rattle.desk_image.specs.declared.limits.TheConstants.{IMAGE_BYTES}
+use Rattle.desk_image.specs.declared.limits.TheConstants.{IMAGE_BYTES, MOST_VIEWERS}
 use Rattle.sector_disk.specs.declared.disk.TheConstants.{SECTOR_BYTES}
 use Rattle.desk_image.specs.declared.picture.ViewerPicture.{ViewerPicture}
 use Rattle.desk_image.specs.Image.{Image, image_of, image_bytes, IsSpellable, Spells, AreSome, picture_of}
 use Rattle.desk_image.specs.Image.{long, optional, listed, piece_bytes, pieces_bytes, cell_bytes, text_bytes}
-use Rattle.desk_image.specs.Image.{file_bytes, ranked_bytes, viewer_bytes, entry_bytes, kept_bytes}
+use Rattle.desk_image.specs.Image.{file_bytes, ranked_bytes, viewer_bytes, viewers_bytes, entry_bytes, kept_bytes}
+use Rattle.desk_image.specs.Image.{id_bytes, depth_bytes, track_bytes, stack_bytes, has_overlays}
 use Rattle.desk_image.specs.Fitting.{total, totals}
+use Rattle.desk_image.proofs.Lists.{all_reversed}
 use Rattle.desk_image.proofs.PieceFits.{length_flat, few_pieces}
 use Rattle.desk_image.proofs.TableFits.{kept_totals}
 
@@ -98,22 +102,64 @@ files_few (f ∷ files) names some =
 
 -- ---- viewers and tracks
 
-viewer_few : (v : ViewerPicture) → length (viewer_bytes v) ≤ 24
-viewer_few v =
+id_few : (overlays : Bool) (n : ℕ) → length (if overlays then word n else byte n) ≤ 2
+id_few true n = omega arith
+id_few false n = omega arith
+
+viewer_few : (version : ℕ) (v : ViewerPicture) → length (viewer_bytes version v) ≤ 25
+viewer_few version v =
+    let id = id_few (has_overlays version) v.id in
     let caret = optional_few long 4 (λ n. omega arith) v.caret in
     let selection = optional_few ranked_bytes 9 (λ r. omega arith) v.selection in
     let both = length-append (optional long v.caret) (optional ranked_bytes v.selection) in
-    omega (arith, caret, selection, both)
+    let all = length-append (id_bytes version v.id) (word v.viewer.menu ++ (word v.viewer.main ++ (long v.viewer.org
+    ++ (optional long v.caret ++ optional ranked_bytes v.selection)))) in
+    omega (arith, id, caret, selection, both, all)
+
+entry_few : (version : ℕ) (e : Entry) → length (entry_bytes version e) ≤ 3
+entry_few version e =
+    let id = id_few (has_overlays version) e.viewer in
+    let all = length-append (id_bytes version e.viewer) (byte e.height) in
+    omega (arith, id, all)
+
+kept_few : (version : ℕ) (k : Kept) → length (kept_bytes version k) ≤ 4
+kept_few version k =
+    let id = id_few (has_overlays version) k.viewer in
+    let all = length-append (id_bytes version k.viewer) (byte (left_of k.track) ++ byte k.top) in
+    omega (arith, id, all)
+
+-- each track has a viewer a row at most
+abbrev AreLow : List (List Entry) → Type 0
+AreLow stack = All (λ t. length t ≤ ROWS) stack
+
+tracks_few : (version : ℕ) (stack : List (List Entry)) → AreLow stack
+    → length (flat_map (track_bytes version) stack) ≤ 97 * length stack
+tracks_few version [] low = omega arith
+tracks_few version (t ∷ stack) low =
+    let all = ap length (flat_map-cons (track_bytes version) t stack)
+    ∙ length-append (track_bytes version t) (flat_map (track_bytes version) stack) in
+    let entries = items_few (entry_bytes version) 3 (entry_few version) t in
+    let few : length t ≤ ROWS = low 0 t (omega arith) in
+    let rest = tracks_few version stack (All-tail (λ (u : List Entry). length u ≤ ROWS) t stack low) in
+    omega (arith, all, entries, few, rest)
+
+depth_few : (overlays : Bool) (n : ℕ) → length (if overlays then byte n else []) ≤ 1
+depth_few true n = omega arith
+depth_few false n = omega arith
+
+stack_few : (version : ℕ) (stack : List (List Entry)) → AreLow stack → length stack ≤ DEPTH
+    → length (stack_bytes version stack) ≤ 777
+stack_few version stack low few =
+    let depth = depth_few (has_overlays version) (length stack) in
+    let tracks = tracks_few version stack low in
+    let all = length-append (depth_bytes version (length stack)) (flat_map (track_bytes version) stack) in
+    omega (arith, depth, tracks, all, few)
 
 -- ---- an image, by how many of each there are
 
--- viewers: each of both tracks has a row, and one more was closed last
-abbrev pub most_viewers : ℕ
-most_viewers = ROWS + ROWS + 1
-
 -- texts: the log, and two of each viewer
 abbrev pub most_texts : ℕ
-most_texts = 1 + 2 * most_viewers
+most_texts = 1 + 2 * MOST_VIEWERS
 
 -- What bounds the length of an image.
 pub record IsShort (i : Image) : Type 0 where
@@ -126,49 +172,51 @@ pub record IsShort (i : Image) : Type 0 where
   pub copied : AreSome i.copied
   pub deleted : AreSome i.deleted
   pub low : totals i.texts + totals i.files + total i.copied + total i.deleted ≤ most_held
-  pub viewers : length i.viewers ≤ most_viewers
-  pub user : length i.user ≤ ROWS
-  pub system : length i.system ≤ ROWS
+  pub viewers : length i.viewers ≤ MOST_VIEWERS
+  pub user : AreLow i.user
+  pub user_few : length i.user ≤ DEPTH
+  pub system : AreLow i.system
+  pub system_few : length i.system ≤ DEPTH
 
 -- the bytes of viewers, tracks and the viewer that was closed last
-abbrev last_bytes : Image → List ℕ
-last_bytes i = listed byte viewer_bytes i.viewers
-    ++ (listed byte entry_bytes i.user ++ (listed byte entry_bytes i.system ++ optional kept_bytes i.kept))
+abbrev last_bytes : ℕ → Image → List ℕ
+last_bytes version i = viewers_bytes version i.viewers
+    ++ (stack_bytes version i.user ++ (stack_bytes version i.system ++ optional (kept_bytes version) i.kept))
 
-last_few : (i : Image) → IsShort i → length (last_bytes i) ≤ 2000
-last_few i short =
-    let viewers = items_few viewer_bytes 24 viewer_few i.viewers in
-    let user = items_few entry_bytes 2 (λ e. omega arith) i.user in
-    let system = items_few entry_bytes 2 (λ e. omega arith) i.system in
-    let kept = optional_few kept_bytes 3 (λ k. omega arith) i.kept in
-    let all = length-append (listed byte viewer_bytes i.viewers)
-    (listed byte entry_bytes i.user ++ (listed byte entry_bytes i.system ++ optional kept_bytes i.kept)) in
-    let more = length-append (listed byte entry_bytes i.user)
-    (listed byte entry_bytes i.system ++ optional kept_bytes i.kept) in
-    let rest = length-append (listed byte entry_bytes i.system) (optional kept_bytes i.kept) in
+last_few : (version : ℕ) (i : Image) → IsShort i → length (last_bytes version i) ≤ 15000
+last_few version i short =
+    let number = id_few (has_overlays version) (length i.viewers) in
+    let viewers = items_few (viewer_bytes version) 25 (viewer_few version) i.viewers in
+    let both = length-append (id_bytes version (length i.viewers)) (flat_map (viewer_bytes version) i.viewers) in
+    let user = stack_few version i.user short.user short.user_few in
+    let system = stack_few version i.system short.system short.system_few in
+    let kept = optional_few (kept_bytes version) 4 (kept_few version) i.kept in
+    let all = length-append (viewers_bytes version i.viewers)
+    (stack_bytes version i.user ++ (stack_bytes version i.system ++ optional (kept_bytes version) i.kept)) in
+    let more = length-append (stack_bytes version i.user)
+    (stack_bytes version i.system ++ optional (kept_bytes version) i.kept) in
+    let rest = length-append (stack_bytes version i.system) (optional (kept_bytes version) i.kept) in
     let viewer_count = short.viewers in
-    let user_count = short.user in
-    let system_count = short.system in
-    omega (arith, viewers, user, system, kept, all, more, rest, viewer_count, user_count, system_count)
+    omega (arith, number, viewers, both, user, system, kept, all, more, rest, viewer_count)
 
 -- the bytes of texts, files and buffers, and all that comes after them
-abbrev text_part : Image → List ℕ
-text_part i = listed word text_bytes i.texts
-    ++ (listed word file_bytes i.files ++ (pieces_bytes i.copied ++ (pieces_bytes i.deleted ++ last_bytes i)))
+abbrev text_part : ℕ → Image → List ℕ
+text_part version i = listed word text_bytes i.texts
+    ++ (listed word file_bytes i.files ++ (pieces_bytes i.copied ++ (pieces_bytes i.deleted ++ last_bytes version i)))
 
-texts_part_few : (i : Image) → IsShort i → length (text_part i) ≤ 12 * most_held + 13000
-texts_part_few i short =
+texts_part_few : (version : ℕ) (i : Image) → IsShort i → length (text_part version i) ≤ 12 * most_held + 31000
+texts_part_few version i short =
     let texts = texts_few i.texts short.texts_some in
     let files = files_few i.files short.names short.files_some in
     let copied = pieces_few i.copied short.copied in
     let deleted = pieces_few i.deleted short.deleted in
-    let last = last_few i short in
+    let last = last_few version i short in
     let first = length-append (listed word text_bytes i.texts)
-    (listed word file_bytes i.files ++ (pieces_bytes i.copied ++ (pieces_bytes i.deleted ++ last_bytes i))) in
+    (listed word file_bytes i.files ++ (pieces_bytes i.copied ++ (pieces_bytes i.deleted ++ last_bytes version i))) in
     let second = length-append (listed word file_bytes i.files)
-    (pieces_bytes i.copied ++ (pieces_bytes i.deleted ++ last_bytes i)) in
-    let third = length-append (pieces_bytes i.copied) (pieces_bytes i.deleted ++ last_bytes i) in
-    let fourth = length-append (pieces_bytes i.deleted) (last_bytes i) in
+    (pieces_bytes i.copied ++ (pieces_bytes i.deleted ++ last_bytes version i)) in
+    let third = length-append (pieces_bytes i.copied) (pieces_bytes i.deleted ++ last_bytes version i) in
+    let fourth = length-append (pieces_bytes i.deleted) (last_bytes version i) in
     let text_count = short.texts in
     let file_count = short.files in
     let low = short.low in
@@ -188,14 +236,14 @@ texts_part_few i short =
       low,
     )
 
-pub image_few : (i : Image) → IsShort i → length (image_bytes i) ≤ 12 * most_held + 14000
+pub image_few : (version : ℕ) (i : Image) → IsShort i → length (image_bytes version i) ≤ 12 * most_held + 32000
 unfolding image_bytes
-image_few i short =
-    let texts = texts_part_few i short in
+image_few version i short =
+    let texts = texts_part_few version i short in
     let pattern = short.pattern in
     let marker = optional_few cell_bytes 2 (λ c. omega arith) i.marker in
-    let first = length-append (counted byte i.pattern) (optional cell_bytes i.marker ++ text_part i) in
-    let second = length-append (optional cell_bytes i.marker) (text_part i) in
+    let first = length-append (counted byte i.pattern) (optional cell_bytes i.marker ++ text_part version i) in
+    let second = length-append (optional cell_bytes i.marker) (text_part version i) in
     omega (arith, texts, pattern, marker, first, second)
 
 -- ---- a desktop
@@ -211,9 +259,31 @@ held_totals characters d =
     let deleted = length_seen_text characters d.deleted ∙ length_flat d.deleted in
     omega (arith, texts, files, copied, deleted)
 
-pub short_image : (d : KeptDesktop) → IsKeptWhole d → IsSpellable d → IsShort (image_of d)
+-- a track has no more viewers than rows
+few_in : (t : List Entry) → All (λ e. 0 < e.height) t → length t ≤ sum_by (λ e. e.height) t
+few_in [] some = omega arith
+few_in (e ∷ t) some =
+    let here : 0 < e.height = some 0 e (omega arith) in
+    let sum = sum_by-cons (λ (x : Entry). x.height) e t in
+    let rest = few_in t (All-tail (λ (x : Entry). 0 < x.height) e t some) in
+    omega (arith, here, sum, rest)
+
+low_tracks : (s : List (List Entry)) → All IsTrack s → AreLow s
+low_tracks s tracks i d low =
+    let track : IsTrack (slice_index_or s i d) = tracks i d low in
+    let few = few_in (slice_index_or s i d) track.some in
+    let fits = track.fits in
+    omega (arith, few, fits)
+
+low_column : (s : List (List Entry)) → IsStack s → AreLow (reverse s)
+low_column s stack = all_reversed (λ (t : List Entry). length t ≤ ROWS) s [] (low_tracks s stack.tracks)
+
+few_levels : (s : List (List Entry)) → IsStack s → length (reverse s) ≤ DEPTH
+few_levels s stack = let same = length-reverse s in let few = stack.few in omega (arith, same, few)
+
+pub short_image : (version : ℕ) (d : KeptDesktop) → IsKeptWhole d → IsSpellable version d → IsShort (image_of d)
 unfolding image_of seen
-short_image d whole parts =
+short_image version d whole parts =
     let sound : IsSound (seen [] d) = whole.sound [] in
     let shaped = sound.shaped in
     let viewers = few_viewers d.viewers d.columns d.kept shaped.places shaped.viewers.ids in
@@ -236,14 +306,16 @@ short_image d whole parts =
       deleted = parts.deleted;
       low = omega (arith, low, sum);
       viewers = omega (arith, viewers, pictures);
-      user = few_stand d.columns User shaped.places.columns_hold;
-      system = few_stand d.columns System shaped.places.columns_hold;
+      user = low_column d.columns.user shaped.places.columns_hold.user;
+      user_few = few_levels d.columns.user shaped.places.columns_hold.user;
+      system = low_column d.columns.system shaped.places.columns_hold.system;
+      system_few = few_levels d.columns.system shaped.places.columns_hold.system;
     }
 
-pub room : (written : ℕ) (bytes : List ℕ) (d : KeptDesktop) → Spells written bytes d
+pub room : (version written : ℕ) (bytes : List ℕ) (d : KeptDesktop) → Spells version written bytes d
     → written % SECTOR_BYTES + length bytes ≤ IMAGE_BYTES
-room written bytes d spells =
-    let long = image_few (image_of d) (short_image d spells.whole spells.parts) in
+room version written bytes d spells =
+    let long = image_few version (image_of d) (short_image version d spells.whole spells.parts) in
     let same = ap length spells.exact in
     let tail : written % SECTOR_BYTES < SECTOR_BYTES = omega arith in
     omega (arith, long, same, tail)

@@ -8,7 +8,7 @@ use Rattle.desk_image.specs.declared.source.ByteSource.{Ghosts as SourceGhosts}
 use Rattle.desk_image.specs.Fitting.{total, totals}
 use Rattle.desk_image.specs.Image.{Image}
 use Rattle.desk_image.specs.Reading.{optional_at, look_at, pattern_at, cell_at, texts_at, files_at, pieces_at}
-use Rattle.desk_image.specs.Reading.{viewers_at, track_at, kept_at, image_at}
+use Rattle.desk_image.specs.Reading.{viewers_at, stack_at, kept_at, image_at}
 use Rattle.desk_image.specs.Steps.{Front, front_at, Held, held_at, Shown, shown_at, sections_at}
 use Rattle.desk_image.specs.Streams.{Reads}
 use Rattle.desk_image.proofs.Parts.{follows_on, fails, makes}
@@ -60,12 +60,13 @@ module _ {E : Type 0} where
       pieces_at written (most_held - totals texts.0 - totals files.0 - total copied.0) copied.1)
       (λ texts files copied deleted. ((texts.0, files.0, copied.0, deleted.0), deleted.1))
 
-  shown_then : (next : Shown × List ℕ → Option E) (bytes : List ℕ) → shown_at bytes >>= next
-      ≡ track_at bytes >>= λ user. track_at user.1 >>= λ system. optional_at kept_at system.1 >>= λ kept.
-      next ((user.0, system.0, kept.0), kept.1)
+  shown_then : (version : ℕ) (next : Shown × List ℕ → Option E) (bytes : List ℕ) → shown_at version bytes >>= next
+      ≡ stack_at version bytes >>= λ user. stack_at version user.1 >>= λ system.
+      optional_at (kept_at version) system.1 >>= λ kept. next ((user.0, system.0, kept.0), kept.1)
   unfolding shown_at
-  shown_then next bytes = three next (track_at bytes) (λ user. track_at user.1)
-      (λ user system. optional_at kept_at system.1) (λ user system kept. ((user.0, system.0, kept.0), kept.1))
+  shown_then version next bytes = three next (stack_at version bytes) (λ user. stack_at version user.1)
+      (λ user system. optional_at (kept_at version) system.1)
+      (λ user system kept. ((user.0, system.0, kept.0), kept.1))
 
 -- what follows each section
 abbrev pub with_shown : Front → Held → List ViewerPicture → Shown × List ℕ → Option (Image × List ℕ)
@@ -86,84 +87,95 @@ with_shown front held viewers shown = Some (
   shown.1,
 )
 
-abbrev pub with_held : Front → Held × List ℕ → Option (Image × List ℕ)
-with_held front held = viewers_at held.1 >>= λ viewers. shown_at viewers.1 >>= with_shown front held.0 viewers.0
+abbrev pub with_held : ℕ → Front → Held × List ℕ → Option (Image × List ℕ)
+with_held version front held = viewers_at version held.1 >>= λ viewers.
+    shown_at version viewers.1 >>= with_shown front held.0 viewers.0
 
-abbrev pub with_front : ℕ → Front × List ℕ → Option (Image × List ℕ)
-with_front written front = held_at written front.1 >>= with_held front.0
+abbrev pub with_front : ℕ → ℕ → Front × List ℕ → Option (Image × List ℕ)
+with_front version written front = held_at written front.1 >>= with_held version front.0
 
-pub image_in_sections : (written : ℕ) (bytes : List ℕ) → image_at written bytes ≡ sections_at written bytes
+pub image_in_sections : (version written : ℕ) (bytes : List ℕ)
+    → image_at version written bytes ≡ sections_at version written bytes
 unfolding image_at
-image_in_sections written bytes = sym (front_then (with_front written) bytes
+image_in_sections version written bytes = sym (front_then (with_front version written) bytes
     ∙ (λ i. look_at bytes >>= λ look. pattern_at look.1 >>= λ pattern. optional_at cell_at pattern.1 >>= λ marker.
-    (held_then written (with_held (look.0, pattern.0, marker.0)) marker.1
+    (held_then written (with_held version (look.0, pattern.0, marker.0)) marker.1
     ∙ (λ j. texts_at written most_held marker.1 >>= λ texts.
     files_at written (most_held - totals texts.0) texts.1 >>= λ files.
     pieces_at written (most_held - totals texts.0 - totals files.0) files.1 >>= λ copied.
     pieces_at written (most_held - totals texts.0 - totals files.0 - total copied.0) copied.1 >>= λ deleted.
-    viewers_at deleted.1 >>= λ viewers.
-    shown_then (with_shown (look.0, pattern.0, marker.0) (texts.0, files.0, copied.0, deleted.0) viewers.0) viewers.1
+    viewers_at version deleted.1 >>= λ viewers.
+    shown_then version
+    (with_shown (look.0, pattern.0, marker.0) (texts.0, files.0, copied.0, deleted.0) viewers.0) viewers.1
     j)) i))
 
 -- ---- a section was read, and what follows it
 
 module _ {S X Z : Type 0} {s : SourceGhosts S} {x : X} {all : Z → Image} {result : Result Z ImageFault}
     {old mid new : S} (through : (a b c : S) → s.same_ground a b → s.same_ground b c → s.same_ground a c)
-    (written : ℕ) where
+    (version written : ℕ) where
   pub after_front : {view : X → Front} → Reads s view (Ok x) front_at old mid
-      → Reads s all result (λ bytes. with_front written (view x, bytes)) mid new
-      → Reads s all result (image_at written) old new
-  after_front front others = follows_on through (image_at written) front
-      (λ bytes after is. image_in_sections written bytes ∙ ap (λ r. r >>= with_front written) is) others
+      → Reads s all result (λ bytes. with_front version written (view x, bytes)) mid new
+      → Reads s all result (image_at version written) old new
+  after_front front others = follows_on through (image_at version written) front
+      (λ bytes after is. image_in_sections version written bytes
+      ∙ ap (λ r. r >>= with_front version written) is) others
 
   pub after_held : {view : X → Held} (front : Front) → Reads s view (Ok x) (held_at written) old mid
-      → Reads s all result (λ bytes. with_held front (view x, bytes)) mid new
-      → Reads s all result (λ bytes. with_front written (front, bytes)) old new
-  after_held front held others = follows_on through (λ bytes. with_front written (front, bytes)) held
-      (λ bytes after is. ap (λ r. r >>= with_held front) is) others
+      → Reads s all result (λ bytes. with_held version front (view x, bytes)) mid new
+      → Reads s all result (λ bytes. with_front version written (front, bytes)) old new
+  after_held front held others = follows_on through (λ bytes. with_front version written (front, bytes)) held
+      (λ bytes after is. ap (λ r. r >>= with_held version front) is) others
 
   pub after_viewers : {view : X → List ViewerPicture} (front : Front) (held : Held)
-      → Reads s view (Ok x) viewers_at old mid
-      → Reads s all result (λ bytes. shown_at bytes >>= with_shown front held (view x)) mid new
-      → Reads s all result (λ bytes. with_held front (held, bytes)) old new
-  after_viewers front held viewers others = follows_on through (λ bytes. with_held front (held, bytes)) viewers
-      (λ bytes after is. ap (λ r. r >>= λ viewers. shown_at viewers.1 >>= with_shown front held viewers.0) is) others
+      → Reads s view (Ok x) (viewers_at version) old mid
+      → Reads s all result (λ bytes. shown_at version bytes >>= with_shown front held (view x)) mid new
+      → Reads s all result (λ bytes. with_held version front (held, bytes)) old new
+  after_viewers front held viewers others = follows_on through (λ bytes. with_held version front (held, bytes)) viewers
+      (λ bytes after is. ap
+      (λ r. r >>= λ viewers. shown_at version viewers.1 >>= with_shown front held viewers.0) is) others
 
 -- ---- what follows the first two sections
 
 module _ {S X Y Z : Type 0} {s : SourceGhosts S} {view_front : X → Front} {x : X} {view_held : Y → Held} {y : Y}
     {all : Z → Image} {old mid far : S}
-    (through : (a b c : S) → s.same_ground a b → s.same_ground b c → s.same_ground a c) (written : ℕ)
+    (through : (a b c : S) → s.same_ground a b → s.same_ground b c → s.same_ground a c) (version written : ℕ)
     (front : Reads s view_front (Ok x) front_at old mid)
     (held : Reads s view_held (Ok y) (held_at written) mid far) where
   after_both : {result : Result Z ImageFault} {new : S}
-      → Reads s all result (λ bytes. with_held (view_front x) (view_held y, bytes)) far new
-      → Reads s all result (image_at written) old new
-  after_both others = after_front through written front (after_held through written (view_front x) held others)
+      → Reads s all result (λ bytes. with_held version (view_front x) (view_held y, bytes)) far new
+      → Reads s all result (image_at version written) old new
+  after_both others =
+      after_front through version written front (after_held through version written (view_front x) held others)
 
   -- the viewers were not read
   pub without_viewers : {V : Type 0} {view : V → List ViewerPicture} {e : ImageFault} {new : S}
-      → Reads s view (Err e) viewers_at far new → Reads s all (Err e) (image_at written) old new
-  without_viewers viewers = after_both (fails all (λ bytes. with_held (view_front x) (view_held y, bytes)) viewers
-      (λ bytes is. ap
-      (λ r. r >>= λ viewers. shown_at viewers.1 >>= with_shown (view_front x) (view_held y) viewers.0) is))
+      → Reads s view (Err e) (viewers_at version) far new → Reads s all (Err e) (image_at version written) old new
+  without_viewers viewers = after_both (fails all (λ bytes. with_held version (view_front x) (view_held y, bytes))
+      viewers (λ bytes is. ap
+      (λ r. r >>= λ viewers. shown_at version viewers.1
+      >>= with_shown (view_front x) (view_held y) viewers.0) is))
 
   module _ {V : Type 0} {view : V → List ViewerPicture} {v : V} {end new : S}
-      (viewers : Reads s view (Ok v) viewers_at far end) where
+      (viewers : Reads s view (Ok v) (viewers_at version) far end) where
     after_three : {result : Result Z ImageFault}
-        → Reads s all result (λ bytes. shown_at bytes >>= with_shown (view_front x) (view_held y) (view v)) end new
-        → Reads s all result (image_at written) old new
-    after_three others = after_both (after_viewers through written (view_front x) (view_held y) viewers others)
+        → Reads s all result (λ bytes. shown_at version bytes >>= with_shown (view_front x) (view_held y) (view v))
+        end new
+        → Reads s all result (image_at version written) old new
+    after_three others =
+        after_both (after_viewers through version written (view_front x) (view_held y) viewers others)
 
     -- the tracks were not read
     pub without_shown : {W : Type 0} {view_shown : W → Shown} {e : ImageFault}
-        → Reads s view_shown (Err e) shown_at end new → Reads s all (Err e) (image_at written) old new
+        → Reads s view_shown (Err e) (shown_at version) end new
+        → Reads s all (Err e) (image_at version written) old new
     without_shown shown = after_three (fails all _ shown
         (λ bytes is. ap (λ r. r >>= with_shown (view_front x) (view_held y) (view v)) is))
 
     -- all was read
-    pub with_all : {W : Type 0} {view_shown : W → Shown} {w : W} (z : Z) → Reads s view_shown (Ok w) shown_at end new
+    pub with_all : {W : Type 0} {view_shown : W → Shown} {w : W} (z : Z)
+        → Reads s view_shown (Ok w) (shown_at version) end new
         → ((after : List ℕ) → with_shown (view_front x) (view_held y) (view v) (view_shown w, after)
-        ≡ Some (all z, after)) → Reads s all (Ok z) (image_at written) old new
+        ≡ Some (all z, after)) → Reads s all (Ok z) (image_at version written) old new
     with_all z shown is = after_three (makes all z _ shown
         (λ bytes after read. ap (λ r. r >>= with_shown (view_front x) (view_held y) (view v)) read ∙ is after))

@@ -1,6 +1,6 @@
 -- Viewers of a desktop fit, with what is marked in them, and so do its tracks.
-use Rattle.std.specs.Prelude.{◌≡◌, ℕ, ◌+◌, ◌-◌, ◌<◌, ◌≤◌, ◌^◌, ◌==◌, true, false, cond, Bool, List, []}
-use Rattle.std.specs.Prelude.{◌∷◌, length, map, sum_by, All, IsSome, is_some, IfSome, Option, Some, None}
+use Rattle.std.specs.Prelude.{◌≡◌, ℕ, suc, ◌+◌, ◌-◌, ◌<◌, ◌≤◌, ◌^◌, ◌==◌, true, false, cond, Bool, List, []}
+use Rattle.std.specs.Prelude.{◌∷◌, length, map, reverse, get_or, sum_by, All, IsSome, is_some, IfSome, Option, Some, None}
 use Rattle.std.specs.Prelude.{if◌then◌else◌}
 use Rattle.std.specs.List.{slice_index_or}
 use Rattle.std.specs.List.Sorted.{IsStrictlySortedBy}
@@ -9,16 +9,16 @@ use Rattle.std.specs.Map.{lookup, keys_of, values_of}
 use Rattle.std.specs.Ordering.{nat_cmp}
 use Rattle.std.specs.BTreeMap.{is_at}
 use Rattle.std.proofs.Common.{refl, sym, ap, subst, arith}
-use Rattle.std.proofs.lemmas.Bool.{eq-eqb}
-use Rattle.std.proofs.lemmas.List.{length-map}
-use Rattle.std.proofs.lemmas.List.Elements.{All-nil, All-head, All-tail}
+use Rattle.std.proofs.lemmas.Bool.{eq-eqb, le-leb}
+use Rattle.std.proofs.lemmas.List.{length-map, length-reverse}
+use Rattle.std.proofs.lemmas.List.Elements.{All-head, All-tail}
 use Rattle.std.proofs.lemmas.List.Sums.{sum_by-cons, get_or-le-sum_by}
 use Rattle.piece_ring.specs.Text.{Text}
-use Rattle.viewer_tracks.specs.declared.display.TheConstants.{ROWS}
+use Rattle.viewer_tracks.specs.declared.display.TheConstants.{ROWS, DEPTH}
 use Rattle.viewer_tracks.specs.declared.display.Track.{Track}
 use Rattle.viewer_tracks.specs.declared.display.Track.TheVariants.{User, System}
 use Rattle.viewer_tracks.specs.Viewers.{Entry, IsTrack, times_in}
-use Rattle.viewer_tracks.specs.Columns.{Columns, times_on, topmost, shown}
+use Rattle.viewer_tracks.specs.Columns.{Columns, IsStack, stack_of, times_on}
 use Rattle.desktop_definitions.specs.declared.viewer.Viewer.{Viewer}
 use Rattle.desktop_definitions.specs.declared.viewer.Caret.{Caret}
 use Rattle.desktop_definitions.specs.declared.viewer.Selection.{Selection}
@@ -28,14 +28,16 @@ use Rattle.desktop_definitions.specs.Tables.{Texts, numbered, lengths}
 use Rattle.desktop_definitions.specs.Viewers.{viewer_in, viewer_or_none, text_in, main_length}
 use Rattle.desktop_definitions.specs.Sound.{AreViewers, ArePlaces, AreMarks}
 use Rattle.desktop_definitions.specs.Sound.{times_there}
-use Rattle.desktop_laws.specs.FewLaws.{few_viewers}
+use Rattle.desktop_laws.specs.FewLaws.{few_viewers, few_by_depth}
 use Rattle.desktop_laws.specs.PlaceLaws.{at_same}
 use Rattle.desktop_laws.specs.ViewLaws.{viewer_at_place, few_selections}
 use Rattle.desk_image.specs.declared.picture.Ranked.{Ranked}
 use Rattle.desk_image.specs.declared.picture.ViewerPicture.{ViewerPicture}
-use Rattle.desk_image.specs.Image.{InByte, InWord, InLong, caret_in, ranked_in, picture_of}
-use Rattle.desk_image.specs.Fitting.{Chain, FitsRanked, FitsViewer, FitsViewers, FitsEntry, FitsTrack, FitsKept}
-use Rattle.desk_image.specs.Fitting.{after_viewer, above}
+use Rattle.desk_image.specs.declared.limits.TheConstants.{MOST_VIEWERS}
+use Rattle.desk_image.specs.Image.{InWord, InLong, InId, has_overlays, deepest, caret_in, ranked_in, picture_of}
+use Rattle.desk_image.specs.Fitting.{Chain, FitsRanked, FitsViewer, FitsViewers, FitsEntry, FitsTrack, FitsLevel}
+use Rattle.desk_image.specs.Fitting.{FitsStack, FitsKept, after_viewer, above, overlaid}
+use Rattle.desk_image.proofs.Lists.{all_reversed}
 use Rattle.desk_image.proofs.TableFits.{From, from_next, from_none}
 
 -- ---- what is found
@@ -80,11 +82,21 @@ ranks_fit n v (s ∷ later) all few =
           (All-tail (λ (o : Selection). (o.beg < o.end) × (o.end ≤ most_held)) s later all) (omega (arith, few))
     ]
 
+-- ---- tracks
+
+named_entries : (t : List Entry) → All (λ e. 0 < times_in e.viewer t) t
+named_entries t i d low =
+    let e = slice_index_or t i d in
+    let count = get_or-le-sum_by (λ (x : Entry). (let n : ℕ = cond (x.viewer == e.viewer) 1 0 in n)) t i d low in
+    let one : (let n : ℕ = cond (e.viewer == e.viewer) 1 0 in n)
+    ≡ 1 = ap (λ b. let n : ℕ = cond b 1 0 in n) (eq-eqb e.viewer e.viewer refl) in
+    omega (arith, count, one)
+
 -- ---- one viewer
 
 -- the facts of a picture but that its id rises
-abbrev FitsAlone : ViewerPicture → Type 0
-FitsAlone p = InByte p.id × (InWord p.viewer.menu × (InWord p.viewer.main × (InLong p.viewer.org
+abbrev FitsAlone : ℕ → ViewerPicture → Type 0
+FitsAlone version p = InId version p.id × (InWord p.viewer.menu × (InWord p.viewer.main × (InLong p.viewer.org
     × (IfSome p.caret InLong × IfSome p.selection FitsRanked))))
 
 caret_fits : (caret : Option Caret) (v : ℕ) → ForSome caret (λ c. c.position ≤ most_held)
@@ -98,19 +110,21 @@ caret_fits (Some c) v small =
     ]
 
 -- What is known of the texts, viewers and marks of a desktop.
-pub record AreSmall (texts : Texts (Text ℕ)) (viewers : List (ℕ × Viewer)) (columns : Columns) (kept : Option Kept)
-    (caret : Option Caret) (selections : List Selection) : Type 0
+pub record AreSmall (version : ℕ) (texts : Texts (Text ℕ)) (viewers : List (ℕ × Viewer)) (columns : Columns)
+    (kept : Option Kept) (caret : Option Caret) (selections : List Selection) : Type 0
   where
     pub numbers : All InWord (keys_of texts)
-    pub ids : All InByte (keys_of viewers)
+    pub ids : All (InId version) (keys_of viewers)
+    pub user : length columns.user ≤ deepest version
+    pub system : length columns.system ≤ deepest version
     pub low : lengths texts ≤ most_held
     pub viewers_hold : AreViewers texts viewers
     pub places : ArePlaces viewers columns kept
     pub marks : AreMarks columns (main_length texts viewers) caret selections
 
-module _ (texts : Texts (Text ℕ)) (viewers : List (ℕ × Viewer)) (columns : Columns) (kept : Option Kept)
+module _ (version : ℕ) (texts : Texts (Text ℕ)) (viewers : List (ℕ × Viewer)) (columns : Columns) (kept : Option Kept)
     (caret : Option Caret) (selections : List Selection)
-    (are : AreSmall texts viewers columns kept caret selections) where
+    (are : AreSmall version texts viewers columns kept caret selections) where
   main_small : (v : ℕ) → main_length texts viewers v ≤ most_held
   main_small v =
       let here = text_small (viewer_or_none viewers v).main texts in
@@ -137,13 +151,13 @@ module _ (texts : Texts (Text ℕ)) (viewers : List (ℕ × Viewer)) (columns : 
       ranks_fit 1 v selections selections_small (omega (arith, few))
 
   alone : (v : ℕ) (viewer : Viewer) → viewer_in viewers v ≡ Some viewer
-      → FitsAlone (picture_of caret selections (v, viewer))
+      → FitsAlone version (picture_of caret selections (v, viewer))
   alone v viewer found =
       let here = are.viewers_hold.each v viewer found in
       let org = here.org in
       let small = text_small viewer.main texts in
       let low = are.low in (
-        found_key InByte v viewers are.ids (ap is_some found),
+        found_key (InId version) v viewers are.ids (ap is_some found),
         (
           found_key InWord viewer.menu texts are.numbers here.menu,
           (
@@ -153,89 +167,122 @@ module _ (texts : Texts (Text ℕ)) (viewers : List (ℕ × Viewer)) (columns : 
         ),
       )
 
-  pictures_chain : (least : ℕ) (vs : List (ℕ × Viewer)) → All (λ e. FitsAlone (picture_of caret selections e)) vs
+  pictures_chain : (least : ℕ) (vs : List (ℕ × Viewer)) → All (λ e. FitsAlone version (picture_of caret selections e)) vs
       → IsStrictlySortedBy nat_cmp (keys_of vs) → From least (keys_of vs)
-      → Chain FitsViewer after_viewer least (map (picture_of caret selections) vs)
+      → Chain (FitsViewer version) after_viewer least (map (picture_of caret selections) vs)
   unfolding IsStrictlySortedBy
   pictures_chain least [] all rising from = tt
   pictures_chain least (e ∷ vs) all rising from =
-      let here = All-head (λ (x : ℕ × Viewer). FitsAlone (picture_of caret selections x)) e vs all in (
+      let here = All-head (λ (x : ℕ × Viewer). FitsAlone version (picture_of caret selections x)) e vs all in (
         (here.0, (from.0, here.1)),
         pictures_chain (e.0 + 1) vs
-            (All-tail (λ (x : ℕ × Viewer). FitsAlone (picture_of caret selections x)) e vs all) rising.1
+            (All-tail (λ (x : ℕ × Viewer). FitsAlone version (picture_of caret selections x)) e vs all) rising.1
             (from_next e.0 (keys_of vs) rising.0),
       )
 
-  few_pictures : length (map (picture_of caret selections) viewers) ≤ ROWS + ROWS + 1
+  few_pictures : length (map (picture_of caret selections) viewers) ≤ MOST_VIEWERS
   few_pictures =
       let few = few_viewers viewers columns kept are.places are.viewers_hold.ids in
       let same = length-map {B = ViewerPicture} viewers (picture_of caret selections) in
       omega (arith, few, same)
 
-  pub viewers_fit : FitsViewers (map (picture_of caret selections) viewers)
+  -- where an id has one byte there is one track in each column, and so fewer viewers than ids
+  few_ids : (overlays : Bool) → length columns.user ≤ (if overlays then DEPTH else 1)
+      → length columns.system ≤ (if overlays then DEPTH else 1)
+      → length (map (picture_of caret selections) viewers) < (if overlays then 2 ^ 16 else 2 ^ 8)
+  few_ids true user system = let few = few_pictures in omega (arith, few)
+  few_ids false user system =
+      let few = few_by_depth viewers columns kept are.places are.viewers_hold.ids in
+      let same = length-map {B = ViewerPicture} viewers (picture_of caret selections) in
+      omega (arith, few, same, user, system)
+
+  pub viewers_fit : FitsViewers version (map (picture_of caret selections) viewers)
   viewers_fit =
-      let few = few_pictures in
       let rising = are.viewers_hold.ids in (
-        omega (arith, few),
-        pictures_chain 0 viewers
-            (λ i d low. alone (slice_index_or viewers i d).0 (slice_index_or viewers i d).1
-            (viewer_at_place viewers i d rising low)) rising (from_none (keys_of viewers)),
+        few_ids (has_overlays version) are.user are.system,
+        (
+          few_pictures,
+          pictures_chain 0 viewers
+              (λ i d low. alone (slice_index_or viewers i d).0 (slice_index_or viewers i d).1
+              (viewer_at_place viewers i d rising low)) rising (from_none (keys_of viewers)),
+        ),
       )
 
   -- ---- where viewers stand
 
-  -- a viewer that stands somewhere has an id of one byte
-  standing : (v : ℕ) → 0 < times_there columns kept v → InByte v
-  standing v some = found_key InByte v viewers are.ids (there (is_some (viewer_in viewers v)) (are.places.once v)) where
-    there : (b : Bool) → times_there columns kept v ≡ (if b then 1 else 0) → b ≡ true
-    there true once = refl
-    there false once = absurd (omega (arith, once, some))
+  -- a viewer that stands somewhere has an id that the version can say
+  standing : (v : ℕ) → 0 < times_there columns kept v → InId version v
+  standing v some =
+      found_key (InId version) v viewers are.ids (there (is_some (viewer_in viewers v)) (are.places.once v))
+    where
+      there : (b : Bool) → times_there columns kept v ≡ (if b then 1 else 0) → b ≡ true
+      there true once = refl
+      there false once = absurd (omega (arith, once, some))
 
-  named_entries : (t : List Entry) → All (λ e. 0 < times_in e.viewer t) t
-  named_entries t i d low =
-      let e = slice_index_or t i d in
-      let count = get_or-le-sum_by (λ (x : Entry). (let n : ℕ = cond (x.viewer == e.viewer) 1 0 in n)) t i d low in
-      let one : (let n : ℕ = cond (e.viewer == e.viewer) 1 0 in n)
-      ≡ 1 = ap (λ b. let n : ℕ = cond b 1 0 in n) (eq-eqb e.viewer e.viewer refl) in
-      omega (arith, count, one)
-
-  on_top : (v : ℕ) (stack : List (List Entry)) → times_in v (topmost stack) ≤ times_on v stack
-  on_top v [] = omega arith
-  on_top v (t ∷ under) = let sum = sum_by-cons (times_in v) t under in omega (arith, sum)
-
-  shown_placed : (v : ℕ) (k : Track) → times_in v (shown columns k) ≤ times_there columns kept v
-  shown_placed v User = let top = on_top v columns.user in omega (arith, top)
-  shown_placed v System = let top = on_top v columns.system in omega (arith, top)
-
-  entries_fit : (room : ℕ) (t : List Entry) → All (λ e. 0 < e.height) t → All (λ e. InByte e.viewer) t
-      → sum_by (λ e. e.height) t ≤ room → Chain FitsEntry above room t
+  entries_fit : (room : ℕ) (t : List Entry) → All (λ e. 0 < e.height) t → All (λ e. InId version e.viewer) t
+      → sum_by (λ e. e.height) t ≤ room → Chain (FitsEntry version) above room t
   entries_fit room [] some named low = tt
   entries_fit room (e ∷ t) some named low =
       let sum = sum_by-cons (λ (x : Entry). x.height) e t in (
         record {
-          viewer = All-head (λ (x : Entry). InByte x.viewer) e t named;
+          viewer = All-head (λ (x : Entry). InId version x.viewer) e t named;
           some = All-head (λ (x : Entry). 0 < x.height) e t some;
           short = omega (arith, sum, low);
         },
         entries_fit (room - e.height) t (All-tail (λ (x : Entry). 0 < x.height) e t some)
-            (All-tail (λ (x : Entry). InByte x.viewer) e t named) (omega (arith, sum, low)),
+            (All-tail (λ (x : Entry). InId version x.viewer) e t named) (omega (arith, sum, low)),
       )
 
-  topmost_track : (stack : List (List Entry)) → All IsTrack stack → IsTrack (topmost stack)
-  topmost_track [] all = record { some = All-nil (λ (e : Entry). 0 < e.height); fits = omega arith }
-  topmost_track (t ∷ under) all = All-head IsTrack t under all
-
-  shown_track : (k : Track) → IsTrack (shown columns k)
-  shown_track User = topmost_track columns.user are.places.columns_hold.user
-  shown_track System = topmost_track columns.system are.places.columns_hold.system
-
-  pub track_fits : (k : Track) → FitsTrack (shown columns k)
-  track_fits k = entries_fit ROWS (shown columns k) (shown_track k).some
-      (λ i d low. standing (slice_index_or (shown columns k) i d).viewer
-      (let here = named_entries (shown columns k) i d low in
-      let placed = shown_placed (slice_index_or (shown columns k) i d).viewer k in
+  track_fits : (t : List Entry) → IsTrack t → ((v : ℕ) → times_in v t ≤ times_there columns kept v)
+      → FitsTrack version t
+  track_fits t track there = entries_fit ROWS t track.some
+      (λ i d low. standing (slice_index_or t i d).viewer
+      (let here = named_entries t i d low in
+      let placed = there (slice_index_or t i d).viewer in
       omega (arith, here, placed)))
-      (shown_track k).fits
+      track.fits
+
+  -- overlays, each with a viewer
+  overlays_fit : (r : List (List Entry)) → All (FitsTrack version) r
+      → ((i : ℕ) → i < length r → 0 < length (get_or r i [])) → Chain (FitsLevel version) overlaid 1 r
+  overlays_fit [] fits some = tt
+  overlays_fit (t ∷ r) fits some = (
+    (le-leb 1 (length t) (some 0 (omega arith)), All-head (FitsTrack version) t r fits),
+    overlays_fit r (All-tail (FitsTrack version) t r fits) (λ i low. some (suc i) (omega (arith, low))),
+  )
+
+  -- the tracks of a column, from the lowest up
+  levels_fit : (r : List (List Entry)) → All (FitsTrack version) r
+      → ((i : ℕ) → 0 < i → i < length r → 0 < length (get_or r i [])) → Chain (FitsLevel version) overlaid 0 r
+  levels_fit [] fits some = tt
+  levels_fit (t ∷ r) fits some = (
+    (le-leb 0 (length t) (omega arith), All-head (FitsTrack version) t r fits),
+    overlays_fit r (All-tail (FitsTrack version) t r fits)
+        (λ i low. some (suc i) (omega arith) (omega (arith, low))),
+  )
+
+  stack_fits : (s : List (List Entry)) → IsStack s → ((v : ℕ) → times_on v s ≤ times_there columns kept v)
+      → length s ≤ deepest version → FitsStack version (reverse s)
+  stack_fits s stack there few =
+      let same = length-reverse s in
+      let tracks : All (FitsTrack version) s =
+      λ i d low. track_fits (slice_index_or s i d) (stack.tracks i d low)
+      (λ v. let one = get_or-le-sum_by (times_in v) s i d low in let all = there v in omega (arith, one, all)) in
+      let levels : (i : ℕ) → 0 < i → i < length (reverse s) → 0 < length (get_or (reverse s) i []) =
+      λ i above low.
+      let level : i + 1 - 1 ≡ i = omega arith in
+      subst (λ (n : ℕ). 0 < length (get_or (reverse s) n [])) level
+      (stack.overlays (i + 1) (omega (arith, above)) (omega (arith, low, same))) in (
+        omega (arith, same, stack.some),
+        (
+          omega (arith, same, few),
+          levels_fit (reverse s) (all_reversed (FitsTrack version) s [] tracks) levels,
+        ),
+      )
+
+  pub column_fits : (k : Track) → FitsStack version (reverse (stack_of columns k))
+  column_fits User = stack_fits columns.user are.places.columns_hold.user (λ v. omega arith) are.user
+  column_fits System = stack_fits columns.system are.places.columns_hold.system (λ v. omega arith) are.system
 
 kept_there : (columns : Columns) (k : Kept) → 0 < times_there columns (Some k) k.viewer
 kept_there columns k =
@@ -243,12 +290,12 @@ kept_there columns k =
     ≡ 1 = ap (λ b. let n : ℕ = cond b 1 0 in n) (eq-eqb k.viewer k.viewer refl) in
     omega (arith, one)
 
-pub kept_fits : (texts : Texts (Text ℕ)) (viewers : List (ℕ × Viewer)) (columns : Columns) (kept : Option Kept)
-    (caret : Option Caret) (selections : List Selection)
-    → AreSmall texts viewers columns kept caret selections → IfSome kept FitsKept
-kept_fits texts viewers columns None caret selections are = tt
-kept_fits texts viewers columns (Some k) caret selections are =
+pub kept_fits : (version : ℕ) (texts : Texts (Text ℕ)) (viewers : List (ℕ × Viewer)) (columns : Columns)
+    (kept : Option Kept) (caret : Option Caret) (selections : List Selection)
+    → AreSmall version texts viewers columns kept caret selections → IfSome kept (FitsKept version)
+kept_fits version texts viewers columns None caret selections are = tt
+kept_fits version texts viewers columns (Some k) caret selections are =
     let place = are.places.kept_place k refl in (
-      standing texts viewers columns (Some k) caret selections are k.viewer (kept_there columns k),
+      standing version texts viewers columns (Some k) caret selections are k.viewer (kept_there columns k),
       (place.some, place.within),
     )

@@ -14,7 +14,8 @@ use Rattle.desktop_definitions.specs.Looks.{IsLook}
 use Rattle.desktop_definitions.specs.Tables.{Texts, Files, name_cmp}
 use Rattle.desk_image.specs.declared.picture.Ranked.{Ranked}
 use Rattle.desk_image.specs.declared.picture.ViewerPicture.{ViewerPicture}
-use Rattle.desk_image.specs.Image.{Image, InByte, InWord, InLong}
+use Rattle.desk_image.specs.declared.limits.TheConstants.{MOST_VIEWERS}
+use Rattle.desk_image.specs.Image.{Image, InByte, InWord, InLong, InId, deepest}
 
 -- ---- one after another: each item fits what those before it leave
 
@@ -75,28 +76,42 @@ totals table = sum_by (λ e. total e.1) table
 abbrev pub FitsRanked : Ranked → Type 0
 FitsRanked r = InByte r.rank × (InLong r.beg × InLong r.end)
 
-abbrev pub FitsViewer : ℕ → ViewerPicture → Type 0
-FitsViewer least v = InByte v.id × ((nat_le least v.id ≡ true) × (InWord v.viewer.menu × (InWord v.viewer.main
-    × (InLong v.viewer.org × (IfSome v.caret InLong × IfSome v.selection FitsRanked)))))
+abbrev pub FitsViewer : ℕ → ℕ → ViewerPicture → Type 0
+FitsViewer version least v = InId version v.id × ((nat_le least v.id ≡ true) × (InWord v.viewer.menu
+    × (InWord v.viewer.main × (InLong v.viewer.org × (IfSome v.caret InLong × IfSome v.selection FitsRanked)))))
 
 abbrev pub after_viewer : ℕ → ViewerPicture → ℕ
 after_viewer least v = v.id + 1
 
-abbrev pub FitsViewers : List ViewerPicture → Type 0
-FitsViewers viewers = InByte (length viewers) × Chain FitsViewer after_viewer 0 viewers
+-- no more than there are places
+abbrev pub FitsViewers : ℕ → List ViewerPicture → Type 0
+FitsViewers version viewers = InId version (length viewers) × ((length viewers ≤ MOST_VIEWERS)
+    × Chain (FitsViewer version) after_viewer 0 viewers)
 
 -- ---- tracks, of which room rows are left
 
-pub record FitsEntry (room : ℕ) (e : Entry) : Type 0 where
-  pub viewer : InByte e.viewer
+pub record FitsEntry (version room : ℕ) (e : Entry) : Type 0 where
+  pub viewer : InId version e.viewer
   pub some : 0 < e.height
   pub short : e.height ≤ room
 
 abbrev pub above : ℕ → Entry → ℕ
 above room e = room - e.height
 
-abbrev pub FitsTrack : List Entry → Type 0
-FitsTrack track = Chain FitsEntry above ROWS track
+abbrev pub FitsTrack : ℕ → List Entry → Type 0
+FitsTrack version track = Chain (FitsEntry version) above ROWS track
+
+-- ---- columns: an overlay has a viewer at least, and the lowest track none
+
+abbrev pub FitsLevel : ℕ → ℕ → List Entry → Type 0
+FitsLevel version least track = (nat_le least (length track) ≡ true) × FitsTrack version track
+
+abbrev pub overlaid : ℕ → List Entry → ℕ
+overlaid least track = 1
+
+abbrev pub FitsStack : ℕ → List (List Entry) → Type 0
+FitsStack version stack = (0 < length stack) × ((length stack ≤ deepest version)
+    × Chain (FitsLevel version) overlaid 0 stack)
 
 -- ---- the rest
 
@@ -106,15 +121,20 @@ FitsPattern pattern = length pattern ≤ most_pattern
 abbrev pub FitsCell : ℕ × ℕ → Type 0
 FitsCell c = (c.0 < COLUMNS) × (c.1 < ROWS)
 
-abbrev pub FitsKept : Kept → Type 0
-FitsKept k = InByte k.viewer × ((0 < k.top) × (k.top ≤ ROWS))
+abbrev pub FitsKept : ℕ → Kept → Type 0
+FitsKept version k = InId version k.viewer × ((0 < k.top) × (k.top ≤ ROWS))
 
--- ---- images for which so many characters were written
+-- ---- images of a version, for which so many characters were written
 
-unfoldable pub FitsImage : ℕ → Image → Type 0
-FitsImage written i = IsLook i.look × (FitsPattern i.pattern × (IfSome i.marker FitsCell
+unfoldable pub FitsImage : ℕ → ℕ → Image → Type 0
+FitsImage version written i = IsLook i.look × (FitsPattern i.pattern × (IfSome i.marker FitsCell
     × (FitsTexts written most_held i.texts
     × (FitsFiles written (most_held - totals i.texts) i.files
     × (FitsPieces written (most_held - totals i.texts - totals i.files) i.copied
     × (FitsPieces written (most_held - totals i.texts - totals i.files - total i.copied) i.deleted
-    × (FitsViewers i.viewers × (FitsTrack i.user × (FitsTrack i.system × IfSome i.kept FitsKept)))))))))
+    × (FitsViewers version i.viewers × (FitsStack version i.user × (FitsStack version i.system
+    × IfSome i.kept (FitsKept version))))))))))
+
+-- of some version
+abbrev pub FitsSome : ℕ → Image → Type 0
+FitsSome written i = (version : ℕ) × FitsImage version written i

@@ -1,6 +1,8 @@
 -- The image of a desktop: the bytes that stand for it in a slot of a store, after its last characters. They say how it
--- is kept, with texts as pieces of the characters.
-use Rattle.std.specs.Prelude.{◌≡◌, ℕ, ◌+◌, ◌-◌, ◌<◌, ◌^◌, ◌==◌, if◌then◌else◌, List, [], ◌∷◌, ◌++◌, length, map, All}
+-- is kept, with texts as pieces of the characters. Each version of the layout has a form of its own: images have
+-- overlaid tracks, and ids of two bytes, from a version on.
+use Rattle.std.specs.Prelude.{◌≡◌, ℕ, ◌+◌, ◌-◌, ◌<◌, ◌≤◌, ◌^◌, ◌==◌, nat_le, Bool, if◌then◌else◌, List, [], ◌∷◌, ◌++◌, length}
+use Rattle.std.specs.Prelude.{map, reverse, All}
 use Rattle.std.specs.Prelude.{ℤ, pos, negsuc}
 use Rattle.std.specs.Prelude.{Option, Some, None}
 use Rattle.std.specs.List.{flat_map}
@@ -11,7 +13,8 @@ use Rattle.event_bytes.specs.Parts.{byte, word, counted}
 use Rattle.piece_ring.specs.declared.piece.Look.{Look}
 use Rattle.piece_ring.specs.declared.piece.Piece.{Piece}
 use Rattle.viewer_tracks.specs.declared.display.Track.TheVariants.{User, System}
-use Rattle.viewer_tracks.specs.Columns.{shown}
+use Rattle.viewer_tracks.specs.declared.display.TheConstants.{DEPTH}
+use Rattle.viewer_tracks.specs.Columns.{stack_of}
 use Rattle.viewer_tracks.specs.Display.{left_of}
 use Rattle.viewer_tracks.specs.Viewers.{Entry}
 use Rattle.desktop_definitions.specs.Limits.{least_offset, greatest_offset}
@@ -22,6 +25,7 @@ use Rattle.desktop_definitions.specs.declared.viewer.Kept.{Kept}
 use Rattle.desktop_definitions.specs.Tables.{Texts, Files}
 use Rattle.desktop_definitions.specs.Desktop.{KeptDesktop}
 use Rattle.desktop_definitions.specs.Sound.{IsKeptWhole}
+use Rattle.desk_image.specs.declared.forms.TheConstants.{FIRST_WITH_OVERLAYS}
 use Rattle.desk_image.specs.declared.picture.Ranked.{Ranked}
 use Rattle.desk_image.specs.declared.picture.ViewerPicture.{ViewerPicture}
 
@@ -37,9 +41,9 @@ pub record Image : Type 0 where
   pub deleted : List Piece
   -- each with its caret and its selection
   pub viewers : List ViewerPicture
-  -- the tracks, bottom up
-  pub user : List Entry
-  pub system : List Entry
+  -- the tracks of both columns, from the lowest up, each bottom up
+  pub user : List (List Entry)
+  pub system : List (List Entry)
   pub kept : Option Kept
 
 -- where the caret stands in viewer v
@@ -71,10 +75,20 @@ image_of d = record {
   copied = d.copied;
   deleted = d.deleted;
   viewers = map (picture_of d.caret d.selections) d.viewers;
-  user = shown d.columns User;
-  system = shown d.columns System;
+  user = reverse (stack_of d.columns User);
+  system = reverse (stack_of d.columns System);
   kept = d.kept;
 }
+
+-- ---- versions
+
+-- images of this version have overlaid tracks, and ids of two bytes
+abbrev pub has_overlays : ℕ → Bool
+has_overlays version = nat_le FIRST_WITH_OVERLAYS version
+
+-- how many tracks a column has at most
+abbrev pub deepest : ℕ → ℕ
+deepest version = if has_overlays version then DEPTH else 1
 
 -- ---- its bytes, numbers with the highest byte first
 
@@ -125,21 +139,39 @@ file_bytes f = counted byte f.0 ++ pieces_bytes f.1
 abbrev pub ranked_bytes : Ranked → List ℕ
 ranked_bytes r = byte r.rank ++ (long r.beg ++ long r.end)
 
-abbrev pub viewer_bytes : ViewerPicture → List ℕ
-viewer_bytes v = byte v.id ++ (word v.viewer.menu ++ (word v.viewer.main ++ (long v.viewer.org
+-- an id, or a number of viewers
+abbrev pub id_bytes : ℕ → ℕ → List ℕ
+id_bytes version n = if has_overlays version then word n else byte n
+
+abbrev pub viewer_bytes : ℕ → ViewerPicture → List ℕ
+viewer_bytes version v = id_bytes version v.id ++ (word v.viewer.menu ++ (word v.viewer.main ++ (long v.viewer.org
     ++ (optional long v.caret ++ optional ranked_bytes v.selection))))
 
-abbrev pub entry_bytes : Entry → List ℕ
-entry_bytes e = byte e.viewer ++ byte e.height
+abbrev pub viewers_bytes : ℕ → List ViewerPicture → List ℕ
+viewers_bytes version viewers = listed (id_bytes version) (viewer_bytes version) viewers
 
-abbrev pub kept_bytes : Kept → List ℕ
-kept_bytes k = byte k.viewer ++ (byte (left_of k.track) ++ byte k.top)
+abbrev pub entry_bytes : ℕ → Entry → List ℕ
+entry_bytes version e = id_bytes version e.viewer ++ byte e.height
 
-unfoldable pub image_bytes : Image → List ℕ
-image_bytes i = look_bytes i.look ++ (counted byte i.pattern ++ (optional cell_bytes i.marker
+abbrev pub track_bytes : ℕ → List Entry → List ℕ
+track_bytes version track = listed byte (entry_bytes version) track
+
+-- a number of tracks, which isn't said where there is one in each column
+abbrev pub depth_bytes : ℕ → ℕ → List ℕ
+depth_bytes version n = if has_overlays version then byte n else []
+
+abbrev pub stack_bytes : ℕ → List (List Entry) → List ℕ
+stack_bytes version stack = listed (depth_bytes version) (track_bytes version) stack
+
+abbrev pub kept_bytes : ℕ → Kept → List ℕ
+kept_bytes version k = id_bytes version k.viewer ++ (byte (left_of k.track) ++ byte k.top)
+
+unfoldable pub image_bytes : ℕ → Image → List ℕ
+image_bytes version i = look_bytes i.look ++ (counted byte i.pattern ++ (optional cell_bytes i.marker
     ++ (listed word text_bytes i.texts ++ (listed word file_bytes i.files
-    ++ (pieces_bytes i.copied ++ (pieces_bytes i.deleted ++ (listed byte viewer_bytes i.viewers
-    ++ (listed byte entry_bytes i.user ++ (listed byte entry_bytes i.system ++ optional kept_bytes i.kept)))))))))
+    ++ (pieces_bytes i.copied ++ (pieces_bytes i.deleted ++ (viewers_bytes version i.viewers
+    ++ (stack_bytes version i.user ++ (stack_bytes version i.system
+    ++ optional (kept_bytes version) i.kept)))))))))
 
 -- ---- images of desktops
 
@@ -153,22 +185,34 @@ InWord n = n < 2 ^ 16
 abbrev pub InLong : ℕ → Type 0
 InLong n = n < 2 ^ 32
 
+-- how many numbers an id has to choose from
+abbrev pub number_of_ids : ℕ → ℕ
+number_of_ids version = if has_overlays version then 2 ^ 16 else 2 ^ 8
+
+-- an id, or a number of viewers
+abbrev pub InId : ℕ → ℕ → Type 0
+InId version n = n < number_of_ids version
+
 abbrev pub AreSome : List Piece → Type 0
 AreSome pieces = All (λ p. 0 < p.len) pieces
 
--- What every desktop in memory has by the types of its parts: no piece is empty, and the numbers of texts and the ids
--- of viewers are small.
-pub record IsSpellable (d : KeptDesktop) : Type 0 where
+-- What a desktop has that an image of this version can say: no piece is empty, the numbers of texts and the ids of
+-- viewers are small, and no column has more tracks than the version knows. In the newest version every desktop in memory
+-- has this by the types of its parts.
+pub record IsSpellable (version : ℕ) (d : KeptDesktop) : Type 0 where
   pub texts : All AreSome (values_of d.texts)
   pub files : All AreSome (values_of d.files)
   pub copied : AreSome d.copied
   pub deleted : AreSome d.deleted
   pub numbers : All InWord (keys_of d.texts)
-  pub ids : All InByte (keys_of d.viewers)
+  pub ids : All (InId version) (keys_of d.viewers)
+  pub user : length (stack_of d.columns User) ≤ deepest version
+  pub system : length (stack_of d.columns System) ≤ deepest version
 
--- The bytes are the image of a desktop for which so many characters were written. The desktop holds together.
-pub record Spells (written : ℕ) (bytes : List ℕ) (d : KeptDesktop) : Type 0 where
+-- The bytes are the image, in this version, of a desktop for which so many characters were written. The desktop holds
+-- together.
+pub record Spells (version written : ℕ) (bytes : List ℕ) (d : KeptDesktop) : Type 0 where
   pub count : d.written ≡ written
   pub whole : IsKeptWhole d
-  pub parts : IsSpellable d
-  pub exact : bytes ≡ image_bytes (image_of d)
+  pub parts : IsSpellable version d
+  pub exact : bytes ≡ image_bytes version (image_of d)

@@ -1,5 +1,6 @@
 -- What was read of an image, as the image that it is.
-use Rattle.std.specs.Prelude.{map}
+use Rattle.std.specs.Prelude.{List, map}
+use Rattle.arrayvec.specs.ArrayVec.{ArrayVec}
 use Rattle.viewer_tracks.specs.Viewers.{Entry}
 use Rattle.desk_image.specs.declared.picture.Stretch.{Stretch}
 use Rattle.desk_image.specs.declared.picture.Picture.{Picture}
@@ -7,6 +8,12 @@ use Rattle.desk_image.specs.Image.{Image}
 
 abbrev pub entry_of : Stretch → Entry
 entry_of s = record { viewer = s.viewer; height = s.height }
+
+abbrev pub track_of : ArrayVec Stretch → List Entry
+track_of track = map entry_of track.items
+
+abbrev pub stack_of : List (ArrayVec Stretch) → List (List Entry)
+stack_of stack = map track_of stack
 
 abbrev pub pictured : Picture → Image
 pictured p = record {
@@ -18,7 +25,7 @@ pictured p = record {
   copied = p.copied;
   deleted = p.deleted;
   viewers = p.viewers.items;
-  user = map entry_of p.user.items;
-  system = map entry_of p.system.items;
+  user = stack_of p.user.items;
+  system = stack_of p.system.items;
   kept = p.kept;
 }

@@ -1,4 +1,4 @@
--- Reading an image from left to right.
+-- Reading an image of a version from left to right.
 use Rattle.std.specs.Prelude.{ℕ, zero, suc, ◌+◌, ◌-◌, ◌*◌, Bool, ◌&&◌, ◌==◌, if◌then◌else◌, nat_le}
 use Rattle.std.specs.Prelude.{nat_lt, List, [], ◌∷◌}
 use Rattle.std.specs.Prelude.{length, Option, Some, None, ℤ, pos, ◌-ℤ◌}
@@ -6,7 +6,7 @@ use Rattle.event_bytes.specs.Parts.{Reader, ◌>>=◌, when, byte_at, pair_at, c
 use Rattle.event_bytes.specs.Reading.{name_at}
 use Rattle.piece_ring.specs.declared.piece.Look.{Look}
 use Rattle.piece_ring.specs.declared.piece.Piece.{Piece}
-use Rattle.viewer_tracks.specs.declared.display.TheConstants.{ROWS, COLUMNS, SYSTEM_LEFT}
+use Rattle.viewer_tracks.specs.declared.display.TheConstants.{ROWS, COLUMNS, DEPTH, SYSTEM_LEFT}
 use Rattle.viewer_tracks.specs.declared.display.Track.{Track}
 use Rattle.viewer_tracks.specs.declared.display.Track.TheVariants.{User, System}
 use Rattle.viewer_tracks.specs.Viewers.{Entry}
@@ -16,8 +16,10 @@ use Rattle.desktop_definitions.specs.Limits.{most_files, most_held, most_pattern
 use Rattle.desktop_definitions.specs.Tables.{Texts, Files}
 use Rattle.desk_image.specs.declared.picture.Ranked.{Ranked}
 use Rattle.desk_image.specs.declared.picture.ViewerPicture.{ViewerPicture}
-use Rattle.desk_image.specs.Image.{Image, below_zero, offsets}
+use Rattle.desk_image.specs.declared.limits.TheConstants.{MOST_VIEWERS}
+use Rattle.desk_image.specs.Image.{Image, has_overlays, below_zero, offsets}
 use Rattle.desk_image.specs.Fitting.{less, after_text, follows, after_file, total, totals, after_viewer, above}
+use Rattle.desk_image.specs.Fitting.{overlaid}
 
 -- ---- forms
 
@@ -117,9 +119,13 @@ ranked_at bytes = do
   end ← long_at beg.1
   Some (record { rank = rank.0; beg = beg.0; end = end.0 }, end.1)
 
-abbrev pub viewer_at : ℕ → Reader ViewerPicture
-viewer_at least bytes = do
-  id ← byte_at bytes
+-- an id, or a number of viewers
+unfoldable pub id_at : ℕ → Reader ℕ
+id_at version bytes = if has_overlays version then pair_at bytes else byte_at bytes
+
+abbrev pub viewer_at : ℕ → ℕ → Reader ViewerPicture
+viewer_at version least bytes = do
+  id ← id_at version bytes
   if nat_le least id.0 then (do
     menu ← pair_at id.1
     main ← pair_at menu.1
@@ -136,29 +142,43 @@ viewer_at least bytes = do
       selection.1,
     )) else None
 
-unfoldable pub viewers_at : Reader (List ViewerPicture)
-viewers_at bytes = do
-  count ← byte_at bytes
-  times viewer_at after_viewer count.0 0 count.1
+unfoldable pub viewers_at : ℕ → Reader (List ViewerPicture)
+viewers_at version bytes = do
+  count ← id_at version bytes
+  if nat_le count.0 MOST_VIEWERS then times (viewer_at version) after_viewer count.0 0 count.1 else None
 
 -- ---- tracks
 
-unfoldable pub raw_entry_at : Reader Entry
-raw_entry_at bytes = do
-  viewer ← byte_at bytes
+unfoldable pub raw_entry_at : ℕ → Reader Entry
+raw_entry_at version bytes = do
+  viewer ← id_at version bytes
   height ← byte_at viewer.1
   Some (record { viewer = viewer.0; height = height.0 }, height.1)
 
 abbrev pub is_entry : ℕ → Entry → Bool
 is_entry room e = nat_lt 0 e.height && nat_le e.height room
 
-unfoldable pub entry_at : ℕ → Reader Entry
-entry_at room bytes = when (is_entry room) raw_entry_at bytes
+unfoldable pub entry_at : ℕ → ℕ → Reader Entry
+entry_at version room bytes = when (is_entry room) (raw_entry_at version) bytes
 
-unfoldable pub track_at : Reader (List Entry)
-track_at bytes = do
+unfoldable pub track_at : ℕ → Reader (List Entry)
+track_at version bytes = do
   count ← byte_at bytes
-  times entry_at above count.0 ROWS count.1
+  times (entry_at version) above count.0 ROWS count.1
+
+-- one that has so many viewers at least
+unfoldable pub level_at : ℕ → ℕ → Reader (List Entry)
+level_at version least bytes = when (λ track. nat_le least (length track)) (track_at version) bytes
+
+-- a number of tracks
+unfoldable pub depth_at : ℕ → Reader ℕ
+depth_at version bytes = if has_overlays version then byte_at bytes else Some (1, bytes)
+
+-- the tracks of a column, from the lowest up
+unfoldable pub stack_at : ℕ → Reader (List (List Entry))
+stack_at version bytes = do
+  depth ← depth_at version bytes
+  if nat_lt 0 depth.0 && nat_le depth.0 DEPTH then times (level_at version) overlaid depth.0 0 depth.1 else None
 
 -- ---- the rest
 
@@ -183,9 +203,9 @@ side_at bytes = do
   x ← byte_at bytes
   if x.0 == 0 then Some (User, x.1) else if x.0 == SYSTEM_LEFT then Some (System, x.1) else None
 
-unfoldable pub raw_kept_at : Reader Kept
-raw_kept_at bytes = do
-  viewer ← byte_at bytes
+unfoldable pub raw_kept_at : ℕ → Reader Kept
+raw_kept_at version bytes = do
+  viewer ← id_at version bytes
   track ← side_at viewer.1
   top ← byte_at track.1
   Some (record { viewer = viewer.0; track = track.0; top = top.0 }, top.1)
@@ -193,14 +213,14 @@ raw_kept_at bytes = do
 abbrev pub is_kept : Kept → Bool
 is_kept k = nat_lt 0 k.top && nat_le k.top ROWS
 
-unfoldable pub kept_at : Reader Kept
-kept_at bytes = when is_kept raw_kept_at bytes
+unfoldable pub kept_at : ℕ → Reader Kept
+kept_at version bytes = when is_kept (raw_kept_at version) bytes
 
 -- ---- the whole
 
 -- an image for which so many characters were written
-unfoldable pub image_at : ℕ → Reader Image
-image_at written bytes = do
+unfoldable pub image_at : ℕ → ℕ → Reader Image
+image_at version written bytes = do
   look ← look_at bytes
   pattern ← pattern_at look.1
   marker ← optional_at cell_at pattern.1
@@ -208,10 +228,10 @@ image_at written bytes = do
   files ← files_at written (most_held - totals texts.0) texts.1
   copied ← pieces_at written (most_held - totals texts.0 - totals files.0) files.1
   deleted ← pieces_at written (most_held - totals texts.0 - totals files.0 - total copied.0) copied.1
-  viewers ← viewers_at deleted.1
-  user ← track_at viewers.1
-  system ← track_at user.1
-  kept ← optional_at kept_at system.1
+  viewers ← viewers_at version deleted.1
+  user ← stack_at version viewers.1
+  system ← stack_at version user.1
+  kept ← optional_at (kept_at version) system.1
   Some (
     record {
       look = look.0;
@@ -230,7 +250,7 @@ image_at written bytes = do
   )
 
 -- an image, and no byte after it
-unfoldable pub whole_image_at : ℕ → Reader Image
-whole_image_at written bytes = do
-  image ← image_at written bytes
+unfoldable pub whole_image_at : ℕ → ℕ → Reader Image
+whole_image_at version written bytes = do
+  image ← image_at version written bytes
   if length image.1 == 0 then Some image else None

@@ -10,7 +10,7 @@ use Rattle.desktop_definitions.specs.Tables.{Texts, Files}
 use Rattle.desk_image.specs.Fitting.{total, totals, FitsTexts, FitsFiles, FitsPieces}
 use Rattle.desk_image.specs.Image.{Image}
 use Rattle.desk_image.specs.Reading.{optional_at, look_at, pattern_at, cell_at, texts_at, files_at, pieces_at}
-use Rattle.desk_image.specs.Reading.{viewers_at, track_at, kept_at}
+use Rattle.desk_image.specs.Reading.{viewers_at, stack_at, kept_at}
 
 -- ---- bytes
 
@@ -68,24 +68,24 @@ FitHeld written texts files copied deleted = FitsTexts written most_held texts
     × (FitsPieces written (most_held - totals texts - totals files) copied
     × FitsPieces written (most_held - totals texts - totals files - total copied) deleted))
 
--- both tracks, and the viewer that was closed last
+-- the tracks of both columns, and the viewer that was closed last
 abbrev pub Shown : Type 0
-Shown = List Entry × List Entry × Option Kept
+Shown = List (List Entry) × List (List Entry) × Option Kept
 
-unfoldable pub shown_at : Reader Shown
-shown_at bytes = do
-  user ← track_at bytes
-  system ← track_at user.1
-  kept ← optional_at kept_at system.1
+unfoldable pub shown_at : ℕ → Reader Shown
+shown_at version bytes = do
+  user ← stack_at version bytes
+  system ← stack_at version user.1
+  kept ← optional_at (kept_at version) system.1
   Some ((user.0, system.0, kept.0), kept.1)
 
 -- all sections, with the viewers between them
-abbrev pub sections_at : ℕ → Reader Image
-sections_at written bytes = do
+abbrev pub sections_at : ℕ → ℕ → Reader Image
+sections_at version written bytes = do
   front ← front_at bytes
   held ← held_at written front.1
-  viewers ← viewers_at held.1
-  shown ← shown_at viewers.1
+  viewers ← viewers_at version held.1
+  shown ← shown_at version viewers.1
   Some (
     record {
       look = front.0.0;

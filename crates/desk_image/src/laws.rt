@@ -6,7 +6,8 @@ pub fn images_are_read()
     ensures { ReadingLaw }
 {}
 
-/// The image of the empty desktop has 27 bytes, and they are read as that image.
+/// The image of the empty desktop has 30 bytes, 27 in the versions whose columns have one track, and they are read as
+/// that image.
 pub fn empty_image()
     ensures { EmptyLaw }
 {}
@@ -21,7 +22,7 @@ pub fn parts_make_one_desktop()
     ensures { ImagingLaw }
 {}
 
-/// Bytes are the image of one desktop at most.
+/// In a version bytes are the image of one desktop at most.
 pub fn one_desktop()
     ensures { UniqueLaw }
 {}

@@ -1,10 +1,10 @@
-//! How many bytes the parts of an image have.
+//! How many bytes the parts of an image have, in the newest version.
 ghost use Rattle.std.specs.Prelude.{◌≡◌, ◌<◌, ◌≤◌, ◌^◌, List, length};
-ghost use Rattle.event_bytes.specs.Parts.{byte};
+ghost use Rattle.command_table.specs.Versions.{newest_version};
 ghost use Rattle.piece_ring.specs.declared.piece.Piece.{Piece};
 ghost use Rattle.viewer_tracks.specs.Viewers.{Entry};
-ghost use Rattle.desk_image.specs.Image.{pieces_bytes, cell_bytes, ranked_bytes, viewer_bytes, entry_bytes};
-ghost use Rattle.desk_image.specs.Image.{kept_bytes, listed, long, optional};
+ghost use Rattle.desk_image.specs.Image.{pieces_bytes, cell_bytes, ranked_bytes, viewer_bytes, track_bytes};
+ghost use Rattle.desk_image.specs.Image.{kept_bytes, long, optional};
 
 use crate::{Ranked, ViewerPicture};
 use desktop_definitions::Kept;
@@ -16,7 +16,7 @@ pub const LOOK_BYTES: usize = 3;
 const PIECE_BYTES: usize = 12;
 
 /// How many bytes a viewer of a track has: its id and its height.
-const ENTRY_BYTES: usize = 2;
+const ENTRY_BYTES: usize = 3;
 
 /// How many bytes so many pieces have, after their number.
 pub fn pieces_len(count: u32) -> usize
@@ -59,27 +59,27 @@ fn ranked_len(selection: Option<Ranked>) -> usize
 
 /// How many bytes a viewer has with what is marked in it.
 pub fn viewer_len(picture: ViewerPicture) -> usize
-    ensures { result ≡ length (viewer_bytes picture) }
+    ensures { result ≡ length (viewer_bytes newest_version picture) }
 {
-    9 + caret_len(picture.caret) + ranked_len(picture.selection)
+    10 + caret_len(picture.caret) + ranked_len(picture.selection)
 }
 
 /// How many bytes so many viewers of a track have, after their number.
 pub fn entries_len(count: u8) -> usize
     ensures value { (entries : List Entry) → length entries ≡ count
-        → result ≡ length (listed byte entry_bytes entries) }
-    ensures few { result ≤ 511 }
+        → result ≡ length (track_bytes newest_version entries) }
+    ensures few { result ≤ 766 }
 {
     1 + ENTRY_BYTES * count as usize
 }
 
 /// How many bytes the viewer that was closed last has, if there is one.
 pub fn kept_len(kept: Option<Kept>) -> usize
-    ensures value { result ≡ length (optional kept_bytes kept) }
-    ensures few { result ≤ 4 }
+    ensures value { result ≡ length (optional (kept_bytes newest_version) kept) }
+    ensures few { result ≤ 5 }
 {
     match kept {
         None => 1,
-        Some(_) => 4,
+        Some(_) => 5,
     }
 }

@@ -6,6 +6,7 @@
 
 mod empty;
 mod fault;
+mod forms;
 mod holder;
 mod laws;
 mod lengths;
@@ -16,15 +17,16 @@ mod sink;
 mod source;
 mod writing;
 
-pub use empty::EMPTY_IMAGE;
+pub use empty::{EMPTY_IMAGE, FLAT_EMPTY_IMAGE, empty_image_of};
 pub use fault::ImageFault;
+pub use forms::{FIRST_WITH_OVERLAYS, has_overlays};
 pub use laws::{
     desktops_fit, empty_image, images_are_read, images_have_room, one_desktop,
     parts_make_one_desktop,
 };
 pub use lengths::{LOOK_BYTES, cell_len, entries_len, kept_len, pieces_len, viewer_len};
-pub use limits::IMAGE_BYTES;
-pub use picture::{PATTERN, Picture, Ranked, Stretch, Stretches, TRACK, ViewerPicture};
+pub use limits::{IMAGE_BYTES, MOST_VIEWERS};
+pub use picture::{Levels, PATTERN, Picture, Ranked, Stretch, Stretches, TRACK, ViewerPicture};
 pub use reading::read_picture;
 pub use sink::ByteSink;
 pub use source::ByteSource;

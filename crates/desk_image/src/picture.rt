@@ -27,7 +27,7 @@ pub struct Ranked {
 /// A viewer as an image has it: with the position of the caret and the selection, if it has them.
 #[derive(Clone, Copy, Debug, PartialEq, Eq)]
 pub struct ViewerPicture {
-    pub id: u8,
+    pub id: u16,
     pub viewer: Viewer,
     pub caret: Option<u32>,
     pub selection: Option<Ranked>,
@@ -36,12 +36,15 @@ pub struct ViewerPicture {
 /// A viewer of a track, and how many rows it has.
 #[derive(Clone, Copy, Debug, Default, PartialEq, Eq)]
 pub struct Stretch {
-    pub viewer: u8,
+    pub viewer: u16,
     pub height: u8,
 }
 
 /// The viewers of a track, bottom up.
 pub type Stretches = ArrayVec<Stretch, TRACK>;
+
+/// The tracks of a column, from the lowest up.
+pub type Levels = Vec<Stretches>;
 
 /// What was read of an image. Its parts fit each for itself (`specs/Fitting.antt`); whether they make a desktop is for
 /// the reader to find out.
@@ -55,7 +58,7 @@ pub struct Picture {
     pub copied: Buffer,
     pub deleted: Buffer,
     pub viewers: Vec<ViewerPicture>,
-    pub user: Stretches,
-    pub system: Stretches,
+    pub user: Levels,
+    pub system: Levels,
     pub kept: Option<Kept>,
 }

@@ -2,9 +2,10 @@
 //!
 //! Each function reads what its name says from the front of the source, and tests it: `Damaged` where the bytes begin
 //! with nothing of the kind. The contracts name the readers of `specs/Reading.antt`.
-ghost use Rattle.std.specs.Prelude.{◌≡◌, ◌+◌, ◌-◌, ◌<◌, ◌≤◌, length, map, IfOk, IfSome, None, IsTrue};
+ghost use Rattle.std.specs.Prelude.{◌≡◌, ◌+◌, ◌-◌, ◌<◌, ◌≤◌, length, IfOk, IfSome, None, IsTrue, false};
 ghost use Rattle.std.specs.Prelude.{int_le};
 ghost use Rattle.viewer_tracks.specs.declared.display.TheConstants.{ROWS as rows};
+ghost use Rattle.command_table.specs.Versions.{version_number};
 ghost use Rattle.event_bytes.specs.Bytes.{is_name};
 ghost use Rattle.event_bytes.specs.Parts.{byte_at, pair_at, bytes_at};
 ghost use Rattle.event_bytes.specs.Reading.{name_at};
@@ -13,21 +14,26 @@ ghost use Rattle.desktop_definitions.specs.Looks.{IsLook};
 ghost use Rattle.desk_image.specs.Fitting.{Chain, FitsPiece, less, total, totals, FitsPieces, FitsText, after_text};
 ghost use Rattle.desk_image.specs.Fitting.{FitsTexts, FitsFile, after_file, FitsFiles, follows, FitsRanked};
 ghost use Rattle.desk_image.specs.Fitting.{FitsViewer, after_viewer, FitsViewers, FitsEntry, above, FitsTrack};
-ghost use Rattle.desk_image.specs.Fitting.{FitsPattern, FitsCell, FitsKept, FitsImage};
-ghost use Rattle.desk_image.specs.Pictures.{entry_of, pictured};
+ghost use Rattle.desk_image.specs.Fitting.{FitsLevel, overlaid, FitsStack, FitsPattern, FitsCell, FitsKept, FitsImage};
+ghost use Rattle.desk_image.specs.Pictures.{entry_of, track_of, stack_of, pictured};
 ghost use Rattle.desk_image.specs.Reading.{times, optional_at, long_at, offset_at, raw_look_at, look_at};
 ghost use Rattle.desk_image.specs.Reading.{raw_piece_at, piece_at, pieces_at, text_at, texts_at, file_at, files_at};
-ghost use Rattle.desk_image.specs.Reading.{ranked_at, viewer_at, viewers_at, raw_entry_at, entry_at, track_at};
+ghost use Rattle.desk_image.specs.Reading.{ranked_at, id_at, viewer_at, viewers_at, raw_entry_at, entry_at};
+ghost use Rattle.desk_image.specs.Reading.{track_at, level_at, depth_at, stack_at};
 ghost use Rattle.desk_image.specs.Reading.{pattern_at, raw_cell_at, cell_at, side_at, raw_kept_at, kept_at};
 ghost use Rattle.desk_image.specs.Reading.{image_at, whole_image_at, is_piece as pieces};
 ghost use Rattle.desk_image.specs.Steps.{any_at, end_at, short_at, last_key, front_at, held_at, FitHeld, shown_at};
 ghost use Rattle.desk_image.specs.Streams.{Reads};
+ghost use Rattle.desk_image.specs.Image.{InId, has_overlays};
 
+use crate::forms::has_overlays;
 use crate::holder::Holder;
 use crate::{
-    ByteSource, ImageFault, PATTERN, Picture, Ranked, Stretch, Stretches, TRACK, ViewerPicture,
+    ByteSource, ImageFault, Levels, MOST_VIEWERS, PATTERN, Picture, Ranked, Stretch, Stretches,
+    TRACK, ViewerPicture,
 };
 use arrayvec::ArrayVec;
+use command_table::Version;
 use desktop_definitions::{
     COLOURS, FONTS, GREATEST_OFFSET, Kept, LEAST_OFFSET, MOST_FILES, MOST_HELD, Viewer,
 };
@@ -38,7 +44,7 @@ use std::alloc::Global;
 use std::collections::BTreeMap;
 use std::vec::Vec;
 use text_core::{Buffer, Text};
-use viewer_tracks::{COLUMNS, ROWS, SYSTEM_LEFT, Track};
+use viewer_tracks::{COLUMNS, DEPTH, ROWS, SYSTEM_LEFT, Track};
 
 // ---- numbers
 
@@ -426,12 +432,30 @@ fn selection_from<S: ByteSource>(source: &mut S) -> Result<Option<Ranked>, Image
     }
 }
 
-/// A viewer, whose id is `least` or above.
-fn viewer_from<S: ByteSource>(source: &mut S, least: u32) -> Result<ViewerPicture, ImageFault>
-    ensures reads { Reads S.ByteSource (λ viewer. viewer) result (viewer_at least) source.old source.new }
-    ensures fits { IfOk result (FitsViewer least) }
+/// An id, or a number of viewers, as a version has it.
+#[tactic(auto, unfolding(crate::specs::Reading::id_at))]
+fn id_from<S: ByteSource>(source: &mut S, version: Version) -> Result<u16, ImageFault>
+    ensures reads { Reads S.ByteSource (λ id. id) result (id_at (version_number version)) source.old source.new }
+    ensures fits { IfOk result (InId (version_number version)) }
 {
+    if has_overlays(version) {
+        return word_from(source);
+    }
     let id = byte_from(source)?;
+    Ok(id as u16)
+}
+
+/// A viewer, whose id is `least` or above.
+fn viewer_from<S: ByteSource>(
+    source: &mut S,
+    version: Version,
+    least: u32,
+) -> Result<ViewerPicture, ImageFault>
+    ensures reads { Reads S.ByteSource (λ viewer. viewer) result (viewer_at (version_number version) least)
+        source.old source.new }
+    ensures fits { IfOk result (FitsViewer (version_number version) least) }
+{
+    let id = id_from(source, version)?;
     if (id as u32) < least {
         return Err(ImageFault::Damaged);
     }
@@ -452,55 +476,68 @@ fn viewer_from<S: ByteSource>(source: &mut S, least: u32) -> Result<ViewerPictur
 fn counted_viewers<S: ByteSource>(
     alloc: Global,
     source: &mut S,
-    count: u8,
+    version: Version,
+    count: u16,
 ) -> Result<Vec<ViewerPicture>, ImageFault>
-    ensures reads { Reads S.ByteSource (λ viewers. viewers.items) result (times viewer_at after_viewer count 0)
-        source.old source.new }
-    ensures fits { IfOk result (λ viewers. Chain FitsViewer after_viewer 0 viewers.items) }
+    ensures reads { Reads S.ByteSource (λ viewers. viewers.items) result
+        (times (viewer_at (version_number version)) after_viewer count 0) source.old source.new }
+    ensures fits { IfOk result
+        (λ viewers. Chain (FitsViewer (version_number version)) after_viewer 0 viewers.items) }
     ensures many { IfOk result (λ viewers. length viewers.items ≡ count) }
 {
     let mut viewers = Vec::new(alloc);
     let mut least = 0;
     for _ in 0..count {
-        let viewer = viewer_from(source, least)?;
+        let viewer = viewer_from(source, version, least)?;
         least = viewer.id as u32 + 1;
         viewers.push(viewer)?;
     }
     Ok(viewers)
 }
 
-/// Viewers after their number.
+/// Viewers after their number, no more than there are places.
 #[tactic(auto, unfolding(crate::specs::Reading::viewers_at))]
 fn viewers_from<S: ByteSource>(
     alloc: Global,
     source: &mut S,
+    version: Version,
 ) -> Result<Vec<ViewerPicture>, ImageFault>
-    ensures reads { Reads S.ByteSource (λ viewers. viewers.items) result viewers_at source.old source.new }
-    ensures fits { IfOk result (λ viewers. FitsViewers viewers.items) }
+    ensures reads { Reads S.ByteSource (λ viewers. viewers.items) result (viewers_at (version_number version))
+        source.old source.new }
+    ensures fits { IfOk result (λ viewers. FitsViewers (version_number version) viewers.items) }
 {
-    let count = byte_from(source)?;
-    counted_viewers(alloc, source, count)
+    let count = id_from(source, version)?;
+    if count as u32 > MOST_VIEWERS {
+        return Err(ImageFault::Damaged);
+    }
+    counted_viewers(alloc, source, version, count)
 }
 
 // ---- tracks
 
 /// A viewer of a track, of which nothing is tested.
 #[tactic(auto, unfolding(crate::specs::Reading::raw_entry_at))]
-fn raw_entry_from<S: ByteSource>(source: &mut S) -> Result<Stretch, ImageFault>
-    ensures reads { Reads S.ByteSource entry_of result raw_entry_at source.old source.new }
+fn raw_entry_from<S: ByteSource>(source: &mut S, version: Version) -> Result<Stretch, ImageFault>
+    ensures reads { Reads S.ByteSource entry_of result (raw_entry_at (version_number version)) source.old source.new }
+    ensures fits { IfOk result (λ stretch. InId (version_number version) stretch.viewer) }
 {
-    let viewer = byte_from(source)?;
+    let viewer = id_from(source, version)?;
     let height = byte_from(source)?;
     Ok(Stretch { viewer, height })
 }
 
 /// A viewer of a track, which has a row, and no more than there are.
 #[tactic(auto, unfolding(crate::specs::Reading::entry_at))]
-fn entry_from<S: ByteSource>(source: &mut S, room: u8) -> Result<Stretch, ImageFault>
-    ensures reads { Reads S.ByteSource entry_of result (entry_at room) source.old source.new }
-    ensures fits { IfOk result (λ stretch. FitsEntry room (entry_of stretch)) }
+fn entry_from<S: ByteSource>(
+    source: &mut S,
+    version: Version,
+    room: u8,
+) -> Result<Stretch, ImageFault>
+    ensures reads { Reads S.ByteSource entry_of result (entry_at (version_number version) room)
+        source.old source.new }
+    ensures fits { IfOk result (λ stretch. FitsEntry (version_number version) room (entry_of stretch)) }
 {
-    let stretch = raw_entry_from(source)?;
+    let stretch = raw_entry_from(source, version)?;
     if 0 < stretch.height && stretch.height <= room {
         Ok(stretch)
     } else {
@@ -509,15 +546,19 @@ fn entry_from<S: ByteSource>(source: &mut S, room: u8) -> Result<Stretch, ImageF
 }
 
 /// So many viewers of a track, bottom up.
-fn counted_track<S: ByteSource>(source: &mut S, count: u8) -> Result<Stretches, ImageFault>
-    ensures reads { Reads S.ByteSource (λ track. map entry_of track.items) result (times entry_at above count rows)
+fn counted_track<S: ByteSource>(
+    source: &mut S,
+    version: Version,
+    count: u8,
+) -> Result<Stretches, ImageFault>
+    ensures reads { Reads S.ByteSource track_of result (times (entry_at (version_number version)) above count rows)
         source.old source.new }
-    ensures fits { IfOk result (λ track. FitsTrack (map entry_of track.items)) }
+    ensures fits { IfOk result (λ track. FitsTrack (version_number version) (track_of track)) }
 {
     let mut track = Stretches::new();
     let mut room = ROWS;
     for _ in 0..count {
-        let stretch = entry_from(source, room)?;
+        let stretch = entry_from(source, version, room)?;
         room -= stretch.height;
         track.push(stretch);
     }
@@ -526,12 +567,84 @@ fn counted_track<S: ByteSource>(source: &mut S, count: u8) -> Result<Stretches, 
 
 /// A track: its viewers, after their number.
 #[tactic(auto, unfolding(crate::specs::Reading::track_at))]
-fn track_from<S: ByteSource>(source: &mut S) -> Result<Stretches, ImageFault>
-    ensures reads { Reads S.ByteSource (λ track. map entry_of track.items) result track_at source.old source.new }
-    ensures fits { IfOk result (λ track. FitsTrack (map entry_of track.items)) }
+fn track_from<S: ByteSource>(source: &mut S, version: Version) -> Result<Stretches, ImageFault>
+    ensures reads { Reads S.ByteSource track_of result (track_at (version_number version)) source.old source.new }
+    ensures fits { IfOk result (λ track. FitsTrack (version_number version) (track_of track)) }
 {
     let count = byte_from(source)?;
-    counted_track(source, count)
+    counted_track(source, version, count)
+}
+
+/// A track that has so many viewers at least.
+#[tactic(auto, unfolding(crate::specs::Reading::level_at))]
+fn level_from<S: ByteSource>(
+    source: &mut S,
+    version: Version,
+    least: usize,
+) -> Result<Stretches, ImageFault>
+    ensures reads { Reads S.ByteSource track_of result (level_at (version_number version) least)
+        source.old source.new }
+    ensures fits { IfOk result (λ track. FitsLevel (version_number version) least (track_of track)) }
+{
+    let track = track_from(source, version)?;
+    if track.len() < least {
+        return Err(ImageFault::Damaged);
+    }
+    Ok(track)
+}
+
+/// So many tracks of a column, from the lowest up. Every one but the lowest has a viewer.
+fn counted_stack<S: ByteSource>(
+    alloc: Global,
+    source: &mut S,
+    version: Version,
+    depth: u8,
+) -> Result<Levels, ImageFault>
+    ensures reads { Reads S.ByteSource (λ stack. stack_of stack.items) result
+        (times (level_at (version_number version)) overlaid depth 0) source.old source.new }
+    ensures fits { IfOk result
+        (λ stack. Chain (FitsLevel (version_number version)) overlaid 0 (stack_of stack.items)) }
+    ensures many { IfOk result (λ stack. length stack.items ≡ depth) }
+{
+    let mut stack = Vec::new(alloc);
+    let mut least = 0;
+    for _ in 0..depth {
+        let track = level_from(source, version, least)?;
+        least = 1;
+        stack.push(track)?;
+    }
+    Ok(stack)
+}
+
+/// How many tracks a column has: one, where the version has no overlays.
+#[tactic(auto, unfolding(crate::specs::Reading::depth_at))]
+fn depth_from<S: ByteSource>(source: &mut S, version: Version) -> Result<u8, ImageFault>
+    ensures reads { Reads S.ByteSource (λ depth. depth) result (depth_at (version_number version))
+        source.old source.new }
+    ensures few { IfOk result (λ depth. has_overlays (version_number version) ≡ false → depth ≡ 1) }
+{
+    if has_overlays(version) {
+        return byte_from(source);
+    }
+    Ok(1)
+}
+
+/// The tracks of a column, after their number.
+#[tactic(auto, unfolding(crate::specs::Reading::stack_at))]
+fn stack_from<S: ByteSource>(
+    alloc: Global,
+    source: &mut S,
+    version: Version,
+) -> Result<Levels, ImageFault>
+    ensures reads { Reads S.ByteSource (λ stack. stack_of stack.items) result (stack_at (version_number version))
+        source.old source.new }
+    ensures fits { IfOk result (λ stack. FitsStack (version_number version) (stack_of stack.items)) }
+{
+    let depth = depth_from(source, version)?;
+    if depth == 0 || depth > DEPTH {
+        return Err(ImageFault::Damaged);
+    }
+    counted_stack(alloc, source, version, depth)
 }
 
 // ---- the rest
@@ -586,10 +699,12 @@ fn side_from<S: ByteSource>(source: &mut S) -> Result<Track, ImageFault>
 
 /// The viewer that was closed last, of which the track alone is tested.
 #[tactic(auto, unfolding(crate::specs::Reading::raw_kept_at))]
-fn raw_kept_from<S: ByteSource>(source: &mut S) -> Result<Kept, ImageFault>
-    ensures reads { Reads S.ByteSource (λ kept. kept) result raw_kept_at source.old source.new }
+fn raw_kept_from<S: ByteSource>(source: &mut S, version: Version) -> Result<Kept, ImageFault>
+    ensures reads { Reads S.ByteSource (λ kept. kept) result (raw_kept_at (version_number version))
+        source.old source.new }
+    ensures fits { IfOk result (λ kept. InId (version_number version) kept.viewer) }
 {
-    let viewer = byte_from(source)?;
+    let viewer = id_from(source, version)?;
     let track = side_from(source)?;
     let top = byte_from(source)?;
     Ok(Kept { viewer, track, top })
@@ -597,11 +712,11 @@ fn raw_kept_from<S: ByteSource>(source: &mut S) -> Result<Kept, ImageFault>
 
 /// The viewer that was closed last.
 #[tactic(auto, unfolding(crate::specs::Reading::kept_at))]
-fn one_kept_from<S: ByteSource>(source: &mut S) -> Result<Kept, ImageFault>
-    ensures reads { Reads S.ByteSource (λ kept. kept) result kept_at source.old source.new }
-    ensures fits { IfOk result FitsKept }
+fn one_kept_from<S: ByteSource>(source: &mut S, version: Version) -> Result<Kept, ImageFault>
+    ensures reads { Reads S.ByteSource (λ kept. kept) result (kept_at (version_number version)) source.old source.new }
+    ensures fits { IfOk result (FitsKept (version_number version)) }
 {
-    let kept = raw_kept_from(source)?;
+    let kept = raw_kept_from(source, version)?;
     if 0 < kept.top && kept.top <= ROWS {
         Ok(kept)
     } else {
@@ -610,13 +725,14 @@ fn one_kept_from<S: ByteSource>(source: &mut S) -> Result<Kept, ImageFault>
 }
 
 /// The viewer that was closed last, where there is one.
-fn kept_from<S: ByteSource>(source: &mut S) -> Result<Option<Kept>, ImageFault>
-    ensures reads { Reads S.ByteSource (λ kept. kept) result (optional_at kept_at) source.old source.new }
-    ensures fits { IfOk result (λ kept. IfSome kept FitsKept) }
+fn kept_from<S: ByteSource>(source: &mut S, version: Version) -> Result<Option<Kept>, ImageFault>
+    ensures reads { Reads S.ByteSource (λ kept. kept) result (optional_at (kept_at (version_number version)))
+        source.old source.new }
+    ensures fits { IfOk result (λ kept. IfSome kept (FitsKept (version_number version))) }
 {
     match byte_from(source)? {
         0 => Ok(None),
-        1 => Ok(Some(one_kept_from(source)?)),
+        1 => Ok(Some(one_kept_from(source, version)?)),
         _ => Err(ImageFault::Damaged),
     }
 }
@@ -654,8 +770,8 @@ struct Held {
 /// Where viewers stand.
 #[derive(Drop)]
 struct Shown {
-    user: Stretches,
-    system: Stretches,
+    user: Levels,
+    system: Levels,
     kept: Option<Kept>,
 }
 
@@ -699,36 +815,42 @@ fn held_from<S: ByteSource>(alloc: Global, source: &mut S, written: u32) -> Resu
     })
 }
 
-/// The tracks, and the viewer that was closed last.
+/// The tracks of both columns, and the viewer that was closed last.
 #[tactic(auto, unfolding(crate::specs::Steps::shown_at))]
-fn shown_from<S: ByteSource>(source: &mut S) -> Result<Shown, ImageFault>
+fn shown_from<S: ByteSource>(
+    alloc: Global,
+    source: &mut S,
+    version: Version,
+) -> Result<Shown, ImageFault>
     ensures reads { Reads S.ByteSource
-        (λ shown. (map entry_of shown.user.items, map entry_of shown.system.items, shown.kept)) result shown_at
-        source.old source.new }
-    ensures user { IfOk result (λ shown. FitsTrack (map entry_of shown.user.items)) }
-    ensures system { IfOk result (λ shown. FitsTrack (map entry_of shown.system.items)) }
-    ensures kept { IfOk result (λ shown. IfSome shown.kept FitsKept) }
+        (λ shown. (stack_of shown.user.items, stack_of shown.system.items, shown.kept)) result
+        (shown_at (version_number version)) source.old source.new }
+    ensures user { IfOk result (λ shown. FitsStack (version_number version) (stack_of shown.user.items)) }
+    ensures system { IfOk result (λ shown. FitsStack (version_number version) (stack_of shown.system.items)) }
+    ensures kept { IfOk result (λ shown. IfSome shown.kept (FitsKept (version_number version))) }
 {
-    let user = track_from(source)?;
-    let system = track_from(source)?;
-    let kept = kept_from(source)?;
+    let user = stack_from(alloc, source, version)?;
+    let system = stack_from(alloc, source, version)?;
+    let kept = kept_from(source, version)?;
     Ok(Shown { user, system, kept })
 }
 
-/// An image.
+/// An image of a version.
 #[tactic(auto, using(crate::proofs::Sections::image_in_sections), unfolding(crate::specs::Fitting::FitsImage))]
 fn picture_from<S: ByteSource>(
     alloc: Global,
     source: &mut S,
+    version: Version,
     written: u32,
 ) -> Result<Picture, ImageFault>
-    ensures reads { Reads S.ByteSource pictured result (image_at written) source.old source.new }
-    ensures fits { IfOk result (λ picture. FitsImage written (pictured picture)) }
+    ensures reads { Reads S.ByteSource pictured result (image_at (version_number version) written)
+        source.old source.new }
+    ensures fits { IfOk result (λ picture. FitsImage (version_number version) written (pictured picture)) }
 {
     let front = front_from(source)?;
     let held = held_from(alloc, source, written)?;
-    let viewers = viewers_from(alloc, source)?;
-    let shown = shown_from(source)?;
+    let viewers = viewers_from(alloc, source, version)?;
+    let shown = shown_from(alloc, source, version)?;
     Ok(Picture {
         look: front.look,
         pattern: front.pattern,
@@ -744,19 +866,21 @@ fn picture_from<S: ByteSource>(
     })
 }
 
-/// Reads an image, all bytes of the source, for which so many characters were written.
+/// Reads an image of a version, all bytes of the source, for which so many characters were written.
 ///
 /// `Damaged` where the bytes aren't an image whose parts fit; `Fault` where a byte could not be read; `NoMemory`.
 #[tactic(auto, unfolding(crate::specs::Reading::whole_image_at))]
 pub fn read_picture<S: ByteSource>(
     alloc: Global,
     source: &mut S,
+    version: Version,
     written: u32,
 ) -> Result<Picture, ImageFault>
-    ensures reads { Reads S.ByteSource pictured result (whole_image_at written) source.old source.new }
-    ensures fits { IfOk result (λ picture. FitsImage written (pictured picture)) }
+    ensures reads { Reads S.ByteSource pictured result (whole_image_at (version_number version) written)
+        source.old source.new }
+    ensures fits { IfOk result (λ picture. FitsImage (version_number version) written (pictured picture)) }
 {
-    let picture = picture_from(alloc, source, written)?;
+    let picture = picture_from(alloc, source, version, written)?;
     end_from(source)?;
     Ok(picture)
 }

@@ -1,6 +1,7 @@
-//! Putting an image, part by part.
+//! Putting an image of the newest version, part by part.
 ghost use Rattle.std.specs.Prelude.{◌≡◌, ◌<◌, ◌^◌, length, OnOk};
 ghost use Rattle.event_bytes.specs.Parts.{byte, word, counted};
+ghost use Rattle.command_table.specs.Versions.{newest_version};
 ghost use Rattle.piece_ring.specs.Flat.{flat};
 ghost use Rattle.desktop_definitions.specs.Looks.{IsLook, AreLooks};
 ghost use Rattle.desk_image.specs.Streams.{Puts};
@@ -124,9 +125,9 @@ fn put_ranked<K: ByteSink>(sink: &mut K, selection: Option<Ranked>) -> Result<()
 
 /// Puts a viewer with what is marked in it.
 pub fn put_viewer<K: ByteSink>(sink: &mut K, picture: ViewerPicture) -> Result<(), Fault>
-    ensures { Puts K.ByteSink result (viewer_bytes picture) sink.old sink.new }
+    ensures { Puts K.ByteSink result (viewer_bytes newest_version picture) sink.old sink.new }
 {
-    put_byte(sink, picture.id)?;
+    put_word(sink, picture.id)?;
     put_word(sink, picture.viewer.menu)?;
     put_word(sink, picture.viewer.main)?;
     put_long(sink, picture.viewer.org)?;
@@ -136,17 +137,20 @@ pub fn put_viewer<K: ByteSink>(sink: &mut K, picture: ViewerPicture) -> Result<(
 
 /// Puts a viewer of a track with how many rows it has.
 pub fn put_entry<K: ByteSink>(sink: &mut K, entry: Stretch) -> Result<(), Fault>
-    ensures { Puts K.ByteSink result (entry_bytes (entry_of entry)) sink.old sink.new }
+    ensures { Puts K.ByteSink result (entry_bytes newest_version (entry_of entry)) sink.old sink.new }
 {
-    sink.put(&[entry.viewer, entry.height])
+    put_word(sink, entry.viewer)?;
+    put_byte(sink, entry.height)
 }
 
 /// Puts the viewer that was closed last, if there is one.
 pub fn put_kept<K: ByteSink>(sink: &mut K, kept: Option<Kept>) -> Result<(), Fault>
-    ensures { Puts K.ByteSink result (optional kept_bytes kept) sink.old sink.new }
+    ensures { Puts K.ByteSink result (optional (kept_bytes newest_version) kept) sink.old sink.new }
 {
-    match kept {
-        None => sink.put(&[0]),
-        Some(kept) => sink.put(&[1, kept.viewer, kept.track.left(), kept.top]),
-    }
+    let Some(kept) = kept else {
+        return put_byte(sink, 0);
+    };
+    put_byte(sink, 1)?;
+    put_word(sink, kept.viewer)?;
+    sink.put(&[kept.track.left(), kept.top])
 }

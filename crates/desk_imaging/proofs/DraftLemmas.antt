@@ -1,11 +1,11 @@
 -- What is read from the viewers of an image one after another, and viewers that are put on one another in a track.
-use Rattle.std.proofs.Common.{◌≡◌, ℕ, suc, zero, ◌+◌, ◌-◌, ◌<◌, ◌≤◌, ◌∙◌, true, false, cond, nat_le, ◌&&◌}
+use Rattle.std.proofs.Common.{◌≡◌, ℕ, suc, zero, ◌+◌, ◌-◌, ◌<◌, ◌≤◌, ◌∙◌, Bool, true, false, cond, nat_le, ◌&&◌}
 use Rattle.std.proofs.Common.{◌==◌, List, [], ◌∷◌, ◌++◌, length, take, drop, get_or, map, sum_by}
 use Rattle.std.proofs.Common.{refl, sym, ap, subst, arith}
-use Rattle.std.proofs.Common.{Option, Some, None, add-one, min, max}
-use Rattle.std.specs.Prelude.{insert}
+use Rattle.std.proofs.Common.{Option, Some, None, add-one, min, max, append_assoc, append-nil}
+use Rattle.std.specs.Prelude.{insert, All}
 use Rattle.std.specs.Option.{option_or, option_to_list}
-use Rattle.std.proofs.lemmas.List.Elements.{filter_map-append}
+use Rattle.std.proofs.lemmas.List.Elements.{All-tail, filter_map-append}
 use Rattle.std.specs.List.{cons_option, filter_map, range_with_len}
 use Rattle.std.proofs.Math.Seq.{drop-cons}
 use Rattle.std.proofs.lemmas.Bool.{le-ltb, lt-leb, eq-eqb}
@@ -13,6 +13,7 @@ use Rattle.std.proofs.lemmas.List.{drop_all, take_more, take-map, map-append, le
 use Rattle.std.proofs.lemmas.List.Sums.{sum_by-cons, sum_by-append, sum_by-take-le, sum_by_more_le}
 use Rattle.std.proofs.lemmas.List.Sums.{position_or_len_is}
 use Rattle.std.proofs.lemmas.List.FromFn.{get_or-map-range_with_len, length-map-range_with_len}
+use Rattle.arrayvec.specs.ArrayVec.{ArrayVec}
 use Rattle.viewer_tracks.specs.declared.display.Track.{Track}
 use Rattle.viewer_tracks.specs.declared.display.Track.TheVariants.{User, System}
 use Rattle.viewer_tracks.specs.declared.display.TheConstants.{ROWS}
@@ -20,10 +21,11 @@ use Rattle.viewer_tracks.specs.Display.{left_of}
 use Rattle.viewer_tracks.specs.Viewers.{Entry, IsTrack, bottom_of, top_of, tops, lowest_reaching, times_in}
 use Rattle.viewer_tracks.specs.Edits.{with_entry, with_height, with_viewer, open_entry, open_top, takes_place, put_into}
 use Rattle.viewer_tracks.specs.Edits.{opened}
-use Rattle.viewer_tracks.specs.Columns.{Columns, stack_of, topmost, with_topmost, with_shown, times_on, times_placed}
+use Rattle.viewer_tracks.specs.Columns.{Columns, IsColumns, times_on, topmost, with_topmost, shown, with_shown, times_placed}
 use Rattle.viewer_tracks.specs.Columns.{IsPlaced, after_open}
+use Rattle.viewer_tracks.proofs.StackLemmas.{times-with_topmost}
 use Rattle.desk_image.specs.declared.picture.Stretch.{Stretch}
-use Rattle.desk_image.specs.Pictures.{entry_of}
+use Rattle.desk_image.specs.Pictures.{entry_of, track_of, stack_of}
 use Rattle.desk_imaging.specs.Images.{first_some}
 
 -- ---- the first that gives something
@@ -68,6 +70,26 @@ times_are v [] = refl
 times_are v (s ∷ ss) = sum_by-cons (λ (s : Stretch). (let n : ℕ = cond (s.viewer == v) 1 0 in n)) s ss
     ∙ ap (λ n. cond (s.viewer == v) 1 0 + n) (times_are v ss)
     ∙ sym (sum_by-cons (λ (e : Entry). (let n : ℕ = cond (e.viewer == v) 1 0 in n)) (entry_of s) (map entry_of ss))
+
+pub times_over : (v : ℕ) (stack : List (ArrayVec Stretch))
+    → sum_by (λ track. times_in v (track_of track)) stack ≡ times_on v (stack_of stack)
+times_over v [] = refl
+times_over v (t ∷ stack) = sum_by-cons (λ (track : ArrayVec Stretch). times_in v (track_of track)) t stack
+    ∙ ap (λ n. times_in v (track_of t) + n) (times_over v stack)
+    ∙ sym (sum_by-cons (times_in v) (track_of t) (stack_of stack))
+
+one_small : (b : Bool) → (let n : ℕ = cond b 1 0 in n) ≤ 1
+one_small true = omega arith
+one_small false = omega arith
+
+-- no more often than there are viewers
+pub times_few : (v : ℕ) (t : List Entry) → times_in v t ≤ length t
+times_few v [] = omega arith
+times_few v (e ∷ t) =
+    let sum = sum_by-cons (λ (x : Entry). (let n : ℕ = cond (x.viewer == v) 1 0 in n)) e t in
+    let one = one_small (e.viewer == v) in
+    let rest = times_few v t in
+    omega (arith, sum, one, rest)
 
 past_the_end : (f : Entry → Entry) (t : List Entry) → with_entry f t (length t) ≡ t
 past_the_end f [] = refl
@@ -154,30 +176,34 @@ module _ (t : List Entry) (v h : ℕ) (some : 0 < h) (fits : heights t + h ≤ R
       (λ k. with_shown (with_shown c System t) System (opened (topmost_with c.system t k) v (heights t + h)))
       ∙ (λ k. record c { system = twice_with c.system t (opened_last t v h some fits k) k })
 
-pub nothing_on : (c : Columns) (k : Track) → stack_of c k ≡ [] ∷ [] → c ≡ with_shown c k []
-nothing_on c User is = λ k. record c { user = (is ∙ sym (ap (λ s. with_topmost s []) is)) k }
-nothing_on c System is = λ k. record c { system = (is ∙ sym (ap (λ s. with_topmost s []) is)) k }
+-- the columns as they are, with what a column shows
+as_topmost : (s : List (List Entry)) → 0 < length s → s ≡ with_topmost s (topmost s)
+as_topmost [] some = absurd (omega (arith, some))
+as_topmost (t ∷ s) some = refl
 
-pub one_on : (v : ℕ) (t : List Entry) → times_on v (t ∷ []) ≡ times_in v t
-one_on v t = sum_by-cons (times_in v) t [] ∙ omega arith
+pub as_shown : (c : Columns) (k : Track) → IsColumns c → c ≡ with_shown c k (shown c k)
+as_shown c User sound = λ k. record c { user = as_topmost c.user sound.user.some k }
+as_shown c System sound = λ k. record c { system = as_topmost c.system sound.system.some k }
 
--- how often a viewer is placed, where a track was all filler
-pub placed_on : (v : ℕ) (c : Columns) (k : Track) (t : List Entry) → stack_of c k ≡ [] ∷ []
-    → times_placed v (with_shown c k t) ≡ times_placed v c + times_in v t
-placed_on v c User t is =
-    let now = ap (λ s. times_on v (with_topmost s t)) is in
-    let before = ap (times_on v) is in
-    omega (arith, now, before, one_on v t, one_on v [])
-placed_on v c System t is =
-    let now = ap (λ s. times_on v (with_topmost s t)) is in
-    let before = ap (times_on v) is in
-    omega (arith, now, before, one_on v t, one_on v [])
+-- how often a viewer is placed, where another track is shown
+placed_on : (v : ℕ) (c : Columns) (k : Track) (t : List Entry) → IsColumns c
+    → times_placed v (with_shown c k t) + times_in v (shown c k) ≡ times_placed v c + times_in v t
+placed_on v c User t sound = let one = times-with_topmost v c.user t sound.user.some in omega (arith, one)
+placed_on v c System t sound = let one = times-with_topmost v c.system t sound.system.some in omega (arith, one)
+
+pub full_to : (t : List Entry) → bottom_of t (length t) ≡ heights (t ++ [])
+full_to t = ap heights (take_whole t ∙ sym (append-nil t))
+
+after_those : (P : Entry → Type 0) (t more : List Entry) → All P (t ++ more) → All P more
+after_those P [] more all = all
+after_those P (e ∷ t) more all = after_those P t more (All-tail P e (t ++ more) all)
 
 -- ---- the loop
 
 module _ (c : Columns) (k : Track) (ss : List Stretch) (i : ℕ) (d : Stretch) (low : i < length ss) where
+  -- what the track has before the i-th
   abbrev pub done : List Entry
-  done = map entry_of (take i ss)
+  done = shown c k ++ map entry_of (take i ss)
 
   inside : i < length (map entry_of ss)
   inside = let same = length-map {B = Entry} ss entry_of in omega (arith, same, low)
@@ -185,43 +211,55 @@ module _ (c : Columns) (k : Track) (ss : List Stretch) (i : ℕ) (d : Stretch) (
   here : get_or (map entry_of ss) i (entry_of d) ≡ entry_of (get_or ss i d)
   here = get_or-map entry_of ss i d (entry_of d) low
 
-  more : map entry_of (take (i + 1) ss) ≡ done ++ entry_of (get_or ss i d) ∷ []
-  more = ap (map entry_of) (take_more ss i d low) ∙ map-append entry_of (take i ss) (get_or ss i d ∷ [])
+  more : shown c k ++ map entry_of (take (i + 1) ss) ≡ done ++ entry_of (get_or ss i d) ∷ []
+  more = ap (λ l. shown c k ++ l)
+      (ap (map entry_of) (take_more ss i d low) ∙ map-append entry_of (take i ss) (get_or ss i d ∷ []))
+      ∙ sym (append_assoc (shown c k) (map entry_of (take i ss)) (entry_of (get_or ss i d) ∷ []))
 
-  part : (f : Entry → ℕ) → sum_by f done + f (entry_of (get_or ss i d)) ≤ sum_by f (map entry_of ss)
+  part : (f : Entry → ℕ) → sum_by f (map entry_of (take i ss)) + f (entry_of (get_or ss i d))
+      ≤ sum_by f (map entry_of ss)
   part f =
       let all = sum_by_more_le f (map entry_of ss) i (entry_of d) inside in
-      let front : sum_by f (take i (map entry_of ss)) ≡ sum_by f done = ap (sum_by f) (take-map entry_of i ss) in
+      let front : sum_by f (take i (map entry_of ss)) ≡ sum_by f (map entry_of (take i ss)) =
+      ap (sum_by f) (take-map entry_of i ss) in
       let last : f (get_or (map entry_of ss) i (entry_of d)) ≡ f (entry_of (get_or ss i d)) = ap f here in
       omega (arith, all, front, last)
 
-  pub height_more : heights (map entry_of (take (i + 1) ss)) ≡ heights done + (get_or ss i d).height
+  pub height_more : heights (shown c k ++ map entry_of (take (i + 1) ss)) ≡ heights done + (get_or ss i d).height
   height_more =
       let whole = ap heights more in
       let sum = sum_by-append (λ (e : Entry). e.height) done (entry_of (get_or ss i d) ∷ []) in
       let one = sum_by-cons (λ (e : Entry). e.height) (entry_of (get_or ss i d)) [] in
       omega (arith, whole, sum, one)
 
-  pub not_there : stack_of c k ≡ [] ∷ []
+  pub not_there : IsColumns c
       → times_placed (get_or ss i d).viewer c + times_in (get_or ss i d).viewer (map entry_of ss) ≤ 1
       → ¬ IsPlaced (get_or ss i d).viewer (with_shown c k done)
-  not_there empty once placed =
+  not_there sound once placed =
       let v = (get_or ss i d).viewer in
-      let all = placed_on v c k done empty in
+      let all = placed_on v c k done sound in
+      let sum = sum_by-append (λ (e : Entry). (let n : ℕ = cond (e.viewer == v) 1 0 in n)) (shown c k)
+      (map entry_of (take i ss)) in
       let some = part (λ e. (let n : ℕ = cond (e.viewer == v) 1 0 in n)) in
       let itself : (v == v) ≡ true = eq-eqb v v refl in
       let one : cond (v == v) 1 0 ≡ 1 = ap (λ b. (let n : ℕ = cond b 1 0 in n)) itself in
-      omega (arith, all, some, one, once, placed)
+      omega (arith, all, sum, some, one, once, placed)
 
-  module _ (track : IsTrack (map entry_of ss)) where
+  module _ (track : IsTrack (shown c k ++ map entry_of ss)) where
     here_some : 0 < (get_or ss i d).height
-    here_some = subst (λ (e : Entry). 0 < e.height) here (track.some i (entry_of d) inside)
+    here_some = subst (λ (e : Entry). 0 < e.height) here
+        (after_those (λ (e : Entry). 0 < e.height) (shown c k) (map entry_of ss) track.some i (entry_of d) inside)
 
     pub rows_fit : heights done + (get_or ss i d).height ≤ ROWS
-    rows_fit = let all = part (λ e. e.height) in let fits = track.fits in omega (arith, all, fits)
+    rows_fit =
+        let all = part (λ e. e.height) in
+        let fits = track.fits in
+        let before = sum_by-append (λ (e : Entry). e.height) (shown c k) (map entry_of (take i ss)) in
+        let whole = sum_by-append (λ (e : Entry). e.height) (shown c k) (map entry_of ss) in
+        omega (arith, all, fits, before, whole)
 
     pub piled : after_open (with_shown c k done) (get_or ss i d).viewer (left_of k)
         (heights done + (get_or ss i d).height)
-        ≡ with_shown c k (map entry_of (take (i + 1) ss))
+        ≡ with_shown c k (shown c k ++ map entry_of (take (i + 1) ss))
     piled = opened_on done (get_or ss i d).viewer (get_or ss i d).height here_some rows_fit c k
         ∙ ap (with_shown c k) (sym more)

@@ -1,6 +1,6 @@
 -- From the viewers that an image says of a desktop back to the desktop's viewers, caret and selections.
 use Rattle.std.proofs.Common.{◌≡◌, ℕ, suc, zero, ◌+◌, ◌<◌, ◌≤◌, ◌∙◌, ◌==◌, true, false, cond}
-use Rattle.std.proofs.Common.{length, List, [], ◌∷◌, map}
+use Rattle.std.proofs.Common.{length, List, [], ◌∷◌, map, min}
 use Rattle.std.proofs.Common.{refl, sym, ap, subst, arith, Option, Some, None}
 use Rattle.std.specs.Prelude.{All, IsSome, option_map, slice_get}
 use Rattle.std.specs.Option.{option_or}
@@ -26,7 +26,7 @@ use Rattle.desk_image.specs.declared.picture.Ranked.{Ranked}
 use Rattle.desk_image.specs.declared.picture.ViewerPicture.{ViewerPicture}
 use Rattle.desk_image.specs.Image.{caret_in, ranked_in, picture_of}
 use Rattle.desk_imaging.specs.Images.{viewers_of, first_some, caret_at, caret_of, with_rank, selected_at, selected_as}
-use Rattle.desk_imaging.specs.Images.{selections_of}
+use Rattle.desk_imaging.specs.Images.{most_ranks, selections_of}
 
 pub viewers_back : (caret : Option Caret) (selections : List Selection) (viewers : List (ℕ × Viewer))
     → viewers_of (map (picture_of caret selections) viewers) ≡ viewers
@@ -312,9 +312,10 @@ module _ (caret : Option Caret) (selections : List Selection) (viewers : List (�
             ∙ ap (λ b. (let o : Option Selection = cond b (Some s) None in o)) (eq-eqb m m refl),
       )))
 
-  pub selections_back : selections_of pictures ≡ selections
+  pub selections_back : length selections ≤ most_ranks → selections_of pictures ≡ selections
   unfolding selections_of
-  selections_back =
+  selections_back low =
       let few = few_selections viewers selections there one in
       let long = length-map {B = ViewerPicture} viewers (picture_of caret selections) in
-      range_back (selected_as pictures) selections 1 (length pictures) place_back (omega (arith, few, long))
+      range_back (selected_as pictures) selections 1 (min (length pictures) most_ranks) place_back
+      (omega (arith, few, long, low))

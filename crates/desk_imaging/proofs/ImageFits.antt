@@ -1,7 +1,7 @@
 -- What holds of the parts of an image that fit.
-use Rattle.std.proofs.Common.{◌≡◌, ℕ, suc, zero, ◌+◌, ◌-◌, ◌<◌, ◌≤◌, ◌∙◌, true, List, [], ◌∷◌, length, sum_by}
-use Rattle.std.proofs.Common.{Option, Some, refl, sym, ap, arith, length-append}
-use Rattle.std.specs.Prelude.{All, IsTrue}
+use Rattle.std.proofs.Common.{◌≡◌, ℕ, suc, zero, ◌+◌, ◌-◌, ◌<◌, ◌≤◌, ◌∙◌, Bool, true, false, List, [], ◌∷◌, length, sum_by}
+use Rattle.std.proofs.Common.{Option, Some, refl, sym, ap, subst, arith, length-append, get_or}
+use Rattle.std.specs.Prelude.{All, IsTrue, reverse, if◌then◌else◌}
 use Rattle.std.specs.List.{AllByRecursion}
 use Rattle.std.specs.List.Sorted.{IsStrictlySortedBy}
 use Rattle.std.specs.Map.{keys_of, values_of}
@@ -11,6 +11,7 @@ use Rattle.std.specs.declared.cmp.Ordering.TheVariants.{Less, Equal, Greater}
 use Rattle.std.proofs.lemmas.Bool.{leb-true}
 use Rattle.std.proofs.lemmas.Bool.Decides.{nat_tests}
 use Rattle.std.proofs.lemmas.Cmp.{nat_cmp_total, lists_total}
+use Rattle.std.proofs.lemmas.List.{length-reverse, reverse-reverse}
 use Rattle.std.proofs.lemmas.List.Elements.{All-nil, All-cons, All-append}
 use Rattle.std.proofs.lemmas.List.Sums.{sum_by-cons}
 use Rattle.event_bytes.specs.Bytes.{is_name}
@@ -21,15 +22,18 @@ use Rattle.piece_ring.specs.Lengths.{length-run}
 use Rattle.piece_ring.specs.Offsets.{AreWithin, run-AreWithin, append-AreWithin}
 use Rattle.piece_ring.specs.Renaming.{renamed}
 use Rattle.piece_ring.specs.Text.{Text}
-use Rattle.viewer_tracks.specs.declared.display.TheConstants.{ROWS}
+use Rattle.viewer_tracks.specs.declared.display.TheConstants.{ROWS, DEPTH}
 use Rattle.viewer_tracks.specs.Viewers.{Entry, IsTrack}
+use Rattle.viewer_tracks.specs.Columns.{IsStack}
 use Rattle.desktop_definitions.specs.Looks.{IsLook, AreLooks}
 use Rattle.desktop_definitions.specs.Tables.{Texts, Files, name_cmp}
 use Rattle.desktop_laws.specs.TableLaws.{kept_lengths}
 use Rattle.desk_image.specs.declared.picture.ViewerPicture.{ViewerPicture}
-use Rattle.desk_image.specs.Image.{InByte, InWord, AreSome}
+use Rattle.desk_image.specs.Image.{InWord, InId, AreSome, has_overlays}
 use Rattle.desk_image.specs.Fitting.{Chain, FitsPiece, FitsText, FitsFile, FitsViewer, FitsEntry, less, total, totals}
-use Rattle.desk_image.specs.Fitting.{after_text, after_file, after_viewer, above, follows}
+use Rattle.desk_image.specs.Fitting.{FitsTrack, FitsLevel, FitsStack, after_text, after_file, after_viewer, above}
+use Rattle.desk_image.specs.Fitting.{overlaid, follows}
+use Rattle.desk_image.proofs.Lists.{all_reversed}
 use Rattle.desk_imaging.specs.Images.{viewers_of}
 
 -- ---- pieces
@@ -183,18 +187,18 @@ files_fit written before room (f ∷ files) chain =
 -- ---- viewers
 
 -- What is known of viewers that fit.
-pub record AreViewersFit (least : ℕ) (pictures : List ViewerPicture) : Type 0 where
+pub record AreViewersFit (version least : ℕ) (pictures : List ViewerPicture) : Type 0 where
   pub above : (low : ℕ) → low < least → AllByRecursion (λ n. nat_cmp low n ≡ Less) (keys_of (viewers_of pictures))
   pub rising : IsStrictlySortedBy nat_cmp (keys_of (viewers_of pictures))
-  pub bytes : All InByte (keys_of (viewers_of pictures))
+  pub ids : All (InId version) (keys_of (viewers_of pictures))
 
-pub viewers_fit : (least : ℕ) (pictures : List ViewerPicture) → Chain FitsViewer after_viewer least pictures
-    → AreViewersFit least pictures
+pub viewers_fit : (version least : ℕ) (pictures : List ViewerPicture)
+    → Chain (FitsViewer version) after_viewer least pictures → AreViewersFit version least pictures
 unfolding IsStrictlySortedBy
-viewers_fit least [] chain = record { above = λ low is. tt; rising = tt; bytes = All-nil InByte }
-viewers_fit least (p ∷ pictures) chain =
+viewers_fit version least [] chain = record { above = λ low is. tt; rising = tt; ids = All-nil (InId version) }
+viewers_fit version least (p ∷ pictures) chain =
     let here = chain.0 in
-    let rest = viewers_fit (p.id + 1) pictures chain.1 in
+    let rest = viewers_fit version (p.id + 1) pictures chain.1 in
     let from : least ≤ p.id = leb-true least p.id here.1.0 in
     record {
       above = λ low is. (
@@ -202,22 +206,73 @@ viewers_fit least (p ∷ pictures) chain =
         rest.above low (omega (arith, is, from)),
       );
       rising = (rest.above p.id (omega arith), rest.rising);
-      bytes = All-cons InByte p.id (keys_of (viewers_of pictures)) here.0 rest.bytes;
+      ids = All-cons (InId version) p.id (keys_of (viewers_of pictures)) here.0 rest.ids;
     }
 
 -- ---- tracks
 
-pub track_fits : (room : ℕ) (track : List Entry) → Chain FitsEntry above room track → room ≤ ROWS → IsTrack track
-track_fits room [] chain low = record { some = All-nil (λ (e : Entry). 0 < e.height); fits = omega arith }
-track_fits room (e ∷ track) chain low = record {
-  some = All-cons (λ (x : Entry). 0 < x.height) e track chain.0.some
-      (track_fits (room - e.height) track chain.1 (omega (arith, low))).some;
-  fits = (let sum = heights_fit room (e ∷ track) chain in omega (arith, sum, low));
-} where
-  heights_fit : (room : ℕ) (track : List Entry) → Chain FitsEntry above room track → sum_by (λ e. e.height) track ≤ room
-  heights_fit room [] chain = omega arith
-  heights_fit room (e ∷ track) chain =
-      let rest = heights_fit (room - e.height) track chain.1 in
-      let short = chain.0.short in
-      let sum = sum_by-cons (λ (x : Entry). x.height) e track in
-      omega (arith, rest, short, sum)
+heights_fit : (version room : ℕ) (track : List Entry) → Chain (FitsEntry version) above room track
+    → sum_by (λ e. e.height) track ≤ room
+heights_fit version room [] chain = omega arith
+heights_fit version room (e ∷ track) chain =
+    let rest = heights_fit version (room - e.height) track chain.1 in
+    let short = chain.0.short in
+    let sum = sum_by-cons (λ (x : Entry). x.height) e track in
+    omega (arith, rest, short, sum)
+
+some_fit : (version room : ℕ) (track : List Entry) → Chain (FitsEntry version) above room track
+    → All (λ e. 0 < e.height) track
+some_fit version room [] chain = All-nil (λ (e : Entry). 0 < e.height)
+some_fit version room (e ∷ track) chain = All-cons (λ (x : Entry). 0 < x.height) e track chain.0.some
+    (some_fit version (room - e.height) track chain.1)
+
+track_fits : (version : ℕ) (track : List Entry) → FitsTrack version track → IsTrack track
+track_fits version track chain = record {
+  some = some_fit version ROWS track chain;
+  fits = heights_fit version ROWS track chain;
+}
+
+-- ---- columns, from the lowest track up
+
+tracks_fit : (version least : ℕ) (stack : List (List Entry)) → Chain (FitsLevel version) overlaid least stack
+    → All IsTrack stack
+tracks_fit version least [] chain = All-nil IsTrack
+tracks_fit version least (t ∷ stack) chain =
+    All-cons IsTrack t stack (track_fits version t chain.0.1) (tracks_fit version 1 stack chain.1)
+
+overlays_fit : (version : ℕ) (stack : List (List Entry)) → Chain (FitsLevel version) overlaid 1 stack → (i : ℕ)
+    → i < length stack → 0 < length (get_or stack i [])
+overlays_fit version [] chain i low = absurd (omega (arith, low))
+overlays_fit version (t ∷ stack) chain zero low = leb-true 1 (length t) chain.0.0
+overlays_fit version (t ∷ stack) chain (suc i) low = overlays_fit version stack chain.1 i (omega (arith, low))
+
+above_lowest : (version : ℕ) (stack : List (List Entry)) → Chain (FitsLevel version) overlaid 0 stack → (i : ℕ)
+    → 0 < i → i < length stack → 0 < length (get_or stack i [])
+above_lowest version [] chain i some low = absurd (omega (arith, low))
+above_lowest version (t ∷ stack) chain zero some low = absurd (omega (arith, some))
+above_lowest version (t ∷ stack) chain (suc i) some low =
+    overlays_fit version stack chain.1 i (omega (arith, low))
+
+few_deep : (overlays : Bool) → (if overlays then DEPTH else 1) ≤ DEPTH
+few_deep true = omega arith
+few_deep false = omega arith
+
+pub few_levels : (version : ℕ) (stack : List (List Entry)) → FitsStack version stack → length stack ≤ DEPTH
+few_levels version stack fits =
+    let most = few_deep (has_overlays version) in
+    let few = fits.1.0 in
+    omega (arith, most, few)
+
+pub stack_fits : (version : ℕ) (stack : List (List Entry)) → FitsStack version stack → IsStack (reverse stack)
+stack_fits version stack fits =
+    let same = length-reverse stack in
+    let few = few_levels version stack fits in
+    let one = fits.0 in
+    record {
+      some = omega (arith, one, same);
+      few = omega (arith, few, same);
+      tracks = all_reversed IsTrack stack [] (tracks_fit version 0 stack fits.1.1);
+      overlays = λ level high within.
+          subst (λ (tracks : List (List Entry)). 0 < length (get_or tracks (level - 1) [])) (sym (reverse-reverse stack))
+          (above_lowest version stack fits.1.1 (level - 1) (omega (arith, high)) (omega (arith, high, within, same)));
+    }

@@ -1,19 +1,19 @@
 -- The parts of a desktop that holds together make it.
-use Rattle.std.proofs.Common.{◌≡◌, ℕ, ◌+◌, ◌<◌, ◌∙◌, ◌==◌, ◌&&◌, ◌||◌, not, Bool, true, false, cond, length}
+use Rattle.std.proofs.Common.{◌≡◌, ℕ, ◌+◌, ◌<◌, ◌≤◌, ◌∙◌, ◌==◌, ◌&&◌, ◌||◌, not, Bool, true, false, cond, length}
 use Rattle.std.proofs.Common.{List, [], ◌∷◌, map, refl, sym, ap, subst, arith, Option, Some, None, get_or}
-use Rattle.std.specs.Prelude.{All, IsTrue, IsSome, is_some, nat_le, nat_lt, option_map, if◌then◌else◌}
+use Rattle.std.specs.Prelude.{All, IsTrue, IsSome, is_some, nat_le, option_map, reverse, if◌then◌else◌}
 use Rattle.std.specs.Option.{ForSome}
 use Rattle.std.specs.List.{list_all}
 use Rattle.std.specs.List.Sorted.{IsStrictlySortedBy}
 use Rattle.std.specs.Map.{keys_of}
 use Rattle.std.specs.Ordering.{nat_cmp}
 use Rattle.std.proofs.lemmas.Bool.{eq-eqb, eqb-true, le-leb, lt-ltb, ne_eqb}
-use Rattle.std.proofs.lemmas.List.Sums.{list_all-from_AllPass, sum_by-cons, get_or-le-sum_by}
+use Rattle.std.proofs.lemmas.List.Sums.{list_all-from_AllPass}
 use Rattle.std.proofs.lemmas.Map.Made.{keys_of-map_values}
 use Rattle.piece_ring.specs.declared.piece.Piece.{Piece}
-use Rattle.viewer_tracks.specs.declared.display.Track.TheVariants.{User, System}
-use Rattle.viewer_tracks.specs.Viewers.{Entry, times_in}
-use Rattle.viewer_tracks.specs.Columns.{Columns, IsPlaced, times_on, times_placed, times_meant, topmost, shown}
+use Rattle.viewer_tracks.specs.Viewers.{times_in}
+use Rattle.viewer_tracks.specs.Columns.{Columns, IsOnTop, times_placed, times_meant, topmost}
+use Rattle.viewer_tracks.proofs.StackLemmas.{topmost_times}
 use Rattle.desktop_definitions.specs.declared.viewer.Viewer.{Viewer}
 use Rattle.desktop_definitions.specs.declared.viewer.Caret.{Caret}
 use Rattle.desktop_definitions.specs.declared.viewer.Selection.{Selection}
@@ -26,15 +26,16 @@ use Rattle.desktop_definitions.specs.Seen.{seen, seen_text, seen_table}
 use Rattle.desktop_definitions.specs.Sound.{IsViewer, AreViewers, ArePlaces, IsCaret, IsSelection, AreMarks}
 use Rattle.desktop_definitions.specs.Sound.{IsShaped, IsSound}
 use Rattle.desktop_laws.specs.TextLaws.{text_there, long_seen}
-use Rattle.desktop_laws.specs.ViewLaws.{placed_there, viewer_at_place}
+use Rattle.desktop_laws.specs.ViewLaws.{placed_there, viewer_at_place, few_selections}
 use Rattle.desk_image.specs.declared.picture.Ranked.{Ranked}
 use Rattle.desk_image.specs.Image.{Image, image_of, picture_of, caret_in, ranked_in}
 use Rattle.desk_imaging.specs.Images.{is_desktop, IsDesktopOf, times_tracked, viewers_of, caret_of, selections_of}
 use Rattle.desk_imaging.specs.Images.{leaves_menu, is_framed, is_in_use, are_texts, has_id, is_kept_known, stands_once}
 use Rattle.desk_imaging.specs.Images.{are_placed, main_size, is_caret, is_selection, is_pictured}
-use Rattle.desk_imaging.specs.Images.{same_position, same_ranked}
+use Rattle.desk_imaging.specs.Images.{Levels, highest, is_shown, most_ranks, same_position, same_ranked}
 use Rattle.desk_imaging.proofs.ImageBack.{selections_back, caret_back, viewers_back}
 use Rattle.desk_imaging.proofs.ImageMade.{id_is}
+use Rattle.desk_imaging.proofs.Stacks.{times_reversed, highest_reversed, all_known}
 
 both : (a b : Bool) → a ≡ true → b ≡ true → (a && b) ≡ true
 both a b is also = (λ k. is k && also k)
@@ -78,34 +79,22 @@ module _ (texts : Texts (List Piece)) (viewers : List (ℕ × Viewer)) where
 
 -- ---- places
 
-one_track : (v : ℕ) (s : List (List Entry)) → length s ≡ 1 → times_on v s ≡ times_in v (topmost s)
-one_track v [] one = absurd (omega (arith, one))
-one_track v (t ∷ []) one = sum_by-cons (times_in v) t [] ∙ omega arith
-one_track v (t ∷ u ∷ s) one = absurd (omega (arith, one))
-
-named_once : (t : List Entry) (i : ℕ) (d : Entry) → i < length t → 0 < times_in (get_or t i d).viewer t
-named_once t i d low =
-    let e = get_or t i d in
-    let sum = get_or-le-sum_by (λ (x : Entry). (let n : ℕ = cond (x.viewer == e.viewer) 1 0 in n)) t i d low in
-    let one = ap (λ b. (let n : ℕ = cond b 1 0 in n)) (eq-eqb e.viewer e.viewer refl) in
-    omega (arith, sum, one)
-
 there_if : (b : Bool) (n : ℕ) → n ≡ (if b then 1 else 0) → 0 < n → b ≡ true
 there_if true n is some = refl
 there_if false n is some = absurd (omega (arith, is, some))
 
 module _ (viewers : List (ℕ × Viewer)) (columns : Columns) (kept : Option Kept) (are : ArePlaces viewers columns kept)
   where
-    abbrev user : List Entry
-    user = shown columns User
+    abbrev user : Levels
+    user = reverse columns.user
 
-    abbrev system : List Entry
-    system = shown columns System
+    abbrev system : Levels
+    system = reverse columns.system
 
     placed_is : (v : ℕ) → times_placed v columns ≡ times_tracked user system v
     placed_is v =
-        let in_user = one_track v columns.user are.columns_hold.one_user in
-        let in_system = one_track v columns.system are.columns_hold.one_system in
+        let in_user = times_reversed v columns.user in
+        let in_system = times_reversed v columns.system in
         omega (arith, in_user, in_system)
 
     abbrev times : ℕ → ℕ
@@ -134,16 +123,19 @@ module _ (viewers : List (ℕ × Viewer)) (columns : Columns) (kept : Option Kep
         both _ _ (list_all-from_AllPass (stands_once user system kept) viewers
         (λ i d low. eq-eqb (times (get_or viewers i d).0) 1
         (once (get_or viewers i d).0 (get_or viewers i d).1 (viewer_at_place viewers i d ids low))))
-        (both _ _ (list_all-from_AllPass (λ e. has_id viewers e.viewer) user
-        (λ i d low. known (get_or user i d).viewer
-        (let some = named_once user i d low in omega (arith, some))))
-        (both _ _ (list_all-from_AllPass (λ e. has_id viewers e.viewer) system
-        (λ i d low. known (get_or system i d).viewer
-        (let some = named_once system i d low in omega (arith, some))))
+        (both _ _ (all_known viewers columns.user
+        (λ v some. known v (let same = placed_is v in omega (arith, some, same))))
+        (both _ _ (all_known viewers columns.system
+        (λ v some. known v (let same = placed_is v in omega (arith, some, same))))
         (kept_known kept refl)))
 
-    tracked : (v : ℕ) → IsPlaced v columns → nat_lt 0 (times_tracked user system v) ≡ true
-    tracked v placed = let same = placed_is v in lt-ltb 0 (times_tracked user system v) (omega (arith, placed, same))
+    top_shown : (v : ℕ) → IsOnTop v columns → is_shown user system v ≡ true
+    top_shown v on_top =
+        let in_user : times_in v (highest user) ≡ times_in v (topmost columns.user) =
+        ap (times_in v) (highest_reversed columns.user) in
+        let in_system : times_in v (highest system) ≡ times_in v (topmost columns.system) =
+        ap (times_in v) (highest_reversed columns.system) in
+        lt-ltb 0 (times_in v (highest user) + times_in v (highest system)) (omega (arith, on_top, in_user, in_system))
 
     -- ---- marks
 
@@ -157,7 +149,7 @@ module _ (viewers : List (ℕ × Viewer)) (columns : Columns) (kept : Option Kep
           let is = stands c refl in
           let same = long_seen [] texts (viewer_or_none viewers c.viewer).main in
           let low = is.within in
-          both _ _ (tracked c.viewer is.placed)
+          both _ _ (top_shown c.viewer is.placed)
           (le-leb c.position (main_size texts viewers c.viewer) (omega (arith, low, same)))
 
       selection_passes : (s : Selection) → IsSelection columns (main_length (seen_table [] texts) viewers) s
@@ -166,7 +158,7 @@ module _ (viewers : List (ℕ × Viewer)) (columns : Columns) (kept : Option Kep
       selection_passes s is =
           let same = long_seen [] texts (viewer_or_none viewers s.viewer).main in
           let low = is.within in
-          both _ _ (tracked s.viewer is.placed)
+          both _ _ (top_shown s.viewer is.placed)
           (both _ _ (lt-ltb s.beg s.end is.some)
           (le-leb s.end (main_size texts viewers s.viewer) (omega (arith, low, same))))
 
@@ -230,8 +222,17 @@ module _ (d : KeptDesktop) (sound : IsSound (seen [] d)) where
   unfolding seen
   low = le-leb d.written most_written sound.written_within
 
-  stands_there : (v : ℕ) → IsPlaced v d.columns → IsSome (viewer_in d.viewers v)
-  stands_there v placed = placed_there d.viewers d.columns d.kept v places_hold placed
+  stands_there : (v : ℕ) → IsOnTop v d.columns → IsSome (viewer_in d.viewers v)
+  stands_there v on_top =
+      let in_user = topmost_times v d.columns.user in
+      let in_system = topmost_times v d.columns.system in
+      placed_there d.viewers d.columns d.kept v places_hold (omega (arith, on_top, in_user, in_system))
+
+  few_ranks : length d.selections ≤ most_ranks
+  few_ranks =
+      let few = few_selections d.columns (main_length (seen_table [] d.texts) d.viewers) d.caret d.selections
+      places_hold.columns_hold marks_hold in
+      omega (arith, few)
 
   all_pass : is_desktop d.written (image_of d) ≡ true
   unfolding image_of
@@ -242,11 +243,11 @@ module _ (d : KeptDesktop) (sound : IsSound (seen [] d)) where
       (λ c is. stands_there c.viewer (marks_hold.caret_stands c is).placed))
       (selections_back d.caret d.selections d.viewers
       (λ i s low. stands_there (get_or d.selections i s).viewer (marks_hold.all_stand i s low).placed)
-      marks_hold.one_each)
+      marks_hold.one_each few_ranks)
       low (places_pass d.viewers d.columns d.kept places_hold viewers_hold.ids)
       (texts_pass d.texts d.viewers viewers_hold used)
       (caret_passes d.viewers d.columns d.kept places_hold d.texts d.caret marks_hold.caret_stands)
-      (list_all-from_AllPass (is_selection d.texts d.viewers (shown d.columns User) (shown d.columns System))
+      (list_all-from_AllPass (is_selection d.texts d.viewers (reverse d.columns.user) (reverse d.columns.system))
       d.selections
       (λ i s low. selection_passes d.viewers d.columns d.kept places_hold d.texts (get_or d.selections i s)
       (marks_hold.all_stand i s low)))

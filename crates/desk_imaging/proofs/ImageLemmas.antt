@@ -1,14 +1,18 @@
 -- Going over the parts of a desktop that stand in its image.
-use Rattle.std.proofs.Common.{◌≡◌, ℕ, ◌+◌, ◌<◌, ◌≤◌, ◌^◌, List, [], ◌∷◌, length, drop, Some, ap, ◌∙◌, add-one, arith}
+use Rattle.std.proofs.Common.{◌≡◌, ℕ, ◌+◌, ◌-◌, ◌<◌, ◌≤◌, ◌^◌, List, [], ◌∷◌, length, drop, Some, ap, sym, ◌∙◌}
+use Rattle.std.proofs.Common.{add-one, arith}
 use Rattle.std.proofs.Common.{slice_index_or, ◌++◌, map, refl}
-use Rattle.std.proofs.lemmas.List.{append_assoc}
+use Rattle.std.proofs.lemmas.List.{append_assoc, length-reverse}
 use Rattle.event_bytes.specs.Parts.{byte, word, counted}
+use Rattle.viewer_tracks.specs.declared.display.Track.{Track}
 use Rattle.viewer_tracks.specs.declared.display.Track.TheVariants.{User, System}
-use Rattle.viewer_tracks.specs.Columns.{shown}
-use Rattle.std.specs.Prelude.{slice_get, All}
+use Rattle.viewer_tracks.specs.Viewers.{Entry}
+use Rattle.viewer_tracks.specs.Columns.{stack_of, track_on}
+use Rattle.std.specs.Prelude.{slice_get, All, reverse}
 use Rattle.std.specs.Map.{values_of}
 use Rattle.std.proofs.Math.Seq.{drop-cons}
 use Rattle.std.proofs.lemmas.Option.{slice_get_within, get_or_from_slice_get}
+use Rattle.desktop_definitions.specs.Limits.{newest_version}
 use Rattle.desktop_definitions.specs.Looks.{IsLook, AreLooks}
 use Rattle.desktop_definitions.specs.Desktop.{KeptDesktop}
 use Rattle.desktop_definitions.specs.Seen.{seen, seen_text, seen_table}
@@ -18,7 +22,7 @@ use Rattle.desktop_laws.specs.OpeningDone.{kept_viewers}
 use Rattle.desktop_laws.specs.TableLaws.{length_seen}
 use Rattle.desk_image.specs.declared.limits.TheConstants.{IMAGE_BYTES}
 use Rattle.desk_image.specs.Image.{look_bytes, cell_bytes, optional, listed, text_bytes, file_bytes, pieces_bytes}
-use Rattle.desk_image.specs.Image.{viewer_bytes, entry_bytes, kept_bytes, picture_of, image_of, image_bytes}
+use Rattle.desk_image.specs.Image.{viewers_bytes, stack_bytes, kept_bytes, picture_of, image_of, image_bytes, deepest}
 use Rattle.desk_image.specs.Image.{IsSpellable}
 use Rattle.desk_image.specs.Laws.{RoomLaw}
 use Rattle.desk_imaging.specs.Images.{settings_long, tables_long, display_long}
@@ -34,6 +38,15 @@ pub from_there : {X : Type 0} (xs : List X) (i : ℕ) (x : X) → slice_get xs i
 from_there {X} xs i x is =
     from_here xs i x (slice_get_within xs i x is)
     ∙ ap (λ (y : X). y ∷ drop (i + 1) xs) (get_or_from_slice_get xs i x x is)
+
+-- the track of a level, from the lowest up
+pub level_from : (s : List (List Entry)) (below : ℕ) → below < length s
+    → drop below (reverse s) ≡ track_on s (below + 1) ∷ drop (below + 1) (reverse s)
+level_from s below low =
+    let same = length-reverse s in
+    let place : below + 1 - 1 ≡ below = omega arith in
+    from_here (reverse s) below [] (omega (arith, same, low))
+    ∙ ap (λ (n : ℕ). slice_index_or (reverse s) n [] ∷ drop (below + 1) (reverse s)) (sym place)
 
 -- ---- what of a desktop's parts their writers ask for
 
@@ -65,8 +78,14 @@ module _ (d : KeptDesktop) (whole : IsKeptWhole d) where
   unfolding seen
   short_pattern = let short : length d.pattern ≤ 31 = (whole.sound []).shaped.pattern in omega (arith, short)
 
-  pub some_viewers : length d.viewers ≤ 255
+  pub some_viewers : length d.viewers < 2 ^ 16
   some_viewers = let few = kept_viewers d whole in omega (arith, few)
+
+  -- no column has more tracks than an image can say
+  pub few_levels : (k : Track) → length (stack_of d.columns k) ≤ deepest newest_version
+  unfolding seen
+  few_levels User = (whole.sound []).shaped.places.columns_hold.user.few
+  few_levels System = (whole.sound []).shaped.places.columns_hold.system.few
 
   pub some_texts : length d.texts < 2 ^ 16
   unfolding seen
@@ -93,9 +112,10 @@ tables_bytes d = listed word text_bytes d.texts ++ (listed word file_bytes d.fil
     ++ (pieces_bytes d.copied ++ pieces_bytes d.deleted))
 
 abbrev pub display_bytes : KeptDesktop → List ℕ
-display_bytes d = listed byte viewer_bytes (map (picture_of d.caret d.selections) d.viewers)
-    ++ (listed byte entry_bytes (shown d.columns User)
-    ++ (listed byte entry_bytes (shown d.columns System) ++ optional kept_bytes d.kept))
+display_bytes d = viewers_bytes newest_version (map (picture_of d.caret d.selections) d.viewers)
+    ++ (stack_bytes newest_version (reverse (stack_of d.columns User))
+    ++ (stack_bytes newest_version (reverse (stack_of d.columns System))
+    ++ optional (kept_bytes newest_version) d.kept))
 
 grouped : (a b c d e f g h k l m : List ℕ)
     → (a ++ (b ++ c)) ++ ((d ++ (e ++ (f ++ g))) ++ (h ++ (k ++ (l ++ m))))
@@ -103,24 +123,25 @@ grouped : (a b c d e f g h k l m : List ℕ)
 grouped a b c d e f g h k l m = simp append_assoc
 
 pub image_in_three : (d : KeptDesktop)
-    → settings_bytes d ++ (tables_bytes d ++ display_bytes d) ≡ image_bytes (image_of d)
+    → settings_bytes d ++ (tables_bytes d ++ display_bytes d) ≡ image_bytes newest_version (image_of d)
 unfolding image_bytes image_of
 image_in_three d =
     grouped (look_bytes d.look) (counted byte d.pattern) (optional cell_bytes d.marker)
     (listed word text_bytes d.texts) (listed word file_bytes d.files) (pieces_bytes d.copied) (pieces_bytes d.deleted)
-    (listed byte viewer_bytes (map (picture_of d.caret d.selections) d.viewers))
-    (listed byte entry_bytes (shown d.columns User)) (listed byte entry_bytes (shown d.columns System))
-    (optional kept_bytes d.kept)
+    (viewers_bytes newest_version (map (picture_of d.caret d.selections) d.viewers))
+    (stack_bytes newest_version (reverse (stack_of d.columns User)))
+    (stack_bytes newest_version (reverse (stack_of d.columns System)))
+    (optional (kept_bytes newest_version) d.kept)
 
 -- how long it is, as its parts are counted
 pub image_long : (d : KeptDesktop)
-    → length (image_bytes (image_of d)) ≡ settings_long d + (tables_long d + display_long d)
+    → length (image_bytes newest_version (image_of d)) ≡ settings_long d + (tables_long d + display_long d)
 unfolding image_of
-image_long d = let long = long_image (image_of d) in omega (arith, long)
+image_long d = let long = long_image newest_version (image_of d) in omega (arith, long)
 
-pub has_room : (d : KeptDesktop) → IsKeptWhole d → IsSpellable d → RoomLaw
-    → length (image_bytes (image_of d)) ≤ IMAGE_BYTES
+pub has_room : (d : KeptDesktop) → IsKeptWhole d → IsSpellable newest_version d → RoomLaw
+    → length (image_bytes newest_version (image_of d)) ≤ IMAGE_BYTES
 has_room d whole parts room =
-    let low = room d.written (image_bytes (image_of d)) d
+    let low = room newest_version d.written (image_bytes newest_version (image_of d)) d
     (record { count = refl; whole = whole; parts = parts; exact = refl }) in
     omega (arith, low)

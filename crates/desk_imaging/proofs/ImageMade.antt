@@ -1,8 +1,8 @@
 -- The desktop that is drafted of parts that fit and make one holds together, and has these parts.
-use Rattle.std.proofs.Common.{◌≡◌, ℕ, ◌+◌, ◌-◌, ◌<◌, ◌≤◌, ◌^◌, ◌∙◌, ◌==◌, ◌||◌, not, Bool, true, false, cond, length}
+use Rattle.std.proofs.Common.{◌≡◌, ℕ, ◌+◌, ◌-◌, ◌<◌, ◌≤◌, ◌∙◌, ◌==◌, ◌||◌, not, Bool, true, false, cond, length}
 use Rattle.std.proofs.Common.{List, [], ◌∷◌, refl, sym, ap, subst, arith, Option, Some, None}
 use Rattle.std.proofs.lemmas.List.Elements.{All-nil, All-cons, All-tail}
-use Rattle.std.specs.Prelude.{All, slice_index, IsTrue, is_some, IfSome, nat_le, nat_lt, option_map, if◌then◌else◌}
+use Rattle.std.specs.Prelude.{All, slice_index, IsTrue, is_some, IfSome, nat_le, option_map, reverse, if◌then◌else◌}
 use Rattle.std.specs.Option.{ForSome}
 use Rattle.std.specs.List.{list_all}
 use Rattle.std.specs.List.Sorted.{IsStrictlySortedBy}
@@ -10,15 +10,15 @@ use Rattle.std.specs.Map.{lookup, keys_of, values_of}
 use Rattle.std.specs.Ordering.{nat_cmp}
 use Rattle.std.specs.BTreeMap.{is_at}
 use Rattle.std.proofs.lemmas.Bool.{and_parts, eqb-true, eqb-false, eq-eqb, leb-true, ltb-true, ne_eqb}
-use Rattle.std.proofs.lemmas.List.Sums.{AllPass-from_list_all, sum_by-cons}
+use Rattle.std.proofs.lemmas.List.{length-reverse, reverse-reverse}
+use Rattle.std.proofs.lemmas.List.Sums.{AllPass-from_list_all}
 use Rattle.std.proofs.lemmas.Map.Made.{keys_of-map_values}
 use Rattle.piece_ring.specs.declared.piece.Piece.{Piece}
 use Rattle.piece_ring.specs.Flat.{flat}
 use Rattle.piece_ring.specs.Text.{Text}
-use Rattle.viewer_tracks.specs.declared.display.TheConstants.{ROWS, COLUMNS}
-use Rattle.viewer_tracks.specs.Viewers.{Entry, IsTrack, times_in}
-use Rattle.viewer_tracks.specs.Columns.{Columns, times_meant, times_placed, IsPlaced}
-use Rattle.viewer_tracks.proofs.ColumnLemmas.{of_tracks}
+use Rattle.viewer_tracks.specs.declared.display.TheConstants.{ROWS, COLUMNS, DEPTH}
+use Rattle.viewer_tracks.specs.Viewers.{times_in}
+use Rattle.viewer_tracks.specs.Columns.{Columns, IsStack, IsOnTop, times_meant, times_placed}
 use Rattle.desktop_definitions.specs.declared.viewer.Viewer.{Viewer}
 use Rattle.desktop_definitions.specs.declared.viewer.Caret.{Caret}
 use Rattle.desktop_definitions.specs.declared.viewer.Selection.{Selection}
@@ -28,7 +28,7 @@ use Rattle.event_bytes.specs.Bytes.{is_name}
 use Rattle.desktop_definitions.specs.Tables.{Texts, numbered, name_cmp}
 use Rattle.desktop_definitions.specs.Desktop.{held}
 use Rattle.desktop_definitions.specs.Viewers.{viewer_in, viewer_or_none, main_length}
-use Rattle.desktop_definitions.specs.Opening.{is_shown}
+use Rattle.desktop_definitions.specs.Opening.{is_shown as is_text_shown}
 use Rattle.desktop_definitions.specs.Seen.{seen, seen_text, seen_table}
 use Rattle.desktop_definitions.specs.Sound.{IsViewer, AreViewers, ArePlaces, IsKeptPlace, IsCaret, IsSelection}
 use Rattle.desktop_definitions.specs.Sound.{AreMarks, AreFiles, HasLooks, IsShaped, IsSound, IsWithin}
@@ -37,13 +37,14 @@ use Rattle.desktop_laws.specs.TableLaws.{length_seen, length_seen_text, lengths_
 use Rattle.desktop_laws.specs.TextLaws.{there_seen, long_seen}
 use Rattle.desktop_laws.specs.PlaceLaws.{at_same, at_is}
 use Rattle.desk_image.specs.Image.{Image, image_of, IsSpellable}
-use Rattle.desk_image.specs.Fitting.{FitsImage, FitsKept, FitsCell, totals, total}
-use Rattle.desk_imaging.specs.Images.{is_desktop, IsDesktopOf, drafted, times_tracked}
+use Rattle.desk_image.specs.Fitting.{FitsImage, FitsStack, FitsKept, FitsCell, totals, total}
+use Rattle.desk_imaging.specs.Images.{is_desktop, IsDesktopOf, drafted, Levels, times_tracked, are_known, is_shown}
 use Rattle.desk_imaging.specs.Images.{viewers_of, caret_of, selections_of}
 use Rattle.desk_imaging.specs.Images.{leaves_menu, is_framed, is_in_use, are_texts, has_id, is_kept_known, stands_once}
-use Rattle.desk_imaging.specs.Images.{are_placed, main_size, is_caret, is_selection, is_pictured}
-use Rattle.desk_imaging.proofs.DraftLemmas.{one_on}
-use Rattle.desk_imaging.proofs.ImageFits.{track_fits, texts_fit, files_fit, viewers_fit, pieces_fit, total_fits, AreFit}
+use Rattle.desk_imaging.specs.Images.{are_placed, highest, main_size, is_caret, is_selection, is_pictured}
+use Rattle.desk_imaging.proofs.Stacks.{times_reversed, not_in_tracks}
+use Rattle.desk_imaging.proofs.ImageFits.{stack_fits, few_levels}
+use Rattle.desk_imaging.proofs.ImageFits.{texts_fit, files_fit, viewers_fit, pieces_fit, total_fits, AreFit}
 use Rattle.desk_imaging.proofs.ImageFits.{AreTextsFit, AreFilesFit, AreViewersFit, length_flat, kept_totals, seen_looks}
 use Rattle.desk_imaging.proofs.ImageMarks.{one_in_each, pictures_are}
 
@@ -80,18 +81,26 @@ for_some P Q (Some y) step holds = λ x is. subst Q (cc is) (step y holds)
 
 -- ---- the parts of an image that fit
 
-module _ (written : ℕ) (i : Image) (fits : FitsImage written i) where
-  pub few_pictures : length i.viewers < 2 ^ 8
+module _ (version written : ℕ) (i : Image) (fits : FitsImage version written i) where
+  user_fits : FitsStack version i.user
   unfolding FitsImage
-  few_pictures = fits.1.1.1.1.1.1.1.0.0
+  user_fits = fits.1.1.1.1.1.1.1.1.0
 
-  pub user_track : IsTrack i.user
+  system_fits : FitsStack version i.system
   unfolding FitsImage
-  user_track = track_fits ROWS i.user fits.1.1.1.1.1.1.1.1.0 (omega arith)
+  system_fits = fits.1.1.1.1.1.1.1.1.1.0
 
-  pub system_track : IsTrack i.system
-  unfolding FitsImage
-  system_track = track_fits ROWS i.system fits.1.1.1.1.1.1.1.1.1.0 (omega arith)
+  pub user_few : length i.user ≤ DEPTH
+  user_few = few_levels version i.user user_fits
+
+  pub system_few : length i.system ≤ DEPTH
+  system_few = few_levels version i.system system_fits
+
+  pub user_stack : IsStack (reverse i.user)
+  user_stack = stack_fits version i.user user_fits
+
+  pub system_stack : IsStack (reverse i.system)
+  system_stack = stack_fits version i.system system_fits
 
   texts_are : AreTextsFit written 0 most_held i.texts
   unfolding FitsImage
@@ -110,9 +119,9 @@ module _ (written : ℕ) (i : Image) (fits : FitsImage written i) where
   deleted_is = pieces_fit written (most_held - totals i.texts - totals i.files - total i.copied) i.deleted
       fits.1.1.1.1.1.1.0.1
 
-  viewers_are : AreViewersFit 0 i.viewers
+  viewers_are : AreViewersFit version 0 i.viewers
   unfolding FitsImage
-  viewers_are = viewers_fit 0 i.viewers fits.1.1.1.1.1.1.1.0.1
+  viewers_are = viewers_fit version 0 i.viewers fits.1.1.1.1.1.1.1.0.1.1
 
   all_held : totals i.texts + totals i.files + total i.copied + total i.deleted ≤ most_held
   unfolding FitsImage
@@ -124,14 +133,16 @@ module _ (written : ℕ) (i : Image) (fits : FitsImage written i) where
       fits.1.1.1.1.1.1.0.1 in
       omega (arith, texts, files, copied, deleted)
 
-  pub spellable : IsSpellable (drafted written i)
+  pub spellable : IsSpellable version (drafted written i)
   spellable = record {
     texts = λ k d low. (texts_are.each k d low).some;
     files = λ k d low. (files_are.each k d low).some;
     copied = copied_is.some;
     deleted = deleted_is.some;
     numbers = texts_are.words;
-    ids = viewers_are.bytes;
+    ids = viewers_are.ids;
+    user = (let same = length-reverse i.user in let few = user_fits.1.0 in omega (arith, same, few));
+    system = (let same = length-reverse i.system in let few = system_fits.1.0 in omega (arith, same, few));
   }
 
   drafted_within : IsWithin written (drafted written i)
@@ -264,13 +275,13 @@ module _ (characters : List ℕ) (texts : Texts (List Piece)) (viewers : List (�
 -- ---- places
 
 -- What are_placed tests.
-record AreStanding (user system : List Entry) (kept : Option Kept) (viewers : List (ℕ × Viewer)) : Type 0 where
+record AreStanding (user system : Levels) (kept : Option Kept) (viewers : List (ℕ × Viewer)) : Type 0 where
   once : list_all (stands_once user system kept) viewers ≡ true
-  of_user : list_all (λ e. has_id viewers e.viewer) user ≡ true
-  of_system : list_all (λ e. has_id viewers e.viewer) system ≡ true
+  of_user : are_known viewers user ≡ true
+  of_system : are_known viewers system ≡ true
   of_kept : is_kept_known viewers kept ≡ true
 
-standing : (user system : List Entry) (kept : Option Kept) (viewers : List (ℕ × Viewer))
+standing : (user system : Levels) (kept : Option Kept) (viewers : List (ℕ × Viewer))
     → are_placed user system kept viewers ≡ true → AreStanding user system kept viewers
 unfolding are_placed
 standing user system kept viewers is =
@@ -278,21 +289,6 @@ standing user system kept viewers is =
     let b = and_parts _ _ a.1 in
     let c = and_parts _ _ b.1 in
     record { once = a.0; of_user = b.0; of_system = c.0; of_kept = c.1 }
-
--- what is no viewer stands in no track of viewers alone
-not_in_track : (viewers : List (ℕ × Viewer)) (v : ℕ) (track : List Entry) → has_id viewers v ≡ false
-    → list_all (λ e. has_id viewers e.viewer) track ≡ true → times_in v track ≡ 0
-not_in_track viewers v [] none all = refl
-not_in_track viewers v (e ∷ track) none all =
-    let parts = and_parts (has_id viewers e.viewer) (list_all (λ x. has_id viewers x.viewer) track) all in
-    let rest = not_in_track viewers v track none parts.1 in
-    let sum = sum_by-cons (λ (x : Entry). (let n : ℕ = cond (x.viewer == v) 1 0 in n)) e track in
-    let other : ¬ (e.viewer ≡ v) =
-    λ same. (let there : has_id viewers v ≡ true = ap (has_id viewers) (sym same) ∙ parts.0 in
-    absurd (cc (there, none)))
-    in
-    let no = ap (λ b. (let n : ℕ = cond b 1 0 in n)) (ne_eqb e.viewer v other) in
-    omega (arith, rest, sum, no)
 
 not_kept : (viewers : List (ℕ × Viewer)) (v : ℕ) (kept : Option Kept) → has_id viewers v ≡ false
     → is_kept_known viewers kept ≡ true → times_meant v (option_map (λ k. k.viewer) kept) ≡ 0
@@ -302,7 +298,7 @@ not_kept viewers v (Some k) none is =
     λ same. (let there : has_id viewers v ≡ true = ap (has_id viewers) (sym same) ∙ is in absurd (cc (there, none))) in
     ap (λ b. (let n : ℕ = cond b 1 0 in n)) (ne_eqb k.viewer v other)
 
-module _ (user system : List Entry) (kept : Option Kept) (viewers : List (ℕ × Viewer))
+module _ (user system : Levels) (kept : Option Kept) (viewers : List (ℕ × Viewer))
     (are : AreStanding user system kept viewers) where
   abbrev times : ℕ → ℕ
   times v = times_tracked user system v + times_meant v (option_map (λ k. k.viewer) kept)
@@ -312,8 +308,8 @@ module _ (user system : List Entry) (kept : Option Kept) (viewers : List (ℕ ×
       eqb-true (times v) 1 (found_passes (stands_once user system kept) viewers v viewer are.once found)
   times_by v None missing =
       let none : has_id viewers v ≡ false = id_is viewers v ∙ ap is_some missing in
-      let in_user = not_in_track viewers v user none are.of_user in
-      let in_system = not_in_track viewers v system none are.of_system in
+      let in_user = not_in_tracks viewers v user none are.of_user in
+      let in_system = not_in_tracks viewers v system none are.of_system in
       let in_kept = not_kept viewers v kept none are.of_kept in
       omega (arith, in_user, in_system, in_kept)
 
@@ -328,32 +324,33 @@ module _ (user system : List Entry) (kept : Option Kept) (viewers : List (ℕ ×
       omega (arith, all, small)
 
   abbrev drafted_columns : Columns
-  drafted_columns = record { user = user ∷ []; system = system ∷ [] }
+  drafted_columns = record { user = reverse user; system = reverse system }
 
   placed_is : (v : ℕ) → times_placed v drafted_columns ≡ times_tracked user system v
-  placed_is v = let one = one_on v user in let other = one_on v system in omega (arith, one, other)
+  placed_is v = let one = times_reversed v user in let other = times_reversed v system in omega (arith, one, other)
 
-  places_hold : IsTrack user → IsTrack system → IfSome kept FitsKept → ArePlaces viewers drafted_columns kept
-  places_hold is_user is_system fits = record {
-    columns_hold = of_tracks user system is_user is_system tracked_once;
+  places_hold : (version : ℕ) → IsStack (reverse user) → IsStack (reverse system) → IfSome kept (FitsKept version)
+      → ArePlaces viewers drafted_columns kept
+  places_hold version is_user is_system fits = record {
+    columns_hold = record {
+      user = is_user;
+      system = is_system;
+      once = λ v. (let same = placed_is v in let one = tracked_once v in omega (arith, same, one));
+    };
     once = λ v. (let all = times_by v (viewer_in viewers v) refl in let same = placed_is v in
         omega (arith, all, same));
-    kept_place = for_some FitsKept IsKeptPlace kept (λ k fits. record { some = fits.1.0; within = fits.1.1 }) fits;
+    kept_place = for_some (FitsKept version) IsKeptPlace kept (λ k fits. record { some = fits.1.0; within = fits.1.1 }) fits;
   }
 
 -- ---- marks
 
-module _ (characters : List ℕ) (texts : Texts (List Piece)) (viewers : List (ℕ × Viewer)) (user system : List Entry)
+module _ (characters : List ℕ) (texts : Texts (List Piece)) (viewers : List (ℕ × Viewer)) (user system : Levels)
   where
     abbrev columns_of : Columns
-    columns_of = record { user = user ∷ []; system = system ∷ [] }
+    columns_of = record { user = reverse user; system = reverse system }
 
-    is_placed : (v : ℕ) → nat_lt 0 (times_tracked user system v) ≡ true → IsPlaced v columns_of
-    is_placed v is =
-        let some = ltb-true 0 (times_tracked user system v) is in
-        let one = one_on v user in
-        let other = one_on v system in
-        omega (arith, some, one, other)
+    on_top : (v : ℕ) → is_shown user system v ≡ true → IsOnTop v columns_of
+    on_top v is = ltb-true 0 (times_in v (highest user) + times_in v (highest system)) is
 
     caret_holds : (c : Caret) → is_caret texts viewers user system (Some c) ≡ true
         → IsCaret columns_of (main_length (seen_table characters texts) viewers) c
@@ -362,7 +359,7 @@ module _ (characters : List ℕ) (texts : Texts (List Piece)) (viewers : List (�
         let parts = and_parts _ _ is in
         let same = long_seen characters texts (viewer_or_none viewers c.viewer).main in
         let low = leb-true c.position (main_size texts viewers c.viewer) parts.1 in
-        record { placed = is_placed c.viewer parts.0; within = omega (arith, same, low) }
+        record { placed = on_top c.viewer parts.0; within = omega (arith, same, low) }
 
     selection_holds : (s : Selection) → is_selection texts viewers user system s ≡ true
         → IsSelection columns_of (main_length (seen_table characters texts) viewers) s
@@ -372,7 +369,7 @@ module _ (characters : List ℕ) (texts : Texts (List Piece)) (viewers : List (�
         let b = and_parts _ _ a.1 in
         let same = long_seen characters texts (viewer_or_none viewers s.viewer).main in
         let low = leb-true s.end (main_size texts viewers s.viewer) b.1 in
-        record { placed = is_placed s.viewer a.0; some = ltb-true s.beg s.end b.0; within = omega (arith, same, low) }
+        record { placed = on_top s.viewer a.0; some = ltb-true s.beg s.end b.0; within = omega (arith, same, low) }
 
 -- ---- the whole
 
@@ -389,7 +386,7 @@ module _ (written : ℕ) (i : Image) (makes : is_desktop written i ≡ true) whe
   pub once_tracked : (v : ℕ) → times_tracked i.user i.system v ≤ 1
   once_tracked v = tracked_once i.user i.system i.kept (viewers_of i.viewers) placed v
 
-  marks_hold : (characters : List ℕ) → AreMarks (record { user = i.user ∷ []; system = i.system ∷ [] })
+  marks_hold : (characters : List ℕ) → AreMarks (record { user = reverse i.user; system = reverse i.system })
       (main_length (seen_table characters i.texts) (viewers_of i.viewers)) (caret_of i.viewers)
       (selections_of i.viewers)
   marks_hold characters = record {
@@ -401,23 +398,23 @@ module _ (written : ℕ) (i : Image) (makes : is_desktop written i ≡ true) whe
     one_each = λ v. one_in_each (caret_of i.viewers) i.viewers v tests.pictured;
   }
 
-  module _ (fits : FitsImage written i) where
+  module _ (version : ℕ) (fits : FitsImage version written i) where
     drafted_shaped : (characters : List ℕ) → IsShaped (seen characters (drafted written i))
     unfolding seen FitsImage
     drafted_shaped characters = record {
-      viewers = viewers_hold characters i.texts (viewers_of i.viewers) text_tests (texts_are written i fits).rising
-          (viewers_are written i fits).rising;
-      places = places_hold i.user i.system i.kept (viewers_of i.viewers) placed (user_track written i fits)
-          (system_track written i fits) fits.1.1.1.1.1.1.1.1.1.1;
+      viewers = viewers_hold characters i.texts (viewers_of i.viewers) text_tests (texts_are version written i fits).rising
+          (viewers_are version written i fits).rising;
+      places = places_hold i.user i.system i.kept (viewers_of i.viewers) placed version
+          (user_stack version written i fits) (system_stack version written i fits) fits.1.1.1.1.1.1.1.1.1.1;
       marks = marks_hold characters;
       marker = for_some FitsCell (λ m. (m.0 < COLUMNS) × (m.1 < ROWS)) i.marker (λ m is. is) fits.1.1.0;
-      files = drafted_files written i fits characters;
+      files = drafted_files version written i fits characters;
       pattern = fits.1.0;
-      looks = drafted_looks written i fits characters;
+      looks = drafted_looks version written i fits characters;
     }
 
     all_shown : (characters : List ℕ)
-        → All (λ n. IsTrue (is_shown (seen characters (drafted written i)) n)) (keys_of (seen_table characters i.texts))
+        → All (λ n. IsTrue (is_text_shown (seen characters (drafted written i)) n)) (keys_of (seen_table characters i.texts))
     unfolding seen
     all_shown characters = subst (λ ks. All (λ n. IsTrue (is_in_use (viewers_of i.viewers) n)) ks)
         (sym (keys_of-map_values (seen_text characters) i.texts))
@@ -429,18 +426,20 @@ module _ (written : ℕ) (i : Image) (makes : is_desktop written i ≡ true) whe
       shaped = drafted_shaped characters;
       shown = all_shown characters;
       written_within = leb-true written most_written tests.low;
-      held_within = drafted_held written i fits characters;
+      held_within = drafted_held version written i fits characters;
     }
 
     image_is : image_of (drafted written i) ≡ i
     unfolding image_of
     image_is = λ k. record i {
+      user = reverse-reverse i.user k;
+      system = reverse-reverse i.system k;
       viewers = pictures_are (caret_of i.viewers) (selections_of i.viewers) i.viewers tests.pictured k;
     }
 
     pub made : IsDesktopOf written i (drafted written i)
     made = record {
       count = refl;
-      whole = record { within = drafted_within written i fits; sound = drafted_sound };
+      whole = record { within = drafted_within version written i fits; sound = drafted_sound };
       image = image_is;
     }

@@ -1,6 +1,6 @@
 -- What is marked in the viewers of an image, where it is what a desktop has there.
 use Rattle.std.proofs.Common.{◌≡◌, ℕ, suc, zero, ◌+◌, ◌<◌, ◌≤◌, ◌∙◌, ◌==◌, ◌&&◌, Bool, true, false, cond, List, [], ◌∷◌}
-use Rattle.std.proofs.Common.{length, map, refl, ap, subst, arith, Option, Some, None, ⊎_elim, inl, inr}
+use Rattle.std.proofs.Common.{length, map, min, refl, ap, subst, arith, Option, Some, None, ⊎_elim, inl, inr}
 use Rattle.std.specs.Option.{option_or}
 use Rattle.std.specs.List.{list_all, count_by, filter_map, cons_option, range_with_len}
 use Rattle.std.proofs.lemmas.Bool.{and_parts, eqb-true, ne_eqb, cases_lt, cases_eq}
@@ -11,7 +11,7 @@ use Rattle.desk_image.specs.declared.picture.Ranked.{Ranked}
 use Rattle.desk_image.specs.declared.picture.ViewerPicture.{ViewerPicture}
 use Rattle.desk_image.specs.Image.{caret_in, ranked_in, picture_of}
 use Rattle.desk_imaging.specs.Images.{viewers_of, first_some, with_rank, selected_at, selected_as}
-use Rattle.desk_imaging.specs.Images.{selections_of, same_position, same_ranked, is_pictured}
+use Rattle.desk_imaging.specs.Images.{most_ranks, selections_of, same_position, same_ranked, is_pictured}
 
 pub is_position : (a b : Option ℕ) → same_position a b ≡ true → a ≡ b
 is_position None None is = refl
@@ -157,4 +157,4 @@ pub one_in_each : (caret : Option Caret) (ps : List ViewerPicture) (v : ℕ)
     → count_by (λ s. s.viewer == v) (selections_of ps) ≤ 1
 unfolding selections_of selected_as
 one_in_each caret ps v all = once_ranked caret (selections_of ps) v (selected_as ps)
-    (λ k s is. selected_rank caret (selections_of ps) k ps s all is) 1 (length ps)
+    (λ k s is. selected_rank caret (selections_of ps) k ps s all is) 1 (min (length ps) most_ranks)

@@ -2,6 +2,8 @@ pub mod ImageLemmas
 pub mod DraftLemmas
 pub mod ImageFits
 pub mod ImageMarks
+pub mod Stacks
+pub mod Building
 pub mod ImageMade
 pub mod ImageBack
 pub mod ImageHolds

@@ -1,6 +1,6 @@
 -- Which desktop has the parts that an image says, and when these make one: what a part has to do with the others.
 use Rattle.std.specs.Prelude.{◌≡◌, ℕ, ◌+◌, ◌==◌, ◌&&◌, ◌||◌, not, Bool, true, false, if◌then◌else◌, nat_lt, nat_le}
-use Rattle.std.specs.Prelude.{List, [], ◌∷◌, length, map, Option, Some, None, is_some, option_map}
+use Rattle.std.specs.Prelude.{List, [], ◌∷◌, length, map, min, reverse, Option, Some, None, is_some, option_map}
 use Rattle.std.specs.Option.{option_or}
 use Rattle.std.specs.List.{list_all, list_any, filter_map, range_with_len}
 use Rattle.std.specs.Map.{keys_of}
@@ -9,12 +9,12 @@ use Rattle.piece_ring.specs.Flat.{flat}
 use Rattle.event_bytes.specs.Parts.{byte, word, counted}
 use Rattle.viewer_tracks.specs.Viewers.{Entry, times_in}
 use Rattle.viewer_tracks.specs.declared.display.Track.TheVariants.{User, System}
-use Rattle.viewer_tracks.specs.Columns.{times_meant, shown}
+use Rattle.viewer_tracks.specs.Columns.{stack_of, topmost, times_on, times_meant}
 use Rattle.desktop_definitions.specs.declared.viewer.Viewer.{Viewer}
 use Rattle.desktop_definitions.specs.declared.viewer.Caret.{Caret}
 use Rattle.desktop_definitions.specs.declared.viewer.Selection.{Selection}
 use Rattle.desktop_definitions.specs.declared.viewer.Kept.{Kept}
-use Rattle.desktop_definitions.specs.Limits.{most_written}
+use Rattle.desktop_definitions.specs.Limits.{newest_version, most_written}
 use Rattle.desktop_definitions.specs.Tables.{Texts, numbered}
 use Rattle.desktop_definitions.specs.Desktop.{KeptDesktop}
 use Rattle.desktop_definitions.specs.Viewers.{text_in, viewer_or_none}
@@ -23,9 +23,9 @@ use Rattle.desk_image.specs.declared.picture.Ranked.{Ranked}
 use Rattle.desk_image.specs.declared.picture.ViewerPicture.{ViewerPicture}
 use Rattle.desk_image.specs.Image.{Image, caret_in, ranked_in, image_of, picture_of, listed, optional}
 use Rattle.desk_image.specs.Image.{look_bytes, cell_bytes, kept_bytes, text_bytes, file_bytes, pieces_bytes}
-use Rattle.desk_image.specs.Image.{viewer_bytes, entry_bytes}
+use Rattle.desk_image.specs.Image.{viewers_bytes, stack_bytes}
 
--- ---- how many bytes an image has, in three groups of its parts
+-- ---- how many bytes an image of the newest version has, in three groups of its parts
 
 abbrev pub settings_long : KeptDesktop → ℕ
 settings_long d = length (look_bytes d.look) + (length (counted byte d.pattern) + length (optional cell_bytes d.marker))
@@ -35,9 +35,10 @@ tables_long d = length (listed word text_bytes d.texts) + (length (listed word f
     + (length (pieces_bytes d.copied) + length (pieces_bytes d.deleted)))
 
 abbrev pub display_long : KeptDesktop → ℕ
-display_long d = length (listed byte viewer_bytes (map (picture_of d.caret d.selections) d.viewers))
-    + (length (listed byte entry_bytes (shown d.columns User))
-    + (length (listed byte entry_bytes (shown d.columns System)) + length (optional kept_bytes d.kept)))
+display_long d = length (viewers_bytes newest_version (map (picture_of d.caret d.selections) d.viewers))
+    + (length (stack_bytes newest_version (reverse (stack_of d.columns User)))
+    + (length (stack_bytes newest_version (reverse (stack_of d.columns System)))
+    + length (optional (kept_bytes newest_version) d.kept)))
 
 -- ---- the desktop that has the parts of an image
 
@@ -72,15 +73,20 @@ selected_at rank p = with_rank rank p p.selection
 unfoldable pub selected_as : List ViewerPicture → ℕ → Option Selection
 selected_as pictures rank = first_some (selected_at rank) pictures
 
+-- a rank has a byte
+abbrev pub most_ranks : ℕ
+most_ranks = 255
+
 -- the selections by their ranks, of which there are no more than viewers
 unfoldable pub selections_of : List ViewerPicture → List Selection
-selections_of pictures = filter_map (selected_as pictures) (range_with_len 1 (length pictures))
+selections_of pictures =
+    filter_map (selected_as pictures) (range_with_len 1 (min (length pictures) most_ranks))
 
 abbrev pub drafted : ℕ → Image → KeptDesktop
 drafted written i = record {
   texts = i.texts;
   viewers = viewers_of i.viewers;
-  columns = record { user = i.user ∷ []; system = i.system ∷ [] };
+  columns = record { user = reverse i.user; system = reverse i.system };
   caret = caret_of i.viewers;
   selections = selections_of i.viewers;
   marker = i.marker;
@@ -121,8 +127,12 @@ are_texts texts viewers =
 
 -- ---- places
 
-abbrev pub times_tracked : List Entry → List Entry → ℕ → ℕ
-times_tracked user system v = times_in v user + times_in v system
+-- the tracks of both columns are lists from the lowest up
+abbrev pub Levels : Type 0
+Levels = List (List Entry)
+
+abbrev pub times_tracked : Levels → Levels → ℕ → ℕ
+times_tracked user system v = times_on v user + times_on v system
 
 abbrev pub has_id : List (ℕ × Viewer) → ℕ → Bool
 has_id viewers v = list_any (λ e. e.0 == v) viewers
@@ -131,35 +141,43 @@ abbrev pub is_kept_known : List (ℕ × Viewer) → Option Kept → Bool
 is_kept_known viewers None = true
 is_kept_known viewers (Some k) = has_id viewers k.viewer
 
-abbrev pub stands_once : List Entry → List Entry → Option Kept → ℕ × Viewer → Bool
+abbrev pub stands_once : Levels → Levels → Option Kept → ℕ × Viewer → Bool
 stands_once user system kept e =
     times_tracked user system e.0 + times_meant e.0 (option_map (λ k. k.viewer) kept) == 1
 
+-- all of the tracks are viewers
+abbrev pub are_known : List (ℕ × Viewer) → Levels → Bool
+are_known viewers stack = list_all (list_all (λ e. has_id viewers e.viewer)) stack
+
 -- each viewer stands in one place, in a track or as the kept one, and nothing else does
-unfoldable pub are_placed : List Entry → List Entry → Option Kept → List (ℕ × Viewer) → Bool
+unfoldable pub are_placed : Levels → Levels → Option Kept → List (ℕ × Viewer) → Bool
 are_placed user system kept viewers =
-    list_all (stands_once user system kept) viewers && (list_all (λ e. has_id viewers e.viewer) user
-    && (list_all (λ e. has_id viewers e.viewer) system && is_kept_known viewers kept))
+    list_all (stands_once user system kept) viewers && (are_known viewers user
+    && (are_known viewers system && is_kept_known viewers kept))
 
 -- ---- what is marked
 
-abbrev pub is_tracked : List Entry → List Entry → ℕ → Bool
-is_tracked user system v = nat_lt 0 (times_tracked user system v)
+-- the track that is shown: the highest
+abbrev pub highest : Levels → List Entry
+highest stack = topmost (reverse stack)
+
+abbrev pub is_shown : Levels → Levels → ℕ → Bool
+is_shown user system v = nat_lt 0 (times_in v (highest user) + times_in v (highest system))
 
 -- how many characters the main text of a viewer has
 abbrev pub main_size : Texts (List Piece) → List (ℕ × Viewer) → ℕ → ℕ
 main_size texts viewers v = size_of texts (viewer_or_none viewers v).main
 
-module _ (texts : Texts (List Piece)) (viewers : List (ℕ × Viewer)) (user system : List Entry) where
-  -- a caret stands in a viewer of a track, within its text
+module _ (texts : Texts (List Piece)) (viewers : List (ℕ × Viewer)) (user system : Levels) where
+  -- a caret stands in a viewer of a track that is shown, within its text
   unfoldable pub is_caret : Option Caret → Bool
   is_caret None = true
-  is_caret (Some c) = is_tracked user system c.viewer && nat_le c.position (main_size texts viewers c.viewer)
+  is_caret (Some c) = is_shown user system c.viewer && nat_le c.position (main_size texts viewers c.viewer)
 
-  -- a selection has some character, of a viewer of a track
+  -- a selection has some character, of a viewer of a track that is shown
   unfoldable pub is_selection : Selection → Bool
   is_selection s =
-      is_tracked user system s.viewer
+      is_shown user system s.viewer
       && (nat_lt s.beg s.end && nat_le s.end (main_size texts viewers s.viewer))
 
 -- ---- a viewer's caret and selection are those that the desktop has there
@@ -182,7 +200,7 @@ is_pictured caret selections p =
 
 -- ---- together
 
--- the parts of an image make a desktop for which so many characters were written
+-- the parts of an image, in whatever version it was read, make a desktop for which so many characters were written
 unfoldable pub is_desktop : ℕ → Image → Bool
 is_desktop written i =
     nat_le written most_written && (are_placed i.user i.system i.kept (viewers_of i.viewers)

@@ -1,19 +1,24 @@
 //! From the parts of an image to what a desktop keeps of its viewers, and what is marked in them.
-ghost use Rattle.std.specs.Prelude.{◌≡◌, ◌+◌, ◌<◌, ◌≤◌, ◌^◌, ◌∷◌, ◌++◌, ℕ, [], length, map, IfOk, OnOk};
+ghost use Rattle.std.specs.Prelude.{◌≡◌, ◌+◌, ◌<◌, ◌≤◌, ◌∷◌, ◌++◌, ℕ, [], length, map, reverse, IfOk, OnOk};
 ghost use Rattle.std.specs.Option.{option_to_list};
-ghost use Rattle.viewer_tracks.specs.Viewers.{IsTrack, times_in};
-ghost use Rattle.viewer_tracks.specs.Columns.{stack_of, with_shown, times_placed};
-ghost use Rattle.desk_image.specs.Pictures.{entry_of};
+ghost use Rattle.viewer_tracks.specs.declared.display.TheConstants.{DEPTH, ROWS};
+ghost use Rattle.viewer_tracks.specs.Viewers.{IsTrack, bottom_of, times_in};
+ghost use Rattle.viewer_tracks.specs.Columns.{IsColumns, IsPlaced, IsStack, shown, stack_of, with_shown, with_stack};
+ghost use Rattle.viewer_tracks.specs.Columns.{times_on, times_placed};
+ghost use Rattle.desk_image.specs.Pictures.{entry_of, stack_of as levels_of};
 ghost use Rattle.desk_imaging.specs.Images.{viewers_of, caret_of, selected_at, selected_as, selections_of};
-ghost use Rattle.desk_imaging.specs.Images.{times_tracked};
+ghost use Rattle.desk_imaging.specs.Images.{most_ranks, times_tracked};
 
 use desk_core::stop::NoMemory;
 use desk_core::viewers::ViewerTable;
-use desk_image::{Stretch, ViewerPicture};
+use desk_image::{Stretch, Stretches, ViewerPicture};
 use desktop_definitions::{Caret, Selection};
 use std::alloc::Global;
 use std::vec::Vec;
 use viewer_tracks::{Track, Tracks, ViewerId};
+
+/// How many ranks there are: a rank has a byte.
+const MOST_RANKS: usize = 255;
 
 /// The viewers by their ids.
 pub fn viewers_of(alloc: Global, pictures: &[ViewerPicture]) -> Result<ViewerTable, NoMemory>
@@ -91,43 +96,91 @@ fn add_ranked(
 
 /// The selections by their ranks.
 pub fn selections_of(alloc: Global, pictures: &[ViewerPicture]) -> Result<Vec<Selection>, NoMemory>
-    requires { length pictures.now < 2 ^ 8 }
     ensures items { IfOk result (λ selections. selections.items ≡ selections_of pictures.now) }
-    ensures few { IfOk result (λ selections. length selections.items ≤ length pictures.now) }
+    ensures few { IfOk result (λ selections. length selections.items ≤ most_ranks) }
 {
     let mut selections = Vec::new(alloc);
-    for at in 0..pictures.len() {
+    for at in 0..pictures.len().min(MOST_RANKS) {
         add_ranked(pictures, at as u8 + 1, &mut selections)?;
     }
     Ok(selections)
 }
 
-/// Puts viewers into a track that is all filler, bottom up with their heights.
-fn pile(tracks: &mut Tracks, stretches: &[Stretch], track: Track)
-    requires empty { stack_of tracks.old track ≡ [] ∷ [] }
-    requires heights { IsTrack (map entry_of stretches.now) }
+/// Puts viewers on those of the track that a column shows, bottom up with their heights; the first goes on row
+/// `bottom`, up to which the track is full.
+fn pile(tracks: &mut Tracks, stretches: &[Stretch], track: Track, bottom: u8)
+    requires sound { IsColumns tracks.old }
+    requires heights { IsTrack (shown tracks.old track ++ map entry_of stretches.now) }
+    requires bottom { bottom ≡ bottom_of (shown tracks.old track) (length (shown tracks.old track)) }
     requires once { (v : ℕ) → times_placed v tracks.old + times_in v (map entry_of stretches.now) ≤ 1 }
-    ensures { tracks.new ≡ with_shown tracks.old track (map entry_of stretches.now) }
+    ensures piled { tracks.new ≡ with_shown tracks.old track (shown tracks.old track ++ map entry_of stretches.now) }
+    ensures sound { IsColumns tracks.new }
 {
-    let mut top = 0;
+    let mut top = bottom;
     for stretch in stretches {
         top += stretch.height;
         let _ = tracks.open(ViewerId(stretch.viewer), track.left(), top);
     }
 }
 
-/// The tracks with these viewers, bottom up.
-pub fn tracks_of(user: &[Stretch], system: &[Stretch]) -> Tracks
-    requires user { IsTrack (map entry_of user.now) }
-    requires system { IsTrack (map entry_of system.now) }
-    requires once { (v : ℕ) → times_tracked (map entry_of user.now) (map entry_of system.now) v ≤ 1 }
+/// Puts a viewer into a track of its own over those of a column, with its height.
+fn lay_lowest(tracks: &mut Tracks, lowest: Stretch, track: Track)
+    requires sound { IsColumns tracks.old }
+    requires fresh { ¬ IsPlaced lowest.viewer tracks.old }
+    requires room { length (stack_of tracks.old track) < DEPTH }
+    requires some { 0 < lowest.height }
+    requires within { lowest.height ≤ ROWS }
+    ensures laid { tracks.new ≡ with_stack tracks.old track ((entry_of lowest ∷ []) ∷ stack_of tracks.old track) }
+    ensures sound { IsColumns tracks.new }
+{
+    tracks.open_track(ViewerId(lowest.viewer), track.left());
+    tracks.change(ViewerId(lowest.viewer), lowest.height);
+}
+
+/// Puts a track with these viewers, bottom up, over those of a column.
+fn lay(tracks: &mut Tracks, stretches: &[Stretch], track: Track)
+    requires sound { IsColumns tracks.old }
+    requires some { 0 < length stretches.now }
+    requires room { length (stack_of tracks.old track) < DEPTH }
+    requires heights { IsTrack (map entry_of stretches.now) }
+    requires once { (v : ℕ) → times_placed v tracks.old + times_in v (map entry_of stretches.now) ≤ 1 }
+    ensures laid { tracks.new ≡ with_stack tracks.old track (map entry_of stretches.now ∷ stack_of tracks.old track) }
+    ensures sound { IsColumns tracks.new }
+{
+    let Some((lowest, above)) = stretches.split_first() else {
+        return;
+    };
+    lay_lowest(tracks, *lowest, track);
+    pile(tracks, above, track, lowest.height);
+}
+
+/// Puts the tracks of a column, from the lowest up, into one that has no viewer.
+fn build(tracks: &mut Tracks, stack: &[Stretches], track: Track)
+    requires sound { IsColumns tracks.old }
+    requires empty { stack_of tracks.old track ≡ [] ∷ [] }
+    requires stack { IsStack (reverse (levels_of stack.now)) }
+    requires once { (v : ℕ) → times_placed v tracks.old + times_on v (levels_of stack.now) ≤ 1 }
+    ensures built { tracks.new ≡ with_stack tracks.old track (reverse (levels_of stack.now)) }
+    ensures sound { IsColumns tracks.new }
+{
+    pile(tracks, stack[0].as_slice(), track, 0);
+    for level in 1..stack.len() {
+        lay(tracks, stack[level].as_slice(), track);
+    }
+}
+
+/// The tracks of both columns, each from the lowest up.
+pub fn tracks_of(user: &[Stretches], system: &[Stretches]) -> Tracks
+    requires user { IsStack (reverse (levels_of user.now)) }
+    requires system { IsStack (reverse (levels_of system.now)) }
+    requires once { (v : ℕ) → times_tracked (levels_of user.now) (levels_of system.now) v ≤ 1 }
     ensures { result ≡ record {
-      user = map entry_of user.now ∷ [];
-      system = map entry_of system.now ∷ [];
+      user = reverse (levels_of user.now);
+      system = reverse (levels_of system.now);
     } }
 {
     let mut tracks = Tracks::new();
-    pile(&mut tracks, user, Track::User);
-    pile(&mut tracks, system, Track::System);
+    build(&mut tracks, user, Track::User);
+    build(&mut tracks, system, Track::System);
     tracks
 }

@@ -1,11 +1,11 @@
-//! How many bytes the image of a desktop has.
-ghost use Rattle.std.specs.Prelude.{◌≡◌, ◌<◌, ◌≤◌, ◌^◌, ◌+◌, length, map};
-ghost use Rattle.event_bytes.specs.Parts.{byte, word};
-ghost use Rattle.viewer_tracks.specs.declared.display.Track.TheVariants.{User, System};
-ghost use Rattle.viewer_tracks.specs.Columns.{shown};
+//! How many bytes the image of a desktop has, in the newest version.
+ghost use Rattle.std.specs.Prelude.{◌≡◌, ◌<◌, ◌≤◌, ◌^◌, ◌+◌, length, map, reverse};
+ghost use Rattle.desktop_definitions.specs.Limits.{newest_version};
+ghost use Rattle.event_bytes.specs.Parts.{word};
+ghost use Rattle.viewer_tracks.specs.Columns.{stack_of, track_on};
 ghost use Rattle.desktop_definitions.specs.Sound.{IsKeptWhole};
-ghost use Rattle.desk_image.specs.Image.{picture_of, image_of, listed, text_bytes, file_bytes, viewer_bytes};
-ghost use Rattle.desk_image.specs.Image.{pieces_bytes, entry_bytes};
+ghost use Rattle.desk_image.specs.Image.{picture_of, image_of, listed, text_bytes, file_bytes, viewers_bytes};
+ghost use Rattle.desk_image.specs.Image.{pieces_bytes, track_bytes, stack_bytes};
 ghost use Rattle.desk_image.specs.Image.{image_bytes, IsSpellable};
 ghost use Rattle.desk_image.specs.declared.limits.TheConstants.{IMAGE_BYTES};
 ghost use Rattle.desk_imaging.specs.Images.{settings_long, tables_long, display_long};
@@ -21,7 +21,7 @@ use desk_image::{
 use desktop_definitions::{Caret, Selection, Viewer};
 use event_bytes::Name;
 use text_core::{Buffer, Text};
-use viewer_tracks::Track;
+use viewer_tracks::{Track, Tracks};
 
 /// How many bytes the pieces of a text have, after how many there are.
 fn text_pieces_len(text: &Text) -> usize
@@ -78,12 +78,12 @@ fn files_len(files: &Files) -> usize
 }
 
 /// How many bytes viewers have with what is marked in them, after how many there are.
-fn viewers_len(viewers: &[(u8, Viewer)], caret: Option<Caret>, selections: &[Selection]) -> usize
+fn viewers_len(viewers: &[(u16, Viewer)], caret: Option<Caret>, selections: &[Selection]) -> usize
     requires marks { length selections.now ≤ 255 }
-    requires few { length (listed byte viewer_bytes (map (picture_of caret selections.now) viewers.now)) < 2 ^ 32 }
-    ensures { result ≡ length (listed byte viewer_bytes (map (picture_of caret selections.now) viewers.now)) }
+    requires few { length (viewers_bytes newest_version (map (picture_of caret selections.now) viewers.now)) < 2 ^ 32 }
+    ensures { result ≡ length (viewers_bytes newest_version (map (picture_of caret selections.now) viewers.now)) }
 {
-    let mut sum = 1;
+    let mut sum = 2;
     for place in 0..viewers.len() {
         let (id, viewer) = viewers[place];
         let picture = picture_of(id, viewer, caret, selections);
@@ -112,39 +112,53 @@ fn tables_len(desk: &Desk) -> usize
 /// How many bytes the viewers have with what is marked in them.
 fn pictures_len(desk: &Desk) -> usize
     requires marks { length (kept desk.now).selections ≤ 255 }
-    requires few { length (listed byte viewer_bytes
+    requires few { length (viewers_bytes newest_version
         (map (picture_of (kept desk.now).caret (kept desk.now).selections) (kept desk.now).viewers)) < 2 ^ 32 }
-    ensures { result ≡ length (listed byte viewer_bytes
+    ensures { result ≡ length (viewers_bytes newest_version
         (map (picture_of (kept desk.now).caret (kept desk.now).selections) (kept desk.now).viewers)) }
 {
     viewers_len(&desk.viewers, desk.caret, &desk.selections)
 }
 
-/// How many bytes the viewers of a track have.
-fn track_len(desk: &Desk, track: Track) -> usize
-    ensures value { result ≡ length (listed byte entry_bytes (shown (kept desk.now).columns track)) }
-    ensures few { result ≤ 511 }
+/// How many bytes the viewers of the track of a level have. The lowest track has level 1.
+fn track_len(tracks: &Tracks, track: Track, level: u8) -> usize
+    requires some { 0 < level }
+    requires within { level ≤ length (stack_of tracks.now track) }
+    ensures value { result ≡ length (track_bytes newest_version (track_on (stack_of tracks.now track) level)) }
+    ensures few { result ≤ 766 }
 {
-    entries_len(desk.tracks.count(track))
+    entries_len(tracks.count(track, level))
+}
+
+/// How many bytes the tracks of a column have.
+fn stack_len(tracks: &Tracks, track: Track) -> usize
+    ensures value { result ≡ length (stack_bytes newest_version (reverse (stack_of tracks.now track))) }
+    ensures few { result < 2 ^ 16 }
+{
+    let mut sum = 1;
+    for below in 0..tracks.levels(track) {
+        sum += track_len(tracks, track, below + 1);
+    }
+    sum
 }
 
 /// How many bytes the viewers, the tracks and the viewer that was closed last have.
 fn display_len(desk: &Desk) -> usize
     requires marks { length (kept desk.now).selections ≤ 255 }
-    requires few { length (listed byte viewer_bytes
+    requires few { length (viewers_bytes newest_version
         (map (picture_of (kept desk.now).caret (kept desk.now).selections) (kept desk.now).viewers)) < 2 ^ 32 }
     ensures { result ≡ display_long (kept desk.now) }
 {
-    let system = track_len(desk, Track::System) + kept_len(desk.kept);
-    pictures_len(desk) + (track_len(desk, Track::User) + system)
+    let system = stack_len(&desk.tracks, Track::System) + kept_len(desk.kept);
+    pictures_len(desk) + (stack_len(&desk.tracks, Track::User) + system)
 }
 
 /// The image of the desktop has room, and has as many bytes as its parts.
 fn image_has_room(desk: &Desk)
     requires whole { IsKeptWhole (kept desk.now) }
-    requires spellable { IsSpellable (kept desk.now) }
-    ensures room { length (image_bytes (image_of (kept desk.now))) ≤ IMAGE_BYTES }
-    ensures parts { length (image_bytes (image_of (kept desk.now)))
+    requires spellable { IsSpellable newest_version (kept desk.now) }
+    ensures room { length (image_bytes newest_version (image_of (kept desk.now))) ≤ IMAGE_BYTES }
+    ensures parts { length (image_bytes newest_version (image_of (kept desk.now)))
         ≡ settings_long (kept desk.now) + (tables_long (kept desk.now) + display_long (kept desk.now)) }
 {
     images_have_room();
@@ -153,8 +167,8 @@ fn image_has_room(desk: &Desk)
 /// How many bytes the image of the desktop has.
 pub fn image_len(desk: &Desk) -> u32
     requires whole { IsKeptWhole (kept desk.now) }
-    requires spellable { IsSpellable (kept desk.now) }
-    ensures { result ≡ length (image_bytes (image_of (kept desk.now))) }
+    requires spellable { IsSpellable newest_version (kept desk.now) }
+    ensures { result ≡ length (image_bytes newest_version (image_of (kept desk.now))) }
 {
     image_has_room(desk);
     (settings_len(desk) + (tables_len(desk) + display_len(desk))) as u32

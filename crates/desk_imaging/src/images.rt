@@ -1,7 +1,7 @@
 //! From an image to the desktop of which it is the image.
-ghost use Rattle.std.specs.Prelude.{◌≡◌, ◌<◌, ◌^◌, length, IfOk, IsErrOf, true};
+ghost use Rattle.std.specs.Prelude.{◌≡◌, ◌<◌, ◌^◌, ℕ, length, IfOk, IsErrOf, true};
 ghost use Rattle.desk_image.specs.Image.{IsSpellable};
-ghost use Rattle.desk_image.specs.Fitting.{FitsImage};
+ghost use Rattle.desk_image.specs.Fitting.{FitsImage, FitsSome};
 ghost use Rattle.desk_image.specs.Pictures.{pictured};
 ghost use Rattle.desktop_definitions.specs.Desktop.{KeptDesktop};
 ghost use Rattle.desk_core.specs.Kept.{kept};
@@ -52,7 +52,7 @@ fn desk_of(
     caret: Option<Caret>,
     selections: Vec<Selection>,
 ) -> Desk
-    requires fits { FitsImage written (pictured picture) }
+    requires fits { FitsSome written (pictured picture) }
     requires makes { is_desktop written (pictured picture) ≡ true }
     requires viewers { viewers.items ≡ viewers_of picture.viewers.items }
     requires caret { caret ≡ caret_of picture.viewers.items }
@@ -79,9 +79,10 @@ fn desk_of(
 
 /// The desktop with the parts of an image, for which so many characters were written. Damaged where they make none.
 pub fn assemble(alloc: Global, picture: Picture, written: u32) -> Result<Desk, ImageFault>
-    requires { FitsImage written (pictured picture) }
+    requires { FitsSome written (pictured picture) }
     ensures made { IfOk result (λ d. IsDesktopOf written (pictured picture) (kept d)) }
-    ensures parts { IfOk result (λ d. IsSpellable (kept d)) }
+    ensures parts { (version : ℕ) → FitsImage version written (pictured picture)
+        → IfOk result (λ d. IsSpellable version (kept d)) }
     ensures damaged { IsErrOf result ImageFault.Damaged
         → (d : KeptDesktop) → ¬ IsDesktopOf written (pictured picture) d }
     ensures never_fault { ¬ IsErrOf result ImageFault.Fault }

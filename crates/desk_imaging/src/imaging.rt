@@ -1,17 +1,18 @@
-//! The image of a desktop, put part by part.
-ghost use Rattle.std.specs.Prelude.{◌≡◌, ◌<◌, ◌≤◌, ◌^◌, ◌++◌, [], length, map, All, IfOk, OnOk};
+//! The image of a desktop, in the newest version, put part by part.
+ghost use Rattle.std.specs.Prelude.{◌≡◌, ◌<◌, ◌≤◌, ◌^◌, ◌++◌, [], length, map, reverse, All, IfOk, OnOk};
 ghost use Rattle.std.specs.Map.{keys_of, values_of};
+ghost use Rattle.desktop_definitions.specs.Limits.{newest_version};
 ghost use Rattle.event_bytes.specs.Parts.{byte, word, counted};
 ghost use Rattle.viewer_tracks.specs.declared.display.Track.TheVariants.{User, System};
-ghost use Rattle.viewer_tracks.specs.Columns.{shown};
+ghost use Rattle.viewer_tracks.specs.Columns.{stack_of, track_on};
 ghost use Rattle.desktop_definitions.specs.Looks.{IsLook, AreLooks};
 ghost use Rattle.desktop_definitions.specs.Seen.{seen_text, seen_table};
 ghost use Rattle.desktop_definitions.specs.Sound.{IsKeptWhole};
 ghost use Rattle.desk_image.specs.Streams.{Puts};
 ghost use Rattle.desk_image.specs.Image.{ranked_in, picture_of, image_of, listed, text_bytes, file_bytes};
-ghost use Rattle.desk_image.specs.Image.{pieces_bytes, viewer_bytes, entry_bytes, image_bytes};
+ghost use Rattle.desk_image.specs.Image.{pieces_bytes, viewers_bytes, track_bytes, stack_bytes, image_bytes};
 ghost use Rattle.desk_image.specs.Image.{look_bytes, cell_bytes, kept_bytes, optional};
-ghost use Rattle.desk_image.specs.Image.{InByte, InWord, AreSome, IsSpellable};
+ghost use Rattle.desk_image.specs.Image.{InWord, AreSome, IsSpellable};
 ghost use Rattle.desk_core.specs.Kept.{kept};
 
 use crate::image_size::image_len;
@@ -123,7 +124,7 @@ fn put_buffer<K: ByteSink>(sink: &mut K, buffer: &Buffer) -> Result<(), Fault>
 }
 
 /// What is selected in the viewer of that id, and its rank.
-pub fn ranked_in(selections: &[Selection], id: u8) -> Option<Ranked>
+pub fn ranked_in(selections: &[Selection], id: u16) -> Option<Ranked>
     requires { length selections.now ≤ 255 }
     ensures { result ≡ ranked_in 1 selections.now id }
 {
@@ -142,14 +143,14 @@ pub fn ranked_in(selections: &[Selection], id: u8) -> Option<Ranked>
 
 /// A viewer with what is marked in it.
 pub fn picture_of(
-    id: u8,
+    id: u16,
     viewer: Viewer,
     caret: Option<Caret>,
     selections: &[Selection],
 ) -> ViewerPicture
     requires { length selections.now ≤ 255 }
     ensures picture { result ≡ picture_of caret selections.now (id, viewer) }
-    ensures small { InByte id }
+    ensures small { InWord id }
 {
     let caret = position_in(id, caret);
     let selection = ranked_in(selections, id);
@@ -164,17 +165,17 @@ pub fn picture_of(
 /// Puts viewers with what is marked in them, after how many there are.
 fn put_viewers<K: ByteSink>(
     sink: &mut K,
-    viewers: &[(u8, Viewer)],
+    viewers: &[(u16, Viewer)],
     caret: Option<Caret>,
     selections: &[Selection],
 ) -> Result<(), Fault>
-    requires few { length viewers.now ≤ 255 }
+    requires few { length viewers.now < 2 ^ 16 }
     requires marks { length selections.now ≤ 255 }
     ensures puts { Puts K.ByteSink result
-        (listed byte viewer_bytes (map (picture_of caret selections.now) viewers.now)) sink.old sink.new }
-    ensures ids { OnOk result (All InByte (keys_of viewers.now)) }
+        (viewers_bytes newest_version (map (picture_of caret selections.now) viewers.now)) sink.old sink.new }
+    ensures ids { OnOk result (All InWord (keys_of viewers.now)) }
 {
-    put_byte(sink, viewers.len() as u8)?;
+    put_word(sink, viewers.len() as u16)?;
     for place in 0..viewers.len() {
         let (id, viewer) = viewers[place];
         let picture = picture_of(id, viewer, caret, selections);
@@ -183,19 +184,40 @@ fn put_viewers<K: ByteSink>(
     Ok(())
 }
 
-/// Puts the viewers of a track, after how many there are.
-fn put_track<K: ByteSink>(sink: &mut K, tracks: &Tracks, track: Track) -> Result<(), Fault>
-    ensures { Puts K.ByteSink result (listed byte entry_bytes (shown tracks.now track)) sink.old sink.new }
+/// Puts the viewers of the track of a level, after how many there are. The lowest track has level 1.
+fn put_track<K: ByteSink>(
+    sink: &mut K,
+    tracks: &Tracks,
+    track: Track,
+    level: u8,
+) -> Result<(), Fault>
+    requires some { 0 < level }
+    requires within { level ≤ length (stack_of tracks.now track) }
+    ensures { Puts K.ByteSink result (track_bytes newest_version (track_on (stack_of tracks.now track) level))
+        sink.old sink.new }
 {
-    let count = tracks.count(track);
+    let count = tracks.count(track, level);
     put_byte(sink, count)?;
     for index in 0..count {
-        let (viewer, height) = tracks.entry_in(track, index);
+        let (viewer, height) = tracks.entry_in(track, level, index);
         let entry = Stretch {
             viewer: viewer.0,
             height,
         };
         put_entry(sink, entry)?;
+    }
+    Ok(())
+}
+
+/// Puts the tracks of a column from the lowest up, after how many there are.
+fn put_stack<K: ByteSink>(sink: &mut K, tracks: &Tracks, track: Track) -> Result<(), Fault>
+    ensures { Puts K.ByteSink result (stack_bytes newest_version (reverse (stack_of tracks.now track)))
+        sink.old sink.new }
+{
+    let depth = tracks.levels(track);
+    put_byte(sink, depth)?;
+    for below in 0..depth {
+        put_track(sink, tracks, track, below + 1)?;
     }
     Ok(())
 }
@@ -210,12 +232,12 @@ fn put_pattern<K: ByteSink>(desk: &Desk, sink: &mut K) -> Result<(), Fault>
 
 /// Puts the viewers with what is marked in them.
 fn put_pictures<K: ByteSink>(desk: &Desk, sink: &mut K) -> Result<(), Fault>
-    requires few { length (kept desk.now).viewers ≤ 255 }
+    requires few { length (kept desk.now).viewers < 2 ^ 16 }
     requires marks { length (kept desk.now).selections ≤ 255 }
-    ensures puts { Puts K.ByteSink result (listed byte viewer_bytes
+    ensures puts { Puts K.ByteSink result (viewers_bytes newest_version
         (map (picture_of (kept desk.now).caret (kept desk.now).selections) (kept desk.now).viewers))
         sink.old sink.new }
-    ensures ids { OnOk result (All InByte (keys_of (kept desk.now).viewers)) }
+    ensures ids { OnOk result (All InWord (keys_of (kept desk.now).viewers)) }
 {
     put_viewers(sink, &desk.viewers, desk.caret, &desk.selections)
 }
@@ -252,26 +274,26 @@ fn put_tables<K: ByteSink>(desk: &Desk, sink: &mut K) -> Result<(), Fault>
 
 /// Puts the viewers, the tracks in which they stand, and the one that was closed last.
 fn put_display<K: ByteSink>(desk: &Desk, sink: &mut K) -> Result<(), Fault>
-    requires few { length (kept desk.now).viewers ≤ 255 }
+    requires few { length (kept desk.now).viewers < 2 ^ 16 }
     requires marks { length (kept desk.now).selections ≤ 255 }
-    ensures puts { Puts K.ByteSink result (listed byte viewer_bytes
+    ensures puts { Puts K.ByteSink result (viewers_bytes newest_version
         (map (picture_of (kept desk.now).caret (kept desk.now).selections) (kept desk.now).viewers)
-        ++ (listed byte entry_bytes (shown (kept desk.now).columns User)
-        ++ (listed byte entry_bytes (shown (kept desk.now).columns System)
-        ++ optional kept_bytes (kept desk.now).kept))) sink.old sink.new }
-    ensures ids { OnOk result (All InByte (keys_of (kept desk.now).viewers)) }
+        ++ (stack_bytes newest_version (reverse (stack_of (kept desk.now).columns User))
+        ++ (stack_bytes newest_version (reverse (stack_of (kept desk.now).columns System))
+        ++ optional (kept_bytes newest_version) (kept desk.now).kept))) sink.old sink.new }
+    ensures ids { OnOk result (All InWord (keys_of (kept desk.now).viewers)) }
 {
     put_pictures(desk, sink)?;
-    put_track(sink, &desk.tracks, Track::User)?;
-    put_track(sink, &desk.tracks, Track::System)?;
+    put_stack(sink, &desk.tracks, Track::User)?;
+    put_stack(sink, &desk.tracks, Track::System)?;
     put_kept(sink, desk.kept)
 }
 
 /// Puts the parts of the image, one after another.
 fn put_parts<K: ByteSink>(desk: &Desk, sink: &mut K) -> Result<(), Fault>
     requires { IsKeptWhole (kept desk.now) }
-    ensures puts { Puts K.ByteSink result (image_bytes (image_of (kept desk.now))) sink.old sink.new }
-    ensures spellable { OnOk result (IsSpellable (kept desk.now)) }
+    ensures puts { Puts K.ByteSink result (image_bytes newest_version (image_of (kept desk.now))) sink.old sink.new }
+    ensures spellable { OnOk result (IsSpellable newest_version (kept desk.now)) }
 {
     put_settings(desk, sink)?;
     put_tables(desk, sink)?;
@@ -281,9 +303,9 @@ fn put_parts<K: ByteSink>(desk: &Desk, sink: &mut K) -> Result<(), Fault>
 /// Puts the image of the desktop, and returns how many bytes it has. `Fault`: the sink failed in this call.
 pub fn put_image<K: ByteSink>(desk: &Desk, sink: &mut K) -> Result<u32, Fault>
     requires { IsKeptWhole (kept desk.now) }
-    ensures spelled { IfOk result (λ n. IsSpellable (kept desk.now)
-        × (n ≡ length (image_bytes (image_of (kept desk.now))))) }
-    ensures puts { Puts K.ByteSink result (image_bytes (image_of (kept desk.now))) sink.old sink.new }
+    ensures spelled { IfOk result (λ n. IsSpellable newest_version (kept desk.now)
+        × (n ≡ length (image_bytes newest_version (image_of (kept desk.now))))) }
+    ensures puts { Puts K.ByteSink result (image_bytes newest_version (image_of (kept desk.now))) sink.old sink.new }
 {
     put_parts(desk, sink)?;
     Ok(image_len(desk))

@@ -1,20 +1,20 @@
 //! What the parts of an image have to do with each other: tests of lengths and numbers.
-ghost use Rattle.std.specs.Prelude.{◌≡◌, ◌+◌, ◌==◌, ◌<◌, ◌≤◌, ◌^◌, length, map, option_map};
+ghost use Rattle.std.specs.Prelude.{◌≡◌, ◌+◌, ◌==◌, ◌<◌, ◌≤◌, ◌^◌, length, map, nat_lt, option_map};
 ghost use Rattle.std.specs.List.{list_all};
 ghost use Rattle.std.specs.Map.{keys_of};
 ghost use Rattle.viewer_tracks.specs.Viewers.{times_in};
-ghost use Rattle.viewer_tracks.specs.Columns.{times_meant};
-ghost use Rattle.desk_image.specs.Pictures.{entry_of};
+ghost use Rattle.viewer_tracks.specs.Columns.{times_on, times_meant};
+ghost use Rattle.desk_image.specs.Pictures.{entry_of, stack_of as levels_of};
 ghost use Rattle.desk_imaging.specs.Images.{size_of, leaves_menu, is_framed, is_in_use, are_texts, has_id};
-ghost use Rattle.desk_imaging.specs.Images.{is_kept_known};
-ghost use Rattle.desk_imaging.specs.Images.{stands_once, are_placed, is_tracked, main_size, is_caret, is_selection};
+ghost use Rattle.desk_imaging.specs.Images.{are_known, is_kept_known, highest};
+ghost use Rattle.desk_imaging.specs.Images.{stands_once, are_placed, is_shown, main_size, is_caret, is_selection};
 ghost use Rattle.desk_imaging.specs.Images.{same_position, same_ranked, is_pictured};
 
 use crate::imaging::ranked_in;
 use desk_core::tables::{has_id, is_in_sight};
 use desk_core::viewers::{Texts, ViewerTable, viewer_or_none};
 use desk_core::views::position_in;
-use desk_image::{Ranked, Stretch, ViewerPicture};
+use desk_image::{Ranked, Stretch, Stretches, ViewerPicture};
 use desktop_definitions::{Caret, Kept, Selection, Viewer};
 
 // ---- texts and the viewers that show them
@@ -30,14 +30,14 @@ fn size_of(texts: &Texts, number: u16) -> u32
 }
 
 /// Whether another viewer leaves its menu to a viewer.
-fn leaves_menu(entry: (u8, Viewer), other: (u8, Viewer)) -> bool
+fn leaves_menu(entry: (u16, Viewer), other: (u16, Viewer)) -> bool
     ensures { result ≡ leaves_menu entry other }
 {
     other.1.main != entry.1.menu && (other.1.menu != entry.1.menu || other.0 == entry.0)
 }
 
 /// Whether all viewers do.
-fn all_leave_menu(viewers: &ViewerTable, entry: (u8, Viewer)) -> bool
+fn all_leave_menu(viewers: &ViewerTable, entry: (u16, Viewer)) -> bool
     ensures { result ≡ list_all (leaves_menu entry) viewers.now.items }
 {
     viewers.iter().all(|other| leaves_menu(entry, *other))
@@ -45,7 +45,7 @@ fn all_leave_menu(viewers: &ViewerTable, entry: (u8, Viewer)) -> bool
 
 /// Whether both texts of a viewer are there, and its menu is its own.
 #[tactic(auto, unfolding(crate::specs::Images::is_framed))]
-fn is_framed(texts: &Texts, viewers: &ViewerTable, entry: (u8, Viewer)) -> bool
+fn is_framed(texts: &Texts, viewers: &ViewerTable, entry: (u16, Viewer)) -> bool
     ensures { result ≡ is_framed texts.now.entries viewers.now.items entry }
 {
     let viewer = entry.1;
@@ -89,7 +89,7 @@ pub fn are_texts(texts: &Texts, viewers: &ViewerTable) -> bool
 
 #[tactic(auto, using(crate::proofs::DraftLemmas::times_are))]
 /// How often a viewer stands in a track.
-fn times_in(stretches: &[Stretch], id: u8) -> usize
+fn times_in(stretches: &[Stretch], id: u16) -> usize
     ensures { result ≡ times_in id (map entry_of stretches.now) }
 {
     let mut times = 0;
@@ -101,8 +101,22 @@ fn times_in(stretches: &[Stretch], id: u8) -> usize
     times
 }
 
+#[tactic(auto, using(crate::proofs::DraftLemmas::times_over))]
+/// How often a viewer stands in the tracks of a column.
+fn times_on(stack: &[Stretches], id: u16) -> usize
+    requires { length stack.now < 2 ^ 8 }
+    ensures value { result ≡ times_on id (levels_of stack.now) }
+    ensures few { result < 2 ^ 16 }
+{
+    let mut times = 0;
+    for track in stack {
+        times += times_in(track.as_slice(), id);
+    }
+    times
+}
+
 /// Once where that viewer is the kept one.
-fn times_kept(kept: Option<Kept>, id: u8) -> usize
+fn times_kept(kept: Option<Kept>, id: u16) -> usize
     ensures value { result ≡ times_meant id (option_map (λ k. k.viewer) kept) }
     ensures few { result ≤ 1 }
 {
@@ -113,12 +127,21 @@ fn times_kept(kept: Option<Kept>, id: u8) -> usize
 }
 
 /// Whether all of a track are viewers.
-fn are_known(viewers: &ViewerTable, stretches: &[Stretch]) -> bool
+fn are_viewers(viewers: &ViewerTable, stretches: &[Stretch]) -> bool
     ensures { result ≡ list_all (λ e. has_id viewers.now.items e.viewer) (map entry_of stretches.now) }
 {
     stretches
         .iter()
         .all(|stretch| has_id(viewers.as_slice(), stretch.viewer))
+}
+
+/// Whether all of the tracks of a column are.
+fn are_known(viewers: &ViewerTable, stack: &[Stretches]) -> bool
+    ensures { result ≡ are_known viewers.now.items (levels_of stack.now) }
+{
+    stack
+        .iter()
+        .all(|track| are_viewers(viewers, track.as_slice()))
 }
 
 /// Whether the kept one is a viewer, where there is one.
@@ -132,25 +155,25 @@ fn is_kept_known(viewers: &ViewerTable, kept: Option<Kept>) -> bool
 }
 
 /// Whether a viewer stands in one place.
-fn stands_once(user: &[Stretch], system: &[Stretch], kept: Option<Kept>, id: u8) -> bool
+fn stands_once(user: &[Stretches], system: &[Stretches], kept: Option<Kept>, id: u16) -> bool
     requires user { length user.now < 2 ^ 8 }
     requires system { length system.now < 2 ^ 8 }
-    ensures { result ≡ (times_in id (map entry_of user.now) + times_in id (map entry_of system.now)
+    ensures { result ≡ (times_on id (levels_of user.now) + times_on id (levels_of system.now)
         + times_meant id (option_map (λ k. k.viewer) kept) == 1) }
 {
-    times_in(user, id) + times_in(system, id) + times_kept(kept, id) == 1
+    times_on(user, id) + times_on(system, id) + times_kept(kept, id) == 1
 }
 
 /// Whether each viewer does.
 fn stand_once(
-    user: &[Stretch],
-    system: &[Stretch],
+    user: &[Stretches],
+    system: &[Stretches],
     kept: Option<Kept>,
     viewers: &ViewerTable,
 ) -> bool
     requires user { length user.now < 2 ^ 8 }
     requires system { length system.now < 2 ^ 8 }
-    ensures { result ≡ list_all (stands_once (map entry_of user.now) (map entry_of system.now) kept) viewers.now.items }
+    ensures { result ≡ list_all (stands_once (levels_of user.now) (levels_of system.now) kept) viewers.now.items }
 {
     viewers
         .iter()
@@ -160,14 +183,14 @@ fn stand_once(
 /// Whether each viewer stands in one place, in a track or as the kept one, and nothing else does.
 #[tactic(auto, unfolding(crate::specs::Images::are_placed))]
 pub fn are_placed(
-    user: &[Stretch],
-    system: &[Stretch],
+    user: &[Stretches],
+    system: &[Stretches],
     kept: Option<Kept>,
     viewers: &ViewerTable,
 ) -> bool
     requires user { length user.now < 2 ^ 8 }
     requires system { length system.now < 2 ^ 8 }
-    ensures { result ≡ are_placed (map entry_of user.now) (map entry_of system.now) kept viewers.now.items }
+    ensures { result ≡ are_placed (levels_of user.now) (levels_of system.now) kept viewers.now.items }
 {
     stand_once(user, system, kept, viewers)
         && are_known(viewers, user)
@@ -177,54 +200,64 @@ pub fn are_placed(
 
 // ---- what is marked
 
-/// Whether a viewer stands in a track.
-fn is_tracked(user: &[Stretch], system: &[Stretch], id: u8) -> bool
-    ensures { result ≡ is_tracked (map entry_of user.now) (map entry_of system.now) id }
+/// Whether a viewer stands in the highest track of a column.
+fn stands_highest(stack: &[Stretches], id: u16) -> bool
+    ensures { result ≡ nat_lt 0 (times_in id (highest (levels_of stack.now))) }
 {
-    times_in(user, id) > 0 || times_in(system, id) > 0
+    match stack.last() {
+        Some(track) => times_in(track.as_slice(), id) > 0,
+        None => false,
+    }
+}
+
+/// Whether a viewer stands in a track that is shown.
+fn is_shown(user: &[Stretches], system: &[Stretches], id: u16) -> bool
+    ensures { result ≡ is_shown (levels_of user.now) (levels_of system.now) id }
+{
+    stands_highest(user, id) || stands_highest(system, id)
 }
 
 /// How many characters the main text of a viewer has.
-fn main_size(texts: &Texts, viewers: &ViewerTable, id: u8) -> u32
+fn main_size(texts: &Texts, viewers: &ViewerTable, id: u16) -> u32
     ensures { result ≡ main_size texts.now.entries viewers.now.items id }
 {
     size_of(texts, viewer_or_none(viewers, id).main)
 }
 
-/// Whether a caret stands in a viewer of a track, within its text.
+/// Whether a caret stands in a viewer of a track that is shown, within its text.
 #[tactic(auto, unfolding(crate::specs::Images::is_caret))]
 pub fn is_caret(
     texts: &Texts,
     viewers: &ViewerTable,
-    user: &[Stretch],
-    system: &[Stretch],
+    user: &[Stretches],
+    system: &[Stretches],
     caret: Option<Caret>,
 ) -> bool
-    ensures { result ≡ is_caret texts.now.entries viewers.now.items (map entry_of user.now) (map entry_of system.now)
+    ensures { result ≡ is_caret texts.now.entries viewers.now.items (levels_of user.now) (levels_of system.now)
         caret }
 {
     match caret {
         None => true,
         Some(caret) => {
-            is_tracked(user, system, caret.viewer)
+            is_shown(user, system, caret.viewer)
                 && caret.position <= main_size(texts, viewers, caret.viewer)
         }
     }
 }
 
-/// Whether a selection has some character, of a viewer of a track.
+/// Whether a selection has some character, of a viewer of a track that is shown.
 #[tactic(auto, unfolding(crate::specs::Images::is_selection))]
 fn is_selection(
     texts: &Texts,
     viewers: &ViewerTable,
-    user: &[Stretch],
-    system: &[Stretch],
+    user: &[Stretches],
+    system: &[Stretches],
     selection: Selection,
 ) -> bool
-    ensures { result ≡ is_selection texts.now.entries viewers.now.items (map entry_of user.now)
-        (map entry_of system.now) selection }
+    ensures { result ≡ is_selection texts.now.entries viewers.now.items (levels_of user.now)
+        (levels_of system.now) selection }
 {
-    is_tracked(user, system, selection.viewer)
+    is_shown(user, system, selection.viewer)
         && selection.beg < selection.end
         && selection.end <= main_size(texts, viewers, selection.viewer)
 }
@@ -233,12 +266,12 @@ fn is_selection(
 pub fn are_selections(
     texts: &Texts,
     viewers: &ViewerTable,
-    user: &[Stretch],
-    system: &[Stretch],
+    user: &[Stretches],
+    system: &[Stretches],
     selections: &[Selection],
 ) -> bool
-    ensures { result ≡ list_all (is_selection texts.now.entries viewers.now.items (map entry_of user.now)
-        (map entry_of system.now)) selections.now }
+    ensures { result ≡ list_all (is_selection texts.now.entries viewers.now.items (levels_of user.now)
+        (levels_of system.now)) selections.now }
 {
     selections.iter().all(|selection| is_selection(texts, viewers, user, system, *selection))
 }

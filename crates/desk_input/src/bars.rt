@@ -4,7 +4,7 @@ ghost use Rattle.std.specs.Option.{option_map, unwrap_or};
 ghost use Rattle.sector_disk.specs.Trail.{CountsFault};
 ghost use Rattle.char_file.specs.Source.{OnlyReads};
 ghost use Rattle.piece_ring.specs.Flat.{flat};
-ghost use Rattle.viewer_tracks.specs.Columns.{IsPlaced};
+ghost use Rattle.viewer_tracks.specs.Columns.{IsOnTop};
 ghost use Rattle.desktop_definitions.specs.Viewers.{text_in, viewer_or_none};
 ghost use Rattle.desktop_definitions.specs.Seen.{seen};
 ghost use Rattle.desktop_definitions.specs.Sound.{IsOver};
@@ -45,12 +45,12 @@ fn is_in_row(cell: Option<(u8, u8)>, row: u8) -> bool
 /// source failed in this call.
 fn start_of_row<S: CharSource>(
     desk: &Desk,
-    id: u8,
+    id: u16,
     row: u8,
     source: &mut S,
 ) -> Result<Option<u32>, Fault>
     requires over { IsOver (S.characters source.old) (kept desk.now) }
-    requires placed { IsPlaced id (kept desk.now).columns }
+    requires placed { IsOnTop id (kept desk.now).columns }
     requires row { row < rows_of (kept desk.now) id }
     ensures exact { IfOk result (λ start. S.honest source.old
         → start ≡ start_of_row (seen (S.characters source.old) (kept desk.now)) id row) }
@@ -72,9 +72,14 @@ fn start_of_row<S: CharSource>(
 
 /// Where the line begins that stands as far down in a viewer's main text as a row in its main frame. Fault: the
 /// source failed in this call.
-fn start_of_share<S: CharSource>(desk: &Desk, id: u8, row: u8, source: &mut S) -> Result<u32, Fault>
+fn start_of_share<S: CharSource>(
+    desk: &Desk,
+    id: u16,
+    row: u8,
+    source: &mut S,
+) -> Result<u32, Fault>
     requires over { IsOver (S.characters source.old) (kept desk.now) }
-    requires placed { IsPlaced id (kept desk.now).columns }
+    requires placed { IsOnTop id (kept desk.now).columns }
     requires row { row < rows_of (kept desk.now) id }
     ensures exact { IfOk result (λ start. S.honest source.old
         → start ≡ start_of_share (seen (S.characters source.old) (kept desk.now)) id row) }
@@ -90,7 +95,7 @@ fn start_of_share<S: CharSource>(desk: &Desk, id: u8, row: u8, source: &mut S) -
 }
 
 /// A viewer shows its main text from that position on.
-fn begin_at(desk: &mut Desk, id: u8, org: u32)
+fn begin_at(desk: &mut Desk, id: u16, org: u32)
     ensures { kept desk.new ≡ with_org (kept desk.old) id org }
 {
     set_org(&mut desk.viewers, id, org);
@@ -99,11 +104,11 @@ fn begin_at(desk: &mut Desk, id: u8, org: u32)
 /// The line in that row of a viewer comes first, where there is one.
 pub fn scroll_to_row<S: CharSource>(
     desk: &mut Desk,
-    id: u8,
+    id: u16,
     row: u8,
     source: &mut S,
 ) -> Result<Reply, Stop>
-    requires placed { IsPlaced id (kept desk.old).columns }
+    requires placed { IsOnTop id (kept desk.old).columns }
     requires row { row < rows_of (kept desk.old) id }
     requires over { IsOver (S.characters source.old) (kept desk.old) }
     ensures answered { IfOk result (Settles S.CharSource (λ d. Ok (scrolled_to_row d id row))
@@ -120,11 +125,11 @@ pub fn scroll_to_row<S: CharSource>(
 /// The line comes first that stands as far down in the text as the row in the frame.
 pub fn scroll_to_share<S: CharSource>(
     desk: &mut Desk,
-    id: u8,
+    id: u16,
     row: u8,
     source: &mut S,
 ) -> Result<Reply, Stop>
-    requires placed { IsPlaced id (kept desk.old).columns }
+    requires placed { IsOnTop id (kept desk.old).columns }
     requires row { row < rows_of (kept desk.old) id }
     requires over { IsOver (S.characters source.old) (kept desk.old) }
     ensures answered { IfOk result (Settles S.CharSource (λ d. Ok (scrolled_to_share d id row))
@@ -137,8 +142,8 @@ pub fn scroll_to_share<S: CharSource>(
 }
 
 /// A viewer shows its text from the beginning.
-pub fn scroll_to_top<S: CharSource>(desk: &mut Desk, id: u8, source: &mut S) -> Result<Reply, Stop>
-    requires placed { IsPlaced id (kept desk.old).columns }
+pub fn scroll_to_top<S: CharSource>(desk: &mut Desk, id: u16, source: &mut S) -> Result<Reply, Stop>
+    requires placed { IsOnTop id (kept desk.old).columns }
     requires over { IsOver (S.characters source.old) (kept desk.old) }
     ensures answered { IfOk result (Settles S.CharSource (λ d. Ok (with_org d id 0))
         source.old source.new (kept desk.old) (kept desk.new)) }

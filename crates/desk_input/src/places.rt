@@ -6,7 +6,7 @@ ghost use Rattle.piece_ring.specs.Flat.{flat};
 ghost use Rattle.viewer_tracks.specs.declared.display.TheConstants.{ROWS, COLUMNS};
 ghost use Rattle.viewer_tracks.specs.declared.display.Track.{Track as ATrack};
 ghost use Rattle.viewer_tracks.specs.Display.{left_of};
-ghost use Rattle.viewer_tracks.specs.Columns.{IsPlaced};
+ghost use Rattle.viewer_tracks.specs.Columns.{IsOnTop};
 ghost use Rattle.screen_pictures.specs.Picture.{width_of};
 ghost use Rattle.desktop_definitions.specs.declared.region.Region.TheVariants.{Menu, Bar, Body};
 ghost use Rattle.desktop_definitions.specs.Viewers.{text_in, viewer_or_none, rows_of};
@@ -26,7 +26,7 @@ use text_frames::Frame;
 use viewer_tracks::{COLUMNS, Place, SYSTEM_LEFT, ViewerId};
 
 /// The part of a viewer in which a cell of its place lies.
-fn part_of(id: u8, place: Place, x: u8, y: u8) -> Region
+fn part_of(id: u16, place: Place, x: u8, y: u8) -> Region
     requires { y < ROWS }
     ensures { result ≡ (if y + 1 == place.top then Menu id else (if x == place.x then Bar id else Body id)) }
 {
@@ -53,7 +53,7 @@ fn width(left: u8) -> u8
 }
 
 /// The characters between two positions of a viewer's text of `len` characters, with those at both.
-fn stretch(id: u8, p: u32, q: u32, len: u32) -> Selection
+fn stretch(id: u16, p: u32, q: u32, len: u32) -> Selection
     ensures { result ≡ record { viewer = id; beg = min p q; end = min (max p q + 1) len } }
 {
     Selection {
@@ -80,8 +80,8 @@ pub fn region_under(desk: &Desk, x: u8, y: u8) -> Region
 }
 
 /// The row of a viewer's main frame at row `y` of the display, counted from the frame's top.
-pub fn frame_row(desk: &Desk, id: u8, y: u8) -> u8
-    requires placed { IsPlaced id (kept desk.now).columns }
+pub fn frame_row(desk: &Desk, id: u16, y: u8) -> u8
+    requires placed { IsOnTop id (kept desk.now).columns }
     ensures { result ≡ frame_row (kept desk.now) id y }
 {
     let place = desk.tracks.place_of(ViewerId(id));
@@ -89,8 +89,8 @@ pub fn frame_row(desk: &Desk, id: u8, y: u8) -> u8
 }
 
 /// How many columns of text cells a viewer has.
-pub fn text_width(desk: &Desk, id: u8) -> u8
-    requires placed { IsPlaced id (kept desk.now).columns }
+pub fn text_width(desk: &Desk, id: u16) -> u8
+    requires placed { IsOnTop id (kept desk.now).columns }
     ensures width { result + 1 ≡ width (kept desk.now) id }
     ensures some { 0 < result }
     ensures fits { result < 50 }
@@ -100,8 +100,8 @@ pub fn text_width(desk: &Desk, id: u8) -> u8
 }
 
 /// The nearest column of a viewer's text cells to a column of the display.
-fn text_column(desk: &Desk, id: u8, x: u8) -> u8
-    requires placed { IsPlaced id (kept desk.now).columns }
+fn text_column(desk: &Desk, id: u16, x: u8) -> u8
+    requires placed { IsOnTop id (kept desk.now).columns }
     ensures { result ≡ text_column (kept desk.now) id x }
 {
     let left = desk.tracks.place_of(ViewerId(id)).x;
@@ -110,8 +110,8 @@ fn text_column(desk: &Desk, id: u8, x: u8) -> u8
 }
 
 /// The nearest column of a viewer's menu to a column of the display.
-fn menu_column(desk: &Desk, id: u8, x: u8) -> u8
-    requires placed { IsPlaced id (kept desk.now).columns }
+fn menu_column(desk: &Desk, id: u16, x: u8) -> u8
+    requires placed { IsOnTop id (kept desk.now).columns }
     ensures { result ≡ menu_column (kept desk.now) id x }
 {
     let left = desk.tracks.place_of(ViewerId(id)).x;
@@ -120,8 +120,8 @@ fn menu_column(desk: &Desk, id: u8, x: u8) -> u8
 }
 
 /// The nearest row of a viewer's main frame to a row of the display.
-fn text_row(desk: &Desk, id: u8, y: u8) -> u8
-    requires placed { IsPlaced id (kept desk.now).columns }
+fn text_row(desk: &Desk, id: u16, y: u8) -> u8
+    requires placed { IsOnTop id (kept desk.now).columns }
     requires some { 0 < rows_of (kept desk.now) id }
     ensures row { result ≡ text_row (kept desk.now) id y }
     ensures within { result < rows_of (kept desk.now) id }
@@ -134,13 +134,13 @@ fn text_row(desk: &Desk, id: u8, y: u8) -> u8
 /// call.
 pub fn position_in<S: CharSource>(
     desk: &Desk,
-    id: u8,
+    id: u16,
     column: u8,
     row: u8,
     source: &mut S,
 ) -> Result<u32, Fault>
     requires over { IsOver (S.characters source.old) (kept desk.now) }
-    requires placed { IsPlaced id (kept desk.now).columns }
+    requires placed { IsOnTop id (kept desk.now).columns }
     requires row { row < rows_of (kept desk.now) id }
     ensures exact { IfOk result (λ p. S.honest source.old
         → p ≡ position_in (seen (S.characters source.old) (kept desk.now)) id column row) }
@@ -166,13 +166,13 @@ pub fn position_in<S: CharSource>(
 /// The position in a viewer's main text that is shown nearest to a cell. Fault: the source failed in this call.
 pub fn text_position<S: CharSource>(
     desk: &Desk,
-    id: u8,
+    id: u16,
     x: u8,
     y: u8,
     source: &mut S,
 ) -> Result<u32, Fault>
     requires over { IsOver (S.characters source.old) (kept desk.now) }
-    requires placed { IsPlaced id (kept desk.now).columns }
+    requires placed { IsOnTop id (kept desk.now).columns }
     requires some { 0 < rows_of (kept desk.now) id }
     ensures exact { IfOk result (λ p. S.honest source.old
         → p ≡ text_position (seen (S.characters source.old) (kept desk.now)) id x y) }
@@ -189,12 +189,12 @@ pub fn text_position<S: CharSource>(
 /// The position in a viewer's menu that is shown nearest to a column. Fault: the source failed in this call.
 pub fn menu_position<S: CharSource>(
     desk: &Desk,
-    id: u8,
+    id: u16,
     x: u8,
     source: &mut S,
 ) -> Result<u32, Fault>
     requires over { IsOver (S.characters source.old) (kept desk.now) }
-    requires placed { IsPlaced id (kept desk.now).columns }
+    requires placed { IsOnTop id (kept desk.now).columns }
     ensures exact { IfOk result (λ p. S.honest source.old
         → p ≡ menu_position (seen (S.characters source.old) (kept desk.now)) id x) }
     ensures within { IfOk result (λ p. p ≤ length (flat (text_called (kept desk.now) id true))) }
@@ -218,13 +218,13 @@ pub fn menu_position<S: CharSource>(
 /// failed in this call.
 pub fn stretch_drawn<S: CharSource>(
     desk: &Desk,
-    id: u8,
+    id: u16,
     from: (u8, u8),
     to: (u8, u8),
     source: &mut S,
 ) -> Result<Selection, Fault>
     requires over { IsOver (S.characters source.old) (kept desk.now) }
-    requires placed { IsPlaced id (kept desk.now).columns }
+    requires placed { IsOnTop id (kept desk.now).columns }
     requires some { 0 < rows_of (kept desk.now) id }
     ensures exact { IfOk result (λ s. S.honest source.old
         → s ≡ stretch_drawn (seen (S.characters source.old) (kept desk.now)) id from.0 from.1 to.0 to.1) }

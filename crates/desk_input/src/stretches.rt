@@ -24,7 +24,7 @@ use text_core::Buffer;
 pub fn copy_to<S: CharSource>(
     desk: &mut Desk,
     alloc: Global,
-    id: u8,
+    id: u16,
     pos: u32,
     source: &mut S,
 ) -> Result<Reply, Stop>
@@ -53,7 +53,7 @@ pub fn copy_to<S: CharSource>(
 pub fn take_looks<S: CharSource>(
     desk: &mut Desk,
     alloc: Global,
-    id: u8,
+    id: u16,
     pos: u32,
     source: &mut S,
 ) -> Result<Reply, Stop>
@@ -131,7 +131,7 @@ pub fn send_to_caret<S: CharSource>(
 
 /// The look of the character at `pos` in a viewer's main text, of the last one at its end, and `DEFAULT_LOOK` where
 /// there is none.
-fn look_at(desk: &Desk, id: u8, pos: u32) -> Look
+fn look_at(desk: &Desk, id: u16, pos: u32) -> Look
     requires { pos ≤ length (flat (kept_main (kept desk.now) id)) }
     ensures { result ≡ look_at pos (flat (kept_main (kept desk.now) id)) }
 {

@@ -1,7 +1,7 @@
 -- What a store knows of its disk between two calls, and how it is after them. `d` is what is known of a disk.
 use Rattle.std.proofs.Common.{◌≡◌, ◌+◌, ◌/◌, ◌<◌, ◌≤◌, ℕ, inl, refl, sym, ◌∙◌, ap, subst, arith, true, false}
 use Rattle.command_table.specs.declared.version.Version.{Version}
-use Rattle.command_table.specs.declared.version.Version.TheVariants.{V1, V2}
+use Rattle.command_table.specs.declared.version.Version.TheVariants.{V1, V2, V3}
 use Rattle.command_table.specs.Versions.{version_number}
 use Rattle.sector_disk.specs.declared.disk.Disk.{Ghosts}
 use Rattle.sector_disk.specs.Confined.{IsConfined}
@@ -30,6 +30,7 @@ use Rattle.desk_slots.proofs.Settling.{kept_on}
 pub known : (version : Version) → (FIRST_LAYOUT ≤ version_number version) × (version_number version ≤ LAYOUT)
 known V1 = (omega arith, omega arith)
 known V2 = (omega arith, omega arith)
+known V3 = (omega arith, omega arith)
 
 -- what a store knows of its disk: room, and where it is honest what stands there
 abbrev Knows : {D : Type 0} → Ghosts D → D → ℕ → ℕ → ℕ → ℕ → LiveDesktop → Type 0

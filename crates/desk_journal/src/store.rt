@@ -122,7 +122,7 @@ impl<D: Disk> Store<D> {
         if disk.sectors() < STORE_SECTORS {
             return Err((Error::TooSmall, disk));
         }
-        match lay_out(&mut disk, version.number()) {
+        match lay_out(&mut disk, version) {
             Ok(()) => Ok(disk),
             Err(Fault) => Err((Error::Fault, disk)),
         }

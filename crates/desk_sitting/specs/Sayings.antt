@@ -24,7 +24,7 @@ reasons =
     codes "refused (9): the cell lies outside the display" ∷
     codes "refused (10): it isn't there from the caret on" ∷
     codes "refused (11): there is no such font, colour or offset" ∷
-    codes "refused" ∷
+    codes "refused (12): the column has eight tracks over one another" ∷
     codes "refused (13): a viewer of one row can't be parted" ∷ []
 
 abbrev pub reason : ℕ → List ℕ

@@ -37,7 +37,7 @@ const REASONS: [&[u8]; 14] = [
     b"refused (9): the cell lies outside the display",
     b"refused (10): it isn't there from the caret on",
     b"refused (11): there is no such font, colour or offset",
-    b"refused",
+    b"refused (12): the column has eight tracks over one another",
     b"refused (13): a viewer of one row can't be parted",
 ];
 

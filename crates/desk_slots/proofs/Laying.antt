@@ -1,7 +1,10 @@
 -- A disk that was just laid out shows the empty desktop.
 use Rattle.std.proofs.Common.{◌≡◌, ◌≢◌, ℕ, ◌+◌, ◌*◌, ◌/◌, ◌%◌, ◌<◌, ◌≤◌, List, [], take, length, get_or, refl, sym}
 use Rattle.std.proofs.Common.{◌∙◌, ap, subst, arith, rules}
-use Rattle.std.proofs.Common.{true, false}
+use Rattle.std.proofs.Common.{Bool, true, false, if◌then◌else◌}
+use Rattle.command_table.specs.Versions.{version_number}
+use Rattle.command_table.specs.declared.version.Version.{Version}
+use Rattle.command_table.specs.declared.version.Version.TheVariants.{V1, V2, V3}
 use Rattle.std.proofs.lemmas.List.{get_or-take}
 use Rattle.sector_disk.specs.Trail.{Moment, Trail, now, written, settled, Touches, Only}
 use Rattle.sector_disk.proofs.Touching.{still_reads}
@@ -12,7 +15,8 @@ use Rattle.desktop_definitions.specs.Seen.{seen}
 use Rattle.desktop_definitions.specs.Sound.{IsSound, IsWithin, IsKeptWhole}
 use Rattle.desktop_laws.specs.StepLaws.{empty_sound}
 use Rattle.sector_disk.specs.declared.disk.TheConstants.{SECTOR_BYTES}
-use Rattle.desk_image.specs.Image.{IsSpellable, Spells}
+use Rattle.desk_image.specs.declared.empty.TheConstants.{EMPTY_IMAGE, FLAT_EMPTY_IMAGE}
+use Rattle.desk_image.specs.Image.{has_overlays, IsSpellable, Spells}
 use Rattle.desk_image.specs.Laws.{EmptyLaw, empty_bytes}
 use Rattle.store_layout.specs.declared.head.Head.{Head}
 use Rattle.store_layout.specs.declared.layout.TheConstants.{FIRST_LAYOUT, LABEL, LAYOUT, STORE_SECTORS}
@@ -45,35 +49,64 @@ empty_whole = record {
   sound = λ characters. subst IsSound (sym (seen_empty characters)) empty_sound;
 }
 
-empty_parts : IsSpellable empty_desktop
-unfolding empty_desktop
-empty_parts = search rules
+-- a column has one track at least
+one_track : (b : Bool) (most : ℕ) → 1 ≤ most → 1 ≤ (if b then most else 1)
+one_track true most some = some
+one_track false most some = omega arith
 
-empty_spelled : (law : EmptyLaw) → Spells 0 empty_bytes empty_desktop
+empty_parts : (version : ℕ) → IsSpellable version empty_desktop
 unfolding empty_desktop
-empty_spelled law = record { count = refl; whole = empty_whole; parts = empty_parts; exact = sym law.0 }
+empty_parts version = record {
+  texts = search rules;
+  files = search rules;
+  copied = search rules;
+  deleted = search rules;
+  numbers = search rules;
+  ids = search rules;
+  user = one_track (has_overlays version) _ (omega arith);
+  system = one_track (has_overlays version) _ (omega arith);
+}
+
+pub empty_spelled : EmptyLaw → (version : ℕ) → Spells version 0 (empty_bytes version) empty_desktop
+unfolding empty_desktop
+empty_spelled law version = record {
+  count = refl;
+  whole = empty_whole;
+  parts = empty_parts version;
+  exact = sym (law version).0;
+}
+
+few_of : (b : Bool) → length (if b then EMPTY_IMAGE else FLAT_EMPTY_IMAGE) ≤ 30
+few_of true = omega arith
+few_of false = omega arith
+
+-- it has few bytes in each version
+pub few_bytes : (version : ℕ) → length (empty_bytes version) ≤ 30
+few_bytes version = few_of (has_overlays version)
+
+-- every version is one of a layout
+pub versions_known : (version : Version) → (FIRST_LAYOUT ≤ version_number version) × (version_number version ≤ LAYOUT)
+versions_known V1 = (omega arith, omega arith)
+versions_known V2 = (omega arith, omega arith)
+versions_known V3 = (omega arith, omega arith)
 
 -- ---- slot 0
 
--- how many bytes the image of the empty desktop has
-abbrev first_extent : ℕ
-first_extent = length empty_bytes
-
-module _ (before one two three four last : Moment) (image head_bytes shut label : List ℕ) (version : ℕ)
-    (first : FIRST_LAYOUT ≤ version) (newest : version ≤ LAYOUT) (law : EmptyLaw)
-    (image_is : take first_extent image ≡ empty_bytes)
+module _ (before one two three four last : Moment) (image head_bytes shut label bytes : List ℕ) (version : ℕ)
+    (known : (FIRST_LAYOUT ≤ version) × (version ≤ LAYOUT)) (spelled : Spells version 0 bytes empty_desktop)
+    (few : length bytes ≤ 30) (image_is : take (length bytes) image ≡ bytes)
     (is_head : head_of head_bytes ≡ record {
       version = version;
       epoch = 1;
       written = 0;
-      extent = first_extent;
+      extent = length bytes;
       area = 0;
     })
     (is_shut : is_open shut ≡ false) (image_written : one ≡ written before (image_at 0) image)
     (head_written : two ≡ written one (slot_head 0) head_bytes) (gate_written : three ≡ written two (gate 0 0) shut)
     (label_written : four ≡ written three LABEL label) (synced : last ≡ settled four) where
   abbrev new_head : Head
-  new_head = record { version = version; epoch = 1; written = 0; extent = first_extent; area = 0 }
+  new_head = record { version = version; epoch = 1; written = 0; extent = length bytes; area = 0 }
 
   after_label : (n : ℕ) → n ≢ LABEL → last.reads n ≡ three.reads n
   after_label n other = ap (λ m. m.reads n) (synced ∙ ap settled label_written)
@@ -93,23 +126,23 @@ module _ (before one two three four last : Moment) (image head_bytes shut label 
       ∙ reads_elsewhere one (slot_head 0) (image_at 0) head_bytes (omega arith)
       ∙ ap (λ m. m.reads (image_at 0)) image_written ∙ reads_here before (image_at 0) image
 
-  image_stored : stored last.reads (image_at 0) first_extent ≡ empty_bytes
-  image_stored = stored_by_index last.reads (image_at 0) first_extent empty_bytes refl (λ i low.
-      ap (λ l. get_or l i 0) (sym image_is) ∙ get_or-take first_extent image i 0 low
+  image_stored : stored last.reads (image_at 0) (length bytes) ≡ bytes
+  image_stored = stored_by_index last.reads (image_at 0) (length bytes) bytes refl (λ i low.
+      ap (λ l. get_or l i 0) (sym image_is) ∙ get_or-take (length bytes) image i 0 low
       ∙ ap (λ l. get_or l i 0) (sym image_there) ∙ sym (in_first i low))
     where
-      in_first : (i : ℕ) → i < first_extent → byte_of last.reads (image_at 0) i ≡ get_or (last.reads (image_at 0)) i 0
+      in_first : (i : ℕ) → i < length bytes → byte_of last.reads (image_at 0) i ≡ get_or (last.reads (image_at 0)) i 0
       in_first i low =
-          let sector : image_at 0 + i / SECTOR_BYTES ≡ image_at 0 = omega (arith, low) in
-          let place : i % SECTOR_BYTES ≡ i = omega (arith, low) in
+          let sector : image_at 0 + i / SECTOR_BYTES ≡ image_at 0 = omega (arith, low, few) in
+          let place : i % SECTOR_BYTES ≡ i = omega (arith, low, few) in
           ap (λ n. get_or (last.reads n) (i % SECTOR_BYTES) 0) sector
           ∙ ap (λ n. get_or (last.reads (image_at 0)) n 0) place
 
-  made : Makes new_head empty_bytes [] empty_desktop
+  made : Makes new_head bytes [] empty_desktop
   made = record {
     kept = empty_desktop;
     tail = omega arith;
-    spells = empty_spelled law;
+    spells = spelled;
     is = empty_seen;
   }
 
@@ -117,11 +150,11 @@ module _ (before one two three four last : Moment) (image head_bytes shut label 
   fresh = record {
     good = subst IsGoodHead (sym here)
         (record {
-          first = first;
-          newest = newest;
+          first = known.0;
+          newest = known.1;
           epoch = omega arith;
           written = omega arith;
-          extent = omega arith;
+          extent = omega (arith, few);
           area = omega arith;
         });
     version_is = ap (λ h. h.version) here;
@@ -129,7 +162,7 @@ module _ (before one two three four last : Moment) (image head_bytes shut label 
     image = subst (λ h. Makes h (stored last.reads (image_at 0) h.extent)
         (stored last.reads (area_start h.area) (SECTOR_BYTES * full_sectors h.written)) empty_desktop) (sym here)
         (subst (λ l. Makes new_head l (stored last.reads (area_start 0) 0) empty_desktop) (sym image_stored)
-        (subst (λ l. Makes new_head empty_bytes l empty_desktop) (sym (none_stored last.reads (area_start 0))) made));
+        (subst (λ l. Makes new_head bytes l empty_desktop) (sym (none_stored last.reads (area_start 0))) made));
     journal = ap is_open (after_label (gate 0 0) (omega arith) ∙ ap (λ m. m.reads (gate 0 0)) gate_written
         ∙ reads_here two (gate 0 0) shut) ∙ is_shut;
   }

@@ -201,8 +201,11 @@ module _ {size slot : ℕ} {h : Head} {old mid : Trail} (found : IsLocated size 
 pub known_version : {h : Head} → IsGoodHead h → version_of h.version ≡ None → ⊥
 known_version {h = h} good none = elim (cases_eq h.version FIRST_LAYOUT) [
   | inl first ↦ (let is : version_of FIRST_LAYOUT ≡ None = subst (λ n. version_of n ≡ None) first none in absurd cc)
-  | inr later ↦ (let second : h.version ≡ LAYOUT = omega (arith, good.first, good.newest, later) in
-      let is : version_of LAYOUT ≡ None = subst (λ n. version_of n ≡ None) second none in absurd cc)
+  | inr later ↦ elim (cases_eq h.version LAYOUT) [
+    | inl last ↦ (let is : version_of LAYOUT ≡ None = subst (λ n. version_of n ≡ None) last none in absurd cc)
+    | inr between ↦ (let second : h.version ≡ 2 = omega (arith, good.first, good.newest, later, between) in
+        let is : version_of 2 ≡ None = subst (λ n. version_of n ≡ None) second none in absurd cc)
+  ]
 ]
 
 -- the head that was found names what the desktop of it has in the area, after reads

@@ -7,6 +7,7 @@ use Rattle.sector_disk.specs.declared.disk.TheConstants.{SECTOR_BYTES}
 use Rattle.sector_disk.specs.Trail.{Moment, written, settled}
 use Rattle.sector_disk.specs.Stored.{stored, stored_same}
 use Rattle.sector_streams.proofs.Filled.{reads_here, reads_elsewhere}
+use Rattle.command_table.specs.Versions.{newest_version}
 use Rattle.desktop_definitions.specs.Desktop.{KeptDesktop}
 use Rattle.desktop_definitions.specs.Limits.{most_written}
 use Rattle.desktop_definitions.specs.Seen.{seen}
@@ -37,9 +38,9 @@ module _ (first second third last : Moment) (slot number extent count at_area : 
     (characters : List ℕ)
     (head_bytes shut : List ℕ) (low : slot < SLOTS) (low_area : at_area < AREAS) (from_one : 1 ≤ number)
     (fits : extent ≤ IMAGE_BYTES)
-    (over : IsOver characters d) (parts : IsSpellable d)
+    (over : IsOver characters d) (parts : IsSpellable newest_version d)
     (image : stored first.reads (image_at slot) extent
-    ≡ drop (SECTOR_BYTES * full_sectors (length characters)) characters ++ image_bytes (image_of d))
+    ≡ drop (SECTOR_BYTES * full_sectors (length characters)) characters ++ image_bytes newest_version (image_of d))
     (area : HasFront first.reads at_area (full_sectors (length characters)) characters)
     (is_head : head_of head_bytes ≡ record {
       version = LAYOUT;
@@ -66,7 +67,7 @@ module _ (first second third last : Moment) (slot number extent count at_area : 
   tail = drop (SECTOR_BYTES * full_sectors (length characters)) characters
 
   abbrev bytes : List ℕ
-  bytes = image_bytes (image_of d)
+  bytes = image_bytes newest_version (image_of d)
 
   behind : last ≡ settled (written second (gate slot 0) shut)
   behind = synced ∙ ap settled gate_written

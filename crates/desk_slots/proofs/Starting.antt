@@ -50,12 +50,13 @@ all_taken old tail rest count was room = record {
 -- ---- the slot
 
 -- the start of a slot, by another name of its bytes
-pub start_from : {honest : Type 0} {bytes bytes' tail : List ℕ} {written : ℕ} {d : KeptDesktop}
-    → (honest → bytes' ≡ bytes) → IsStart honest bytes' written tail d → IsStart honest bytes written tail d
-start_from {written = written} {d = d} same start = record {
+pub start_from : {honest : Type 0} {bytes bytes' tail : List ℕ} {version written : ℕ} {d : KeptDesktop}
+    → (honest → bytes' ≡ bytes) → IsStart honest bytes' version written tail d
+    → IsStart honest bytes version written tail d
+start_from {version = version} {written = written} {d = d} same start = record {
   front = λ h. start.front h ∙ ap (take (left_over written)) (same h);
   enough = λ h. subst (λ l. left_over written ≤ length l) (same h) (start.enough h);
-  spelled = λ h. subst (λ l. Spells written (drop (left_over written) l) d) (same h) (start.spelled h);
+  spelled = λ h. subst (λ l. Spells version written (drop (left_over written) l) d) (same h) (start.spelled h);
   whole = start.whole;
   count = start.count;
 }
@@ -68,7 +69,7 @@ module _ (c : Content) (slot : ℕ) (h : Head) (is : head c slot ≡ h) where
   module _ (characters : List ℕ) (made : characters ≡ area_bytes c h.area (full_sectors h.written)
       ++ take (left_over h.written) (stored c (image_at slot) h.extent)) where
     pub image_loaded : (d : KeptDesktop) → left_over h.written ≤ length (stored c (image_at slot) h.extent)
-        → Spells h.written (drop (left_over h.written) (stored c (image_at slot) h.extent)) d
+        → Spells h.version h.written (drop (left_over h.written) (stored c (image_at slot) h.extent)) d
         → HasImage c slot (seen characters d)
     image_loaded d enough spelled = subst (MadeBy (seen characters d)) (sym is) (record {
       kept = d;
@@ -78,7 +79,7 @@ module _ (c : Content) (slot : ℕ) (h : Head) (is : head c slot ≡ h) where
     })
 
   pub none_loaded : (left_over h.written ≤ length (stored c (image_at slot) h.extent) → (d : KeptDesktop)
-      → Spells h.written (drop (left_over h.written) (stored c (image_at slot) h.extent)) d → ⊥)
+      → Spells h.version h.written (drop (left_over h.written) (stored c (image_at slot) h.extent)) d → ⊥)
       → (start : Desktop) → HasImage c slot start → ⊥
   none_loaded none start has = let made : MadeBy start h = subst (MadeBy start) is has in
       none made.tail made.kept made.spells
@@ -89,7 +90,7 @@ pub shown_by : (c c' : Content) (slot : ℕ) (h : Head) → c' ≡ c → head c 
     → characters_of c live ≡ area_bytes c h.area (full_sectors h.written) ++ take (left_over h.written) tail
     → take (left_over h.written) tail ≡ take (left_over h.written) (stored c (image_at slot) h.extent)
     → left_over h.written ≤ length (stored c (image_at slot) h.extent)
-    → Spells h.written (drop (left_over h.written) (stored c (image_at slot) h.extent)) d
+    → Spells h.version h.written (drop (left_over h.written) (stored c (image_at slot) h.extent)) d
     → HasImage c slot (seen_live c' live)
 shown_by c c' slot h same is tail d live desktop characters front enough spelled =
     subst (λ (content : Content). HasImage c slot (seen_live content live)) (sym same)

@@ -6,6 +6,7 @@ use Rattle.sector_disk.specs.Trail.{Content}
 use Rattle.sector_streams.specs.declared.filling.Filling.{Filling}
 use Rattle.sector_streams.specs.Filling.{first_sector, most_sectors}
 use Rattle.sector_disk.specs.Stored.{Holds, stored, stored_held}
+use Rattle.command_table.specs.Versions.{newest_version}
 use Rattle.desktop_definitions.specs.Desktop.{KeptDesktop}
 use Rattle.desktop_definitions.specs.Sound.{IsKeptWhole}
 use Rattle.desk_image.specs.declared.limits.TheConstants.{IMAGE_BYTES}
@@ -15,11 +16,11 @@ use Rattle.store_layout.specs.Meaning.{left_over}
 use Rattle.store_layout.specs.declared.layout.TheConstants.{IMAGE_SECTORS}
 
 -- the characters that are left over and the image have room in a slot
-pub has_room : (d : KeptDesktop) (tail : List ℕ) (count : ℕ) → IsKeptWhole d → IsSpellable d
-    → length tail ≡ left_over d.written → count ≡ length (image_bytes (image_of d)) → RoomLaw
+pub has_room : (d : KeptDesktop) (tail : List ℕ) (count : ℕ) → IsKeptWhole d → IsSpellable newest_version d
+    → length tail ≡ left_over d.written → count ≡ length (image_bytes newest_version (image_of d)) → RoomLaw
     → length tail + count ≤ IMAGE_BYTES
 has_room d tail count whole parts tail_is count_is law =
-    let room = law d.written (image_bytes (image_of d)) d
+    let room = law newest_version d.written (image_bytes newest_version (image_of d)) d
     (record { count = refl; whole = whole; parts = parts; exact = refl }) in
     omega (arith, tail_is, count_is, room)
 

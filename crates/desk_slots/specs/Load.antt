@@ -39,19 +39,20 @@ pub record IsReadWhole (c : Content) (slot version count : ℕ) (from to : Deskt
   pub is : to ≡ steps_in version from events
 
 -- The start of a slot was read from the bytes of its image: the characters at their front stand at the front of a sector,
--- and the rest of the bytes spells the desktop.
-pub record IsStart (honest : Type 0) (bytes : List ℕ) (written : ℕ) (tail : List ℕ) (d : KeptDesktop) : Type 0 where
+-- and the rest of the bytes spells the desktop in that version.
+pub record IsStart (honest : Type 0) (bytes : List ℕ) (version written : ℕ) (tail : List ℕ) (d : KeptDesktop)
+    : Type 0 where
   pub front : honest → take (left_over written) tail ≡ take (left_over written) bytes
   pub enough : honest → left_over written ≤ length bytes
-  pub spelled : honest → Spells written (drop (left_over written) bytes) d
+  pub spelled : honest → Spells version written (drop (left_over written) bytes) d
   -- whatever was read
   pub whole : IsKeptWhole d
   pub count : d.written ≡ written
 
 -- behind the characters at the front of these bytes no desktop is spelled
-abbrev pub HasNoStart : List ℕ → ℕ → Type 0
-HasNoStart bytes written = left_over written ≤ length bytes → (d : KeptDesktop)
-    → Spells written (drop (left_over written) bytes) d → ⊥
+abbrev pub HasNoStart : List ℕ → ℕ → ℕ → Type 0
+HasNoStart bytes version written = left_over written ≤ length bytes → (d : KeptDesktop)
+    → Spells version written (drop (left_over written) bytes) d → ⊥
 
 -- why a store isn't opened, where the image of a slot isn't read
 abbrev pub image_error : ℕ → ImageFault → Error

@@ -5,6 +5,7 @@ ghost use Rattle.sector_disk.specs.Trail.{Content};
 ghost use Rattle.sector_disk.specs.Stored.{stored};
 ghost use Rattle.sector_streams.specs.Draining.{IsLoaded, IsOnDisk, bytes_left};
 ghost use Rattle.char_pages.specs.Pages.{saved_sectors, cached_of};
+ghost use Rattle.command_table.specs.Versions.{version_number};
 ghost use Rattle.desktop_definitions.specs.Desktop.{Desktop as ADesktop};
 ghost use Rattle.desktop_definitions.specs.Sound.{IsKeptWhole};
 ghost use Rattle.desk_image.specs.Passing.{OnlyGets};
@@ -22,7 +23,7 @@ use crate::Error;
 use crate::live::LiveDesktop;
 use char_pages::Pages;
 use desk_image::{ByteSource, ImageFault};
-use event_loop::Desktop;
+use event_loop::{Desktop, Version};
 use sector_disk::{Disk, SECTOR_BYTES, Sector};
 use sector_streams::{Draining, SectorSource};
 use std::alloc::{AllocError as NoMemory, Global};
@@ -69,17 +70,19 @@ fn read_tail<S: ByteSource>(
 fn read_image<S: ByteSource>(
     alloc: Global,
     source: &mut S,
+    version: Version,
     written: u32,
     tail: &mut Sector,
 ) -> Result<Desktop, ImageFault>
-    ensures start { IfOk result (IsStart (S.honest source.old) (S.remaining source.old) written tail.new) }
+    ensures start { IfOk result
+        (IsStart (S.honest source.old) (S.remaining source.old) (version_number version) written tail.new) }
     ensures damaged { IsErrOf result ImageFault.Damaged → S.honest source.old
-        → HasNoStart (S.remaining source.old) written }
+        → HasNoStart (S.remaining source.old) (version_number version) written }
     ensures only { OnlyGets S.honest S.same_ground source.old source.new }
     ensures faults { FailsAs ImageFault.Fault IsImageFault result (S.failures source.old) (S.failures source.new) }
 {
     read_tail(source, (written % SECTOR_BYTES) as usize, tail)?;
-    Desktop::from_image(alloc, source, written)
+    Desktop::from_image(version, alloc, source, written)
 }
 
 /// Reads an image through its sectors, from where the draining stands.
@@ -87,6 +90,7 @@ fn read_through<D: Disk>(
     alloc: Global,
     disk: &mut D,
     draining: &mut Draining,
+    version: Version,
     written: u32,
     tail: &mut Sector,
 ) -> Result<Desktop, ImageFault>
@@ -95,20 +99,21 @@ fn read_through<D: Disk>(
     ensures kept { IsConfined D.size D.honest D.trail Nowhere disk.old disk.new }
     ensures faults { FailsAs ImageFault.Fault IsImageFault result (D.failures disk.old) (D.failures disk.new) }
     ensures start { IfOk result (IsStart (D.honest disk.old)
-        (bytes_left (now (D.trail disk.old)).reads draining.old) written tail.new) }
+        (bytes_left (now (D.trail disk.old)).reads draining.old) (version_number version) written tail.new) }
     ensures damaged { IsErrOf result ImageFault.Damaged → D.honest disk.old
-        → HasNoStart (bytes_left (now (D.trail disk.old)).reads draining.old) written }
+        → HasNoStart (bytes_left (now (D.trail disk.old)).reads draining.old) (version_number version) written }
 {
     let mut source = SectorSource::over(disk, draining);
-    read_image(alloc, &mut source, written, tail)
+    read_image(alloc, &mut source, version, written, tail)
 }
 
-/// Reads the image of a slot of this head: the characters that are left over, to the front of a sector, and then its
+/// Reads the image of a slot of this head, in that version: the characters that are left over, to the front of a sector, and then its
 /// desktop. The characters of the area aren't read.
 fn load_start<D: Disk>(
     alloc: Global,
     disk: &mut D,
     slot: u32,
+    version: Version,
     head: &Head,
     tail: &mut Sector,
 ) -> Result<Desktop, ImageFault>
@@ -118,12 +123,14 @@ fn load_start<D: Disk>(
     ensures kept { IsConfined D.size D.honest D.trail Nowhere disk.old disk.new }
     ensures faults { FailsAs ImageFault.Fault IsImageFault result (D.failures disk.old) (D.failures disk.new) }
     ensures start { IfOk result (IsStart (D.honest disk.old)
-        (stored (now (D.trail disk.old)).reads (image_at slot) head.now.extent) head.now.written tail.new) }
+        (stored (now (D.trail disk.old)).reads (image_at slot) head.now.extent) (version_number version)
+        head.now.written tail.new) }
     ensures damaged { IsErrOf result ImageFault.Damaged → D.honest disk.old
-        → HasNoStart (stored (now (D.trail disk.old)).reads (image_at slot) head.now.extent) head.now.written }
+        → HasNoStart (stored (now (D.trail disk.old)).reads (image_at slot) head.now.extent) (version_number version)
+        head.now.written }
 {
     let mut draining = Draining::new(image_at(slot), head.extent);
-    read_through(alloc, disk, &mut draining, head.written, tail)
+    read_through(alloc, disk, &mut draining, version, head.written, tail)
 }
 
 /// A desktop of the characters that a head names: those that fill sectors stand in its area, and the others at the
@@ -152,17 +159,19 @@ fn with_pages(
     Ok(LiveDesktop::over(alloc, desktop, pages, head.area))
 }
 
-/// Loads what a slot of this head starts from. Memory is taken for the image and for the characters that are left over,
+/// Loads what a slot of this head, which has that version, starts from. Memory is taken for the image and for the characters that are left over,
 /// fewer than a sector has.
 pub fn load_slot<D: Disk>(
     alloc: Global,
     disk: &mut D,
     slot: u32,
+    version: Version,
     head: &Head,
 ) -> Result<LiveDesktop, Error>
     requires room { STORE_SECTORS ≤ D.size disk.old }
     requires two { slot < SLOTS }
     requires good { IsGoodHead head.now }
+    requires version { version_number version ≡ head.now.version }
     ensures kept { IsConfined D.size D.honest D.trail Nowhere disk.old disk.new }
     ensures faults { FailsAs Error.Fault OfReplay result (D.failures disk.old) (D.failures disk.new) }
     ensures live { IfOk result (λ live. IsLive live) }
@@ -176,7 +185,7 @@ pub fn load_slot<D: Disk>(
         → (n ≡ image_at slot) × ((start : ADesktop) → HasImage (now (D.trail disk.old)).reads slot start → ⊥) }
 {
     let mut tail = [0; SECTOR_BYTES as usize];
-    match load_start(alloc, disk, slot, head, &mut tail) {
+    match load_start(alloc, disk, slot, version, head, &mut tail) {
         Ok(desktop) => Ok(with_pages(alloc, desktop, head, &tail)?),
         Err(fault) => Err(error_of(fault, slot)),
     }

@@ -9,6 +9,7 @@
 ghost use Rattle.std.specs.Prelude.{◌≡◌, ◌+◌, ◌*◌, ◌/◌, ◌<◌, ◌≤◌, ◌++◌, true, false, ℕ, List, length, drop, OnOk, IfOk};
 ghost use Rattle.sector_disk.specs.Stored.{stored};
 ghost use Rattle.sector_streams.specs.Filling.{first_sector, most_sectors, SectorsOf, InRange, HasTaken};
+ghost use Rattle.command_table.specs.Versions.{newest_version};
 ghost use Rattle.desk_image.specs.Image.{image_of, image_bytes, IsSpellable};
 ghost use Rattle.store_layout.specs.Layout.{slot_gate, image_at, area_at};
 ghost use Rattle.store_layout.specs.Meaning.{Means, full_sectors, left_over};
@@ -96,12 +97,12 @@ fn put_through<D: Disk>(
     ensures cause { CountsFault result (D.failures disk.old) (D.failures disk.new) }
     ensures from { first_sector filling.new ≡ first_sector filling.old }
     ensures limit { most_sectors filling.new ≡ most_sectors filling.old }
-    ensures spelled { IfOk result (λ n. IsSpellable desktop.now.desktop
-        × (n ≡ length (image_bytes (image_of desktop.now.desktop)))) }
+    ensures spelled { IfOk result (λ n. IsSpellable newest_version desktop.now.desktop
+        × (n ≡ length (image_bytes newest_version (image_of desktop.now.desktop)))) }
     ensures taken { OnOk result (D.honest disk.old → (before : List ℕ)
         → HasTaken (now (D.trail disk.old)).reads filling.old before
         → HasTaken (now (D.trail disk.new)).reads filling.new
-        (before ++ (tail.now ++ image_bytes (image_of desktop.now.desktop)))) }
+        (before ++ (tail.now ++ image_bytes newest_version (image_of desktop.now.desktop)))) }
 {
     let mut sink = SectorSink::over(disk, filling);
     desktop.put_image(tail, &mut sink)
@@ -122,9 +123,9 @@ fn stream<D: Disk>(
     ensures kept { IsConfined D.size D.honest D.trail (InRange (image_at slot) IMAGE_SECTORS) disk.old disk.new }
     ensures cause { CountsFault result (D.failures disk.old) (D.failures disk.new) }
     ensures fits { IfOk result (λ n. n ≤ IMAGE_BYTES) }
-    ensures spelled { OnOk result (IsSpellable desktop.now.desktop) }
+    ensures spelled { OnOk result (IsSpellable newest_version desktop.now.desktop) }
     ensures stored { IfOk result (λ n. D.honest disk.old → stored (now (D.trail disk.new)).reads (image_at slot) n
-        ≡ tail.now ++ image_bytes (image_of desktop.now.desktop)) }
+        ≡ tail.now ++ image_bytes newest_version (image_of desktop.now.desktop)) }
 {
     images_have_room();
     let mut filling = Filling::new(image_at(slot), IMAGE_SECTORS);
@@ -142,14 +143,14 @@ fn fill_slot<D: Disk>(disk: &mut D, desktop: &LiveDesktop, place: SlotPlace) -> 
         disk.old disk.new }
     ensures cause { CountsFault result (D.failures disk.old) (D.failures disk.new) }
     ensures fits { IfOk result (λ n. n ≤ IMAGE_BYTES) }
-    ensures spelled { OnOk result (IsSpellable desktop.now.desktop) }
+    ensures spelled { OnOk result (IsSpellable newest_version desktop.now.desktop) }
     ensures front { OnOk result (D.honest disk.old → HasFront (now (D.trail disk.new)).reads place.area
         (full_sectors (length (characters_of (now (D.trail disk.old)).reads desktop.now)))
         (characters_of (now (D.trail disk.old)).reads desktop.now)) }
     ensures stored { IfOk result (λ n. D.honest disk.old → stored (now (D.trail disk.new)).reads (image_at place.slot) n
         ≡ drop (SECTOR_BYTES * full_sectors (length (characters_of (now (D.trail disk.old)).reads desktop.now)))
         (characters_of (now (D.trail disk.old)).reads desktop.now)
-        ++ image_bytes (image_of desktop.now.desktop)) }
+        ++ image_bytes newest_version (image_of desktop.now.desktop)) }
 {
     let rest = desktop.rest();
     let width = SECTOR_BYTES as usize;

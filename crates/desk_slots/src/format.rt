@@ -1,5 +1,6 @@
 //! A new store.
 ghost use Rattle.std.specs.Prelude.{◌≡◌, ◌<◌, ◌≤◌, [], length, take, true, false, OnOk};
+ghost use Rattle.command_table.specs.Versions.{version_number};
 ghost use Rattle.desktop_definitions.specs.Desktop.{empty_desktop};
 ghost use Rattle.store_layout.specs.Layout.{is_label, is_open, slot_gate};
 ghost use Rattle.desk_image.specs.Laws.{empty_bytes};
@@ -8,11 +9,11 @@ ghost use Rattle.desk_slots.specs.Written.{IsFilled};
 ghost use Rattle.desk_slots.specs.Words.{CountsFault, now, IsConfined};
 
 use crate::checkpoint::open_slot;
-use desk_image::{EMPTY_IMAGE, empty_image};
+use desk_image::{empty_image, empty_image_of};
+use event_loop::Version;
 use sector_disk::{Disk, Fault, SECTOR_BYTES, Sector};
 use store_layout::{
-    FIRST_LAYOUT, Head, LABEL, LAYOUT, STORE_SECTORS, closed_gate, gate, image_at, label,
-    slot_gate, slot_head,
+    Head, LABEL, STORE_SECTORS, closed_gate, gate, image_at, label, slot_gate, slot_head,
 };
 
 /// Closes the gates of both slots, so that whatever is there is no store from now on.
@@ -29,35 +30,35 @@ fn close_slots<D: Disk>(disk: &mut D) -> Result<(), Fault>
     Ok(())
 }
 
-/// The image of the empty desktop, and then zeros.
-fn first_image() -> Sector
-    ensures { take (length empty_bytes) result ≡ empty_bytes }
+/// The image of the empty desktop in a version, and then zeros.
+fn first_image(version: Version) -> Sector
+    ensures { take (length (empty_bytes (version_number version))) result ≡ empty_bytes (version_number version) }
 {
+    let bytes = empty_image_of(version);
     let mut image = [0; SECTOR_BYTES as usize];
-    image[..EMPTY_IMAGE.len()].copy_from_slice(&EMPTY_IMAGE);
+    image[..bytes.len()].copy_from_slice(bytes);
     image
 }
 
 /// Writes slot 0 with the empty desktop, in that version, and the label.
-fn write_start<D: Disk>(disk: &mut D, version: u32) -> Result<(), Fault>
-    requires room { STORE_SECTORS ≤ D.size disk.old }
-    requires first { FIRST_LAYOUT ≤ version }
-    requires newest { version ≤ LAYOUT }
+fn write_start<D: Disk>(disk: &mut D, version: Version) -> Result<(), Fault>
+    requires { STORE_SECTORS ≤ D.size disk.old }
     ensures kept { IsConfined D.size D.honest D.trail
         (λ n. (n < STORE_SECTORS) × ¬ (n ≡ slot_gate 1)) disk.old disk.new }
     ensures cause { CountsFault result (D.failures disk.old) (D.failures disk.new) }
     ensures label { OnOk result (D.honest disk.old → is_label ((now (D.trail disk.new)).reads LABEL) ≡ true) }
-    ensures start { OnOk result (D.honest disk.old → IsFilled (now (D.trail disk.new)) 0 version 0 1 [] empty_desktop) }
+    ensures start { OnOk result (D.honest disk.old → IsFilled (now (D.trail disk.new)) 0 (version_number version) 0 1
+        [] empty_desktop) }
 {
     let head = Head {
-        version,
+        version: version.number(),
         epoch: 1,
         written: 0,
-        extent: EMPTY_IMAGE.len() as u32,
+        extent: empty_image_of(version).len() as u32,
         area: 0,
     };
     empty_image();
-    disk.write(image_at(0), &first_image())?;
+    disk.write(image_at(0), &first_image(version))?;
     disk.write(slot_head(0), &head.sector())?;
     disk.write(gate(0, 0), &closed_gate())?;
     disk.write(LABEL, &label())?;
@@ -66,14 +67,12 @@ fn write_start<D: Disk>(disk: &mut D, version: u32) -> Result<(), Fault>
 }
 
 /// Makes the disk a store of the empty desktop, in that version.
-pub fn lay_out<D: Disk>(disk: &mut D, version: u32) -> Result<(), Fault>
-    requires room { STORE_SECTORS ≤ D.size disk.old }
-    requires first { FIRST_LAYOUT ≤ version }
-    requires newest { version ≤ LAYOUT }
+pub fn lay_out<D: Disk>(disk: &mut D, version: Version) -> Result<(), Fault>
+    requires { STORE_SECTORS ≤ D.size disk.old }
     ensures kept { IsConfined D.size D.honest D.trail (λ n. n < STORE_SECTORS) disk.old disk.new }
     ensures cause { CountsFault result (D.failures disk.old) (D.failures disk.new) }
     ensures empty { OnOk result (D.honest disk.old
-        → IsKept (D.size disk.new) (D.trail disk.new) 0 version 1 0 empty_desktop) }
+        → IsKept (D.size disk.new) (D.trail disk.new) 0 (version_number version) 1 0 empty_desktop) }
 {
     close_slots(disk)?;
     write_start(disk, version)?;

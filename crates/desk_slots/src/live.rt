@@ -2,7 +2,7 @@
 ghost use Rattle.std.specs.Prelude.{◌≡◌, ◌<◌, ◌≤◌, ◌*◌, ◌++◌, ℕ, Ok, IfOk, OnOk, IsErrOf, None, option_map, length};
 ghost use Rattle.std.specs.Prelude.{false};
 ghost use Rattle.char_pages.specs.Pages.{base_of, saved_of, saved_sectors, rest_of, cached_of, renewed_of};
-ghost use Rattle.command_table.specs.Versions.{version_number};
+ghost use Rattle.command_table.specs.Versions.{version_number, newest_version};
 ghost use Rattle.desktop_definitions.specs.Desktop.{file_of};
 ghost use Rattle.desk_image.specs.Image.{image_of, image_bytes, IsSpellable};
 ghost use Rattle.desk_image.specs.Streams.{Puts};
@@ -95,12 +95,14 @@ impl LiveDesktop {
         }
     }
 
-    /// Puts these characters and then its image, and returns how many bytes the image has. It takes no memory.
+    /// Puts these characters and then its image, in the newest version, and returns how many bytes the image has. It
+    /// takes no memory.
     pub fn put_image<K: ByteSink>(&self, tail: &[u8], sink: &mut K) -> Result<u32, Fault>
         requires { IsLive self.now }
-        ensures spelled { IfOk result (λ n. IsSpellable self.now.desktop
-            × (n ≡ length (image_bytes (image_of self.now.desktop)))) }
-        ensures puts { Puts K.ByteSink result (tail.now ++ image_bytes (image_of self.now.desktop)) sink.old sink.new }
+        ensures spelled { IfOk result (λ n. IsSpellable newest_version self.now.desktop
+            × (n ≡ length (image_bytes newest_version (image_of self.now.desktop)))) }
+        ensures puts { Puts K.ByteSink result (tail.now ++ image_bytes newest_version (image_of self.now.desktop))
+            sink.old sink.new }
     {
         sink.put(tail)?;
         self.desktop.put_image(sink)

@@ -143,8 +143,8 @@ pub fn load<D: Disk>(alloc: Global, disk: &mut D) -> Result<Loaded, Error>
         → HasSlotInUse (D.size disk.old) (now (D.trail disk.old)).reads }
 {
     let (slot, head) = locate(disk)?;
-    let mut desktop = load_slot(alloc, disk, slot, &head)?;
     let version = version_of(&head);
+    let mut desktop = load_slot(alloc, disk, slot, version, &head)?;
     let events = replay(alloc, disk, slot, version, &mut desktop)?;
     Ok(Loaded {
         desktop,

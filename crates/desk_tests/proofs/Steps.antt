@@ -30,7 +30,7 @@ use Rattle.desktop_definitions.specs.Effects.{file_opened, document_opened, log_
 use Rattle.desktop_definitions.specs.Effects.{viewer_copied, log_cleared, directory_logged, files_deleted, stored}
 use Rattle.desktop_definitions.specs.Commands.{commanded, called}
 use Rattle.desktop_definitions.specs.Effects.{look_set, selection_set, searched, collected}
-use Rattle.desktop_definitions.specs.Listing.{entries_of}
+use Rattle.desktop_definitions.specs.Listing.{entries_of, stack_entries}
 use Rattle.desktop_definitions.specs.Shown.{shown_screen}
 use Rattle.desk_tests.proofs.StepWords.{Case, Listing, Row, replied, wanted, listed, list_wanted, shown, row_wanted}
 use Rattle.desk_tests.proofs.StepWords.{replied_in, not_called}
@@ -74,5 +74,5 @@ abbrev pub listings : List Listing
 listings = pair_listing ∷ shared_listing ∷ scrolled_listing ∷ wide_listing ∷ []
 
 pub lists_are_right : map listed listings ≡ map list_wanted listings
-unfolding entries_of track_of empty_desktop
+unfolding entries_of stack_entries track_of empty_desktop
 lists_are_right = refl

@@ -5,25 +5,25 @@ use std::process::Abort;
 use viewer_tracks::{ROWS, Track, Tracks, ViewerId};
 
 /// Opens a viewer in the user track.
-fn open(rt: &impl Abort, tracks: &mut Tracks, viewer: u8, y: u8) -> Option<ViewerId> {
+fn open(rt: &impl Abort, tracks: &mut Tracks, viewer: u16, y: u8) -> Option<ViewerId> {
     assert!(rt; !tracks.contains(ViewerId(viewer)));
     tracks.open(ViewerId(viewer), 0, y)
 }
 
 /// Moves the top of a viewer that is placed.
-fn change(rt: &impl Abort, tracks: &mut Tracks, viewer: u8, y: u8) {
-    assert!(rt; tracks.contains(ViewerId(viewer)));
+fn change(rt: &impl Abort, tracks: &mut Tracks, viewer: u16, y: u8) {
+    assert!(rt; tracks.is_on_top(ViewerId(viewer)));
     tracks.change(ViewerId(viewer), y);
 }
 
 /// Closes a viewer that is placed.
-fn close(rt: &impl Abort, tracks: &mut Tracks, viewer: u8) {
-    assert!(rt; tracks.contains(ViewerId(viewer)));
+fn close(rt: &impl Abort, tracks: &mut Tracks, viewer: u16) {
+    assert!(rt; tracks.is_on_top(ViewerId(viewer)));
     tracks.close(ViewerId(viewer));
 }
 
 /// The rows of a viewer that is placed.
-fn rows(rt: &impl Abort, tracks: &Tracks, viewer: u8) -> (u8, u8) {
+fn rows(rt: &impl Abort, tracks: &Tracks, viewer: u16) -> (u8, u8) {
     assert!(rt; tracks.contains(ViewerId(viewer)));
     let place = tracks.place_of(ViewerId(viewer));
     (place.bottom, place.top)
@@ -32,13 +32,13 @@ fn rows(rt: &impl Abort, tracks: &Tracks, viewer: u8) -> (u8, u8) {
 /// What is done to a viewer of the user track, and the row that it is given where it takes one.
 #[derive(Clone, Copy)]
 enum Move {
-    Open(u8, u8),
-    Change(u8, u8),
-    Close(u8),
+    Open(u16, u8),
+    Change(u16, u8),
+    Close(u16),
 }
 
 /// Does that. The viewer that is gone with it, or 0.
-fn made(rt: &impl Abort, tracks: &mut Tracks, one: Move) -> u8 {
+fn made(rt: &impl Abort, tracks: &mut Tracks, one: Move) -> u16 {
     match one {
         Move::Open(viewer, y) => open(rt, tracks, viewer, y).map_or(0, |gone| gone.0),
         Move::Change(viewer, y) => {
@@ -54,7 +54,7 @@ fn made(rt: &impl Abort, tracks: &mut Tracks, one: Move) -> u8 {
 
 /// Makes moves from an empty display on, and asserts of each which viewer is gone then, and of one viewer from which
 /// row to which it stands.
-fn expect_moves(rt: &impl Abort, moves: &[(Move, u8, u8, (u8, u8))]) {
+fn expect_moves(rt: &impl Abort, moves: &[(Move, u16, u16, (u8, u8))]) {
     let mut tracks = Tracks::new();
     for (one, gone, viewer, place) in moves {
         assert_eq!(rt; made(rt, &mut tracks, *one), *gone);
@@ -141,7 +141,7 @@ fn two_tracks(rt: HostRuntime) {
 /// Opens a viewer in a track that is told by the viewer of each row, 0 in the filler, and returns the viewer that is
 /// gone, or 0. The new viewer gets the rows of the one that has the row under y, the lowest row where y is 0, from its
 /// first row up to y.
-fn open_in_rows(rows: &mut [u8], viewer: u8, y: u8) -> u8
+fn open_in_rows(rows: &mut [u16], viewer: u16, y: u8) -> u16
     requires { length rows.old ≡ 32 }
 {
     let height = usize::from(y.min(32));

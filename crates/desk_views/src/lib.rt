@@ -3,4 +3,4 @@
 
 mod views;
 
-pub use views::{list_track, paint};
+pub use views::{list_column, paint};

@@ -1,13 +1,17 @@
 //! What a desk shows and lists of its viewers.
-ghost use Rattle.std.specs.Prelude.{◌≡◌, ◌≤◌, ◌++◌, ℕ, List, length, map, All, IfOk, OnOk};
+ghost use Rattle.std.specs.Prelude.{◌≡◌, ◌<◌, ◌≤◌, ◌+◌, ◌==◌, ◌++◌, ◌∷◌, [], ℕ, List};
+ghost use Rattle.std.specs.Prelude.{if◌then◌else◌, length, map, All, IfOk, OnOk};
 ghost use Rattle.sector_disk.specs.Faults.{FailsAs};
 ghost use Rattle.char_file.specs.Source.{OnlyReads};
 ghost use Rattle.piece_ring.specs.Flat.{flat};
 ghost use Rattle.piece_ring.specs.Offsets.{AreWithin};
 ghost use Rattle.readers_scanners.specs.Reading.{contents};
-ghost use Rattle.viewer_tracks.specs.Columns.{IsPlaced};
+ghost use Rattle.viewer_tracks.specs.declared.display.TheConstants.{DEPTH};
+ghost use Rattle.viewer_tracks.specs.Display.{left_of};
+ghost use Rattle.viewer_tracks.specs.Columns.{IsPlaced, stack_of, track_on};
+ghost use Rattle.desktop_definitions.specs.declared.entry.Entry.TheVariants.{Over};
 ghost use Rattle.desktop_definitions.specs.Seen.{seen};
-ghost use Rattle.desktop_definitions.specs.Listing.{listed_name, viewer_entry, track_entries};
+ghost use Rattle.desktop_definitions.specs.Listing.{listed_name, viewer_entry, track_entries, column_entries};
 ghost use Rattle.desktop_definitions.specs.Unread.{without_name};
 ghost use Rattle.desktop_definitions.specs.Shown.{selection_in, shown_screen};
 ghost use Rattle.desktop_definitions.specs.Sound.{IsOver};
@@ -29,13 +33,13 @@ use std::alloc::Global;
 use std::vec::Vec;
 use text_core::Text;
 use text_frames::{Frame, FrameSelection};
-use viewer_tracks::{ROWS, Track, ViewerId};
+use viewer_tracks::{Track, ViewerId};
 
 /// A viewer with the number of its menu text and its main frame.
 #[derive(Clone, Copy)]
 pub struct View {
     /// The viewer's id.
-    pub id: u8,
+    pub id: u16,
     /// The number of its menu text.
     pub menu: u16,
     /// The frame of its main text.
@@ -68,9 +72,10 @@ pub fn paint<S: CharSource>(
     Ok(())
 }
 
-/// Adds an entry for each viewer of a track, from the bottom up. NoMemory where an allocation is refused, Fault
-/// where a character could not be read; the list then has some of them.
-pub fn list_track<S: CharSource>(
+/// Adds the entries of a column: its tracks from the lowest up, each with an entry for each of its viewers from the
+/// bottom up, and before these one of how many tracks there are up to it, where it lies over others. NoMemory where an
+/// allocation is refused, Fault where a character could not be read; the list then has some of them.
+pub fn list_column<S: CharSource>(
     desk: &Desk,
     alloc: Global,
     track: Track,
@@ -79,25 +84,70 @@ pub fn list_track<S: CharSource>(
 ) -> Result<(), Stop>
     requires { IsOver (S.characters source.old) (kept desk.now) }
     ensures entries { OnOk result (S.honest source.old → entries.new.items
-        ≡ entries.old.items ++ track_entries (seen (S.characters source.old) (kept desk.now)) track) }
+        ≡ entries.old.items ++ column_entries (seen (S.characters source.old) (kept desk.now)) track) }
     ensures unread { OnOk result ((all : List ℕ) → length all ≡ (kept desk.now).written
         → map without_name entries.new.items
-        ≡ map without_name entries.old.items ++ map without_name (track_entries (seen all (kept desk.now)) track)) }
+        ≡ map without_name entries.old.items ++ map without_name (column_entries (seen all (kept desk.now)) track)) }
     ensures reads { OnlyReads S.characters S.failures S.honest S.same_ground source.old source.new }
     ensures faults { FailsAs Stop.Fault IsStop result (S.failures source.old) (S.failures source.new) }
 {
-    for index in 0..ROWS {
-        let Some(id) = desk.tracks.viewer_in(track, index) else {
-            return Ok(());
-        };
+    for below in 0..desk.tracks.levels(track) {
+        list_over(track, below, entries)?;
+        list_level(desk, alloc, track, below + 1, entries, source)?;
+    }
+    Ok(())
+}
+
+/// Adds the entry of a track that lies over so many others, where there are any. NoMemory where an allocation is
+/// refused.
+fn list_over(track: Track, below: u8, entries: &mut Vec<Entry>) -> Result<(), NoMemory>
+    requires { below < DEPTH }
+    ensures { OnOk result (entries.new.items
+        ≡ entries.old.items ++ (if below == 0 then [] else Over (left_of track) (below + 1) ∷ [])) }
+{
+    if below == 0 {
+        return Ok(());
+    }
+    entries.push(Entry::Over {
+        x: track.left(),
+        depth: below + 1,
+    })?;
+    Ok(())
+}
+
+/// Adds an entry for each viewer of the track of a level, from the bottom up. The lowest track has level 1. NoMemory
+/// where an allocation is refused, Fault where a character could not be read; the list then has some of them.
+fn list_level<S: CharSource>(
+    desk: &Desk,
+    alloc: Global,
+    track: Track,
+    level: u8,
+    entries: &mut Vec<Entry>,
+    source: &mut S,
+) -> Result<(), Stop>
+    requires over { IsOver (S.characters source.old) (kept desk.now) }
+    requires some { 0 < level }
+    requires within { level ≤ length (stack_of (kept desk.now).columns track) }
+    ensures entries { OnOk result (S.honest source.old → entries.new.items
+        ≡ entries.old.items ++ track_entries (seen (S.characters source.old) (kept desk.now)) track
+        (track_on (stack_of (kept desk.now).columns track) level)) }
+    ensures unread { OnOk result ((all : List ℕ) → length all ≡ (kept desk.now).written
+        → map without_name entries.new.items
+        ≡ map without_name entries.old.items ++ map without_name (track_entries (seen all (kept desk.now)) track
+        (track_on (stack_of (kept desk.now).columns track) level))) }
+    ensures reads { OnlyReads S.characters S.failures S.honest S.same_ground source.old source.new }
+    ensures faults { FailsAs Stop.Fault IsStop result (S.failures source.old) (S.failures source.new) }
+{
+    for index in 0..desk.tracks.count(track, level) {
+        let (id, _) = desk.tracks.entry_in(track, level, index);
         let entry = entry_of(desk, alloc, track, id, source)?;
         entries.push(entry)?;
     }
     Ok(())
 }
 
-/// The entry of a viewer that stands in that track. NoMemory where an allocation is refused, Fault where a
-/// character could not be read.
+/// The entry of a viewer that stands in a track of that column, be that covered or not. NoMemory where an allocation is
+/// refused, Fault where a character could not be read.
 fn entry_of<S: CharSource>(
     desk: &Desk,
     alloc: Global,
@@ -151,7 +201,7 @@ fn menu_name<S: CharSource>(alloc: Global, menu: &Text, source: &mut S) -> Resul
 /// The views of all viewers.
 fn views_of(
     alloc: Global,
-    viewers: &[(u8, Viewer)],
+    viewers: &[(u16, Viewer)],
     caret: Option<Caret>,
     selections: &[Selection],
 ) -> Result<Vec<View>, NoMemory>
@@ -166,7 +216,7 @@ fn views_of(
 }
 
 /// The view of a viewer.
-fn view_of(entry: &(u8, Viewer), caret: Option<Caret>, selections: &[Selection]) -> View
+fn view_of(entry: &(u16, Viewer), caret: Option<Caret>, selections: &[Selection]) -> View
     requires { length selections.now ≤ 255 }
     ensures { result ≡ view_in caret selections.now entry.now }
 {
@@ -186,7 +236,7 @@ fn view_of(entry: &(u8, Viewer), caret: Option<Caret>, selections: &[Selection])
 }
 
 /// What is selected in that viewer.
-fn selection_in(selections: &[Selection], id: u8) -> Option<FrameSelection>
+fn selection_in(selections: &[Selection], id: u16) -> Option<FrameSelection>
     requires { length selections.now ≤ 255 }
     ensures { result ≡ selection_in selections.now id }
 {

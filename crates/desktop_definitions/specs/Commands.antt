@@ -8,7 +8,7 @@ use Rattle.command_table.specs.declared.command.Command.TheVariants.{SystemDirec
 use Rattle.command_table.specs.declared.command.Command.TheVariants.{SystemSetFont, SystemSetColor, SystemSetOffset}
 use Rattle.command_table.specs.declared.command.Command.TheVariants.{EditChangeFont, EditChangeColor}
 use Rattle.command_table.specs.declared.command.Command.TheVariants.{EditChangeOffset, EditStore, EditSearch}
-use Rattle.command_table.specs.declared.command.Command.TheVariants.{EditRecall, SystemCollect}
+use Rattle.command_table.specs.declared.command.Command.TheVariants.{EditRecall, SystemCollect, SystemGrow}
 use Rattle.command_table.specs.Call.{called_at}
 use Rattle.desktop_definitions.specs.Limits.{no_caret, no_command}
 use Rattle.desktop_definitions.specs.Limits.{no_viewer}
@@ -20,7 +20,7 @@ use Rattle.desktop_definitions.specs.Looks.{font_set, colour_set, offset_set}
 use Rattle.desktop_definitions.specs.declared.call.Call.{Call}
 use Rattle.desktop_definitions.specs.Call.{text_called, meant, name_of, number_of, names_of}
 use Rattle.desktop_definitions.specs.Effects.{file_opened, document_opened, log_opened, put_away, brought_back}
-use Rattle.desktop_definitions.specs.Effects.{viewer_copied, log_cleared, directory_logged, files_deleted, stored}
+use Rattle.desktop_definitions.specs.Effects.{viewer_copied, viewer_grown, log_cleared, directory_logged, files_deleted, stored}
 use Rattle.desktop_definitions.specs.Effects.{look_set, selection_set, searched, collected}
 
 -- what each command does where it is called
@@ -47,6 +47,7 @@ commanded d EditStore call = needs (meant d call) no_viewer (stored d)
 commanded d EditSearch call = needs (meant d call) no_viewer (searched d)
 commanded d EditRecall call = needs d.caret no_caret λ c. Ok (put_at_caret d d.deleted c)
 commanded d SystemCollect call = Ok (collected d)
+commanded d SystemGrow call = needs (meant d call) no_viewer (viewer_grown d)
 
 -- ---- calls
 

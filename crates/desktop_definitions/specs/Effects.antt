@@ -11,19 +11,20 @@ use Rattle.readers_scanners.specs.Form.{symbol}
 use Rattle.screen_pictures.specs.Bytes.{space}
 use Rattle.viewer_tracks.specs.declared.display.Track.TheVariants.{User, System}
 use Rattle.viewer_tracks.specs.Display.{left_of}
-use Rattle.viewer_tracks.specs.Columns.{track_of, placed_bottom, placed_top, after_close, allocated}
+use Rattle.viewer_tracks.specs.declared.display.TheConstants.{DEPTH}
+use Rattle.viewer_tracks.specs.Columns.{stack_of, track_of, placed_bottom, placed_top, after_close, allocated}
 use Rattle.command_table.specs.Parameters.{name_in}
 use Rattle.command_table.specs.Deciding.{can_be_deleted}
 use Rattle.desktop_definitions.specs.Words.{unwrap_or, is_at, keys_of, Look, Text, Kept}
 use Rattle.desktop_definitions.specs.Limits.{no_selection, no_file, too_many_files, wrong_symbol}
-use Rattle.desktop_definitions.specs.Limits.{not_found, too_low, most_pattern}
+use Rattle.desktop_definitions.specs.Limits.{not_found, too_deep, too_low, most_pattern}
 use Rattle.desktop_definitions.specs.Needs.{needs, unless}
 use Rattle.desktop_definitions.specs.Tables.{Files, name_cmp, put, has_room}
 use Rattle.desktop_definitions.specs.Desktop.{DesktopOf, Desktop, file_of, held}
 use Rattle.desktop_definitions.specs.Viewers.{viewer_of, text_in, newest, unmarked, without_viewer, opened_at}
 use Rattle.desktop_definitions.specs.Viewers.{text_of, main_of, menu_of, selected}
 use Rattle.desktop_definitions.specs.Change.{plain, bytes_of, looks_set, deletion, caret_shown, more_written}
-use Rattle.desktop_definitions.specs.Opening.{menu_line, opening, opening_on}
+use Rattle.desktop_definitions.specs.Opening.{menu_line, opening, opening_on, opening_over}
 use Rattle.desktop_definitions.specs.Shown.{caret_position}
 use Rattle.desktop_definitions.specs.Log.{line, logged, all_logged}
 
@@ -74,6 +75,18 @@ unfoldable pub viewer_copied : {X : Type 0} → DesktopOf (List X) → ℕ → R
 viewer_copied d v =
     let rows = placed_top d.columns v - placed_bottom d.columns v in
     if rows == 1 then Err too_low else Ok (parted d v rows)
+
+-- a second viewer of a viewer's text has the column of that whole, over the track in which it stands, with a copy of
+-- its menu and the same first line
+abbrev pub grown : {X : Type 0} → DesktopOf (List X) → ℕ → DesktopOf (List X)
+grown d v =
+    opening_over d (text_in d.texts (viewer_of d v).menu) (viewer_of d v).main (viewer_of d v).org
+    (track_of d.columns v)
+
+-- there has to be room for a track more
+unfoldable pub viewer_grown : {X : Type 0} → DesktopOf (List X) → ℕ → Result (DesktopOf (List X)) ℕ
+viewer_grown d v =
+    unless (nat_lt (length (stack_of d.columns (track_of d.columns v))) DEPTH) too_deep (Ok (grown d v))
 
 -- ---- files and the log
 

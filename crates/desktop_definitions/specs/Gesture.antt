@@ -9,7 +9,7 @@ use Rattle.event_bytes.specs.declared.keys.Keys.TheVariants.{Right, RightLeft, R
 use Rattle.text_core.specs.Attributes.{look_at}
 use Rattle.viewer_tracks.specs.declared.display.TheConstants.{ROWS, COLUMNS}
 use Rattle.viewer_tracks.specs.Display.{left_of}
-use Rattle.viewer_tracks.specs.Columns.{IsPlaced, track_of, placed_bottom, placed_top, seen_at, after_close}
+use Rattle.viewer_tracks.specs.Columns.{IsOnTop, track_of, placed_bottom, placed_top, seen_at, after_close}
 use Rattle.viewer_tracks.specs.Columns.{after_change as columns_changed}
 use Rattle.text_frames.specs.Lines.{line_start}
 use Rattle.text_frames.specs.Cells.{position_at, row_of}
@@ -162,9 +162,9 @@ pointed version d (Body v) RightLeft x0 y0 x1 y1 = taken_out d (stretch_drawn d 
 pointed version d (Body v) RightMiddle x0 y0 x1 y1 = sent_to_caret d (stretch_drawn d v x0 y0 x1 y1)
 pointed version d region keys x0 y0 x1 y1 = Ok d
 
--- The viewer of a region stands on the display; where row y is one of its main frame, it has such rows.
+-- The viewer of a region stands in a track that is shown; where row y is one of its main frame, it has such rows.
 abbrev pub IsRegionOf : {T : Type 0} → DesktopOf T → ℕ → Region → Type 0
 IsRegionOf d y Filler = ⊤
-IsRegionOf d y (Menu v) = IsPlaced v d.columns
-IsRegionOf d y (Bar v) = IsPlaced v d.columns × (frame_row d v y < rows_of d v)
-IsRegionOf d y (Body v) = IsPlaced v d.columns × (frame_row d v y < rows_of d v)
+IsRegionOf d y (Menu v) = IsOnTop v d.columns
+IsRegionOf d y (Bar v) = IsOnTop v d.columns × (frame_row d v y < rows_of d v)
+IsRegionOf d y (Body v) = IsOnTop v d.columns × (frame_row d v y < rows_of d v)

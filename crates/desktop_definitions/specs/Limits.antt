@@ -55,5 +55,8 @@ not_found = 10
 abbrev pub bad_value : ℕ
 bad_value = 11
 
+abbrev pub too_deep : ℕ
+too_deep = 12
+
 abbrev pub too_low : ℕ
 too_low = 13

@@ -11,7 +11,7 @@ use Rattle.desktop_definitions.specs.Change.{plain, insertion, showing, more_wri
 abbrev pub line : List ℕ → List ℕ
 line bytes = bytes ++ carriage_return ∷ []
 
--- the end of the log is shown in a viewer that shows the log and stands on the display
+-- the end of the log is shown in a viewer that shows the log and stands in a track, be that covered or not
 abbrev pub log_shown : Desktop → ℕ → Desktop
 log_shown d v = if shows d 0 v && nat_lt 0 (times_placed v d.columns) then showing d v (length (text_of d 0)) else d
 

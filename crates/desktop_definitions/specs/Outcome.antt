@@ -4,7 +4,7 @@ use Rattle.sector_disk.specs.Faults.{OneOf}
 use Rattle.desktop_definitions.specs.declared.reply.Reply.{Reply}
 use Rattle.desktop_definitions.specs.declared.reply.Reply.TheVariants.{Done, No}
 use Rattle.desktop_definitions.specs.Limits.{no_caret, no_selection, no_command, no_file, full, too_many_files}
-use Rattle.desktop_definitions.specs.Limits.{outside, wrong_symbol, no_viewer, not_found, bad_value, too_low}
+use Rattle.desktop_definitions.specs.Limits.{outside, wrong_symbol, no_viewer, not_found, bad_value, too_deep, too_low}
 use Rattle.desktop_definitions.specs.Desktop.{Desktop, KeptDesktop}
 use Rattle.desktop_definitions.specs.Seen.{seen}
 use Rattle.desktop_definitions.specs.Sound.{IsOver}
@@ -12,8 +12,7 @@ use Rattle.desktop_definitions.specs.Sound.{IsOver}
 -- the codes that there are
 abbrev pub reply_codes : List ℕ
 reply_codes = no_caret ∷ no_selection ∷ no_command ∷ no_file ∷ full ∷ too_many_files ∷ outside ∷ wrong_symbol ∷
-    no_viewer ∷
-    not_found ∷ bad_value ∷ too_low ∷ []
+    no_viewer ∷ not_found ∷ bad_value ∷ too_deep ∷ too_low ∷ []
 
 -- Done, or a refusal with one of the codes
 abbrev pub IsReply : Reply → Type 0

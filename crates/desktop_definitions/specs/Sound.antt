@@ -7,7 +7,7 @@ use Rattle.std.specs.Map.{values_of}
 use Rattle.event_bytes.specs.Bytes.{is_name}
 use Rattle.piece_ring.specs.Offsets.{AreWithin}
 use Rattle.viewer_tracks.specs.declared.display.TheConstants.{ROWS, COLUMNS}
-use Rattle.viewer_tracks.specs.Columns.{Columns, IsColumns, IsPlaced, times_placed, times_meant}
+use Rattle.viewer_tracks.specs.Columns.{Columns, IsColumns, IsOnTop, times_placed, times_meant}
 use Rattle.desktop_definitions.specs.Words.{nat_cmp, keys_of, Piece, flat, Viewer, Caret, Selection, Kept}
 use Rattle.desktop_definitions.specs.Limits.{most_files, most_written, most_held, most_pattern}
 use Rattle.desktop_definitions.specs.Looks.{IsLook, AreLooks}
@@ -41,7 +41,7 @@ pub record AreViewers {X : Type 0} (texts : Texts (List X)) (viewers : List (ℕ
 
 -- ---- places
 
--- in how many places a viewer stands: in the tracks, or as the one that was closed last
+-- in how many places a viewer stands: in the tracks, covered ones too, or as the one that was closed last
 abbrev pub times_there : Columns → Option Kept → ℕ → ℕ
 times_there columns kept v = times_placed v columns + times_meant v (option_map (λ k. k.viewer) kept)
 
@@ -57,14 +57,14 @@ pub record ArePlaces (viewers : List (ℕ × Viewer)) (columns : Columns) (kept 
 
 -- ---- what is marked; the main text of a viewer v has `long v` characters
 
--- the caret stands in a viewer on the display, within its text
+-- the caret stands in a viewer on the display, in a track that is shown, within its text
 pub record IsCaret (columns : Columns) (long : ℕ → ℕ) (c : Caret) : Type 0 where
-  pub placed : IsPlaced c.viewer columns
+  pub placed : IsOnTop c.viewer columns
   pub within : c.position ≤ long c.viewer
 
--- a selection has some character, of a viewer on the display
+-- a selection has some character, of a viewer in a track that is shown
 pub record IsSelection (columns : Columns) (long : ℕ → ℕ) (s : Selection) : Type 0 where
-  pub placed : IsPlaced s.viewer columns
+  pub placed : IsOnTop s.viewer columns
   pub some : s.beg < s.end
   pub within : s.end ≤ long s.viewer
 

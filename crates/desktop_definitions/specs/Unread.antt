@@ -10,7 +10,7 @@ use Rattle.event_bytes.specs.declared.keys.Keys.TheVariants.{Right, RightLeft, R
 use Rattle.desktop_definitions.specs.declared.region.Region.{Region}
 use Rattle.desktop_definitions.specs.declared.region.Region.TheVariants.{Filler, Menu, Bar, Body}
 use Rattle.desktop_definitions.specs.declared.entry.Entry.{Entry}
-use Rattle.desktop_definitions.specs.declared.entry.Entry.TheVariants.{Viewer, File as FileEntry, Written}
+use Rattle.desktop_definitions.specs.declared.entry.Entry.TheVariants.{Viewer, File as FileEntry, Over, Written}
 use Rattle.desktop_definitions.specs.declared.reply.Reply.{Reply}
 use Rattle.desktop_definitions.specs.declared.reply.Reply.TheVariants.{Done, No}
 use Rattle.desktop_definitions.specs.Desktop.{DesktopOf, KeptDesktop}
@@ -85,6 +85,7 @@ StepsUnread version before after event reply =
 abbrev pub without_name : Entry → Entry
 without_name (Viewer x bottom top name size) = Viewer x bottom top [] size
 without_name (FileEntry name size) = FileEntry name size
+without_name (Over x depth) = Over x depth
 without_name (Written n) = Written n
 
 -- But for the names of viewers these are the entries over every list of as many characters as were written.

@@ -1,10 +1,13 @@
 -- The viewers of a desktop: the texts that they show, where they stand on the display, and what is marked in them.
-use Rattle.std.specs.Prelude.{ℕ, ◌-◌, ◌==◌, not, Bool, if◌then◌else◌, List, [], ◌∷◌, ◌++◌, length, filter}
+use Rattle.std.specs.Prelude.{ℕ, ◌-◌, ◌==◌, nat_lt, not, Bool, if◌then◌else◌, List, [], ◌∷◌, ◌++◌, length, filter}
 use Rattle.std.specs.Prelude.{Option, Some, None}
 use Rattle.std.specs.List.{last_or}
 use Rattle.std.specs.Map.{lookup, set_value, remove_entry}
 use Rattle.piece_ring.specs.Text.{stretch}
-use Rattle.viewer_tracks.specs.Columns.{placed_bottom, placed_top, after_open, replaced_at}
+use Rattle.viewer_tracks.specs.declared.display.Track.{Track}
+use Rattle.viewer_tracks.specs.Display.{left_of}
+use Rattle.viewer_tracks.specs.Viewers.{times_in}
+use Rattle.viewer_tracks.specs.Columns.{shown, placed_bottom, placed_top, after_open, after_open_track, replaced_at}
 use Rattle.desktop_definitions.specs.Words.{unwrap_or, nat_cmp, is_at, Text, Viewer, Caret, Selection}
 use Rattle.desktop_definitions.specs.Tables.{Texts, numbered}
 use Rattle.desktop_definitions.specs.Desktop.{DesktopOf, Desktop}
@@ -87,6 +90,14 @@ module _ {T : Type 0} where
   opened_at d v cell = record (without_viewer d (replaced_at d.columns cell.0 cell.1)) {
     columns = after_open d.columns v cell.0 cell.1;
   }
+
+  -- the viewer stands in the track that the column shows
+  abbrev pub is_shown_in : DesktopOf T → Track → ℕ → Bool
+  is_shown_in d k v = nat_lt 0 (times_in v (shown d.columns k))
+
+  -- a viewer has a new track whole, over the one that a column showed, in which nothing is marked any more
+  unfoldable pub covered_by : DesktopOf T → ℕ → Track → DesktopOf T
+  covered_by d v k = record (unmarked (is_shown_in d k) d) { columns = after_open_track d.columns v (left_of k) }
 
 abbrev pub text_of : Desktop → ℕ → Text ℕ
 text_of d n = text_in d.texts n

@@ -4,7 +4,7 @@
 #[derive(Clone, Copy, Debug, PartialEq, Eq)]
 pub struct Call {
     /// The viewer's id.
-    pub viewer: u8,
+    pub viewer: u16,
     /// Whether it stood in the menu; otherwise in the main text.
     pub in_menu: bool,
     /// The position after the word, where the parameters begin.

@@ -27,5 +27,8 @@ pub const NOT_FOUND: u8 = 10;
 /// There is no such font, or the number of a colour or an offset is out of range.
 pub const BAD_VALUE: u8 = 11;
 
+/// The column of the viewer has as many tracks over one another as it may have.
+pub const TOO_DEEP: u8 = 12;
+
 /// A viewer of one row can't be parted.
 pub const TOO_LOW: u8 = 13;

@@ -54,6 +54,12 @@ pub enum Entry {
         name: MenuName,
         len: u32,
     },
+    /// The viewers that follow stand in a track over others: the leftmost column of its characters, and how many tracks
+    /// there are up to it, 2 at least.
+    Over {
+        x: u8,
+        depth: u8,
+    },
     /// How many characters count as written.
     Written(u32),
 }

@@ -6,9 +6,9 @@ pub enum Region {
     /// No viewer has the cell.
     Filler,
     /// The top row of a viewer.
-    Menu(u8),
+    Menu(u16),
     /// The first column below it, the scroll bar.
-    Bar(u8),
+    Bar(u16),
     /// The cells of the main text.
-    Body(u8),
+    Body(u16),
 }

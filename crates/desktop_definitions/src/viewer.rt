@@ -17,7 +17,7 @@ pub struct Viewer {
 #[derive(Clone, Copy, Debug, PartialEq, Eq)]
 pub struct Caret {
     /// The viewer's id.
-    pub viewer: u8,
+    pub viewer: u16,
     /// The position of the character before which it stands, or the text's length.
     pub position: u32,
 }
@@ -26,7 +26,7 @@ pub struct Caret {
 #[derive(Clone, Copy, Debug, PartialEq, Eq)]
 pub struct Selection {
     /// The viewer's id.
-    pub viewer: u8,
+    pub viewer: u16,
     /// The position of the first character.
     pub beg: u32,
     /// The position after the last one.
@@ -37,7 +37,7 @@ pub struct Selection {
 #[derive(Clone, Copy, Debug, PartialEq, Eq)]
 pub struct Kept {
     /// The viewer's id.
-    pub viewer: u8,
+    pub viewer: u16,
     /// The track in which it stood.
     pub track: Track,
     /// The row before which it ended, 1 to 32.

@@ -1,13 +1,12 @@
 -- Laws of viewers that close and are recalled: a closed one is kept with its place and loses its marks, and a recalled
 -- one stands where it stood.
-use Rattle.std.specs.Prelude.{◌≡◌, ◌≤◌, ℕ, ◌+◌, ◌==◌, not, Bool, true, false, List}
-use Rattle.std.specs.Prelude.{slice_index_or, if◌then◌else◌, Option, Some, None, option_map, Ok}
+use Rattle.std.specs.Prelude.{◌≡◌, ◌≤◌, ℕ, ◌+◌, ◌==◌, Bool, true, false, List}
+use Rattle.std.specs.Prelude.{if◌then◌else◌, Option, Some, None, option_map, Ok}
 use Rattle.std.proofs.Common.{refl, sym, ap, subst, ◌∙◌, arith}
 use Rattle.std.proofs.lemmas.Bool.{eqb-false, eq-eqb, ne_eqb}
-use Rattle.std.proofs.lemmas.List.Elements.{All-filter, filter_passes}
-use Rattle.std.proofs.lemmas.List.Filters.{sum_by-filter_both}
-use Rattle.viewer_tracks.specs.Columns.{Columns, IsColumns, IsPlaced, times_placed, times_meant, track_of, placed_top}
-use Rattle.viewer_tracks.specs.Columns.{after_close, after_open, replaced_at}
+use Rattle.viewer_tracks.specs.Columns.{Columns, IsColumns, IsPlaced, IsOnTop, times_placed, times_meant, track_of}
+use Rattle.viewer_tracks.specs.Columns.{placed_top, after_close, after_open, replaced_at}
+use Rattle.viewer_tracks.proofs.PlacedLemmas.{open_shows, close_shows}
 use Rattle.viewer_tracks.specs.Display.{left_of}
 use Rattle.desktop_definitions.specs.declared.viewer.Caret.{Caret}
 use Rattle.desktop_definitions.specs.declared.viewer.Selection.{Selection}
@@ -22,12 +21,12 @@ use Rattle.desktop_definitions.specs.Opening.{dropped}
 use Rattle.desktop_definitions.specs.Effects.{put_away, brought_back}
 use Rattle.desktop_definitions.specs.Seen.{seen}
 use Rattle.desktop_definitions.specs.Step.{settled}
-use Rattle.desktop_definitions.specs.Sound.{IsKeptPlace, IsSelection, AreMarks, IsShaped, IsSound, IsWithin, IsOver}
+use Rattle.desktop_definitions.specs.Sound.{IsKeptPlace, IsShaped, IsSound, IsWithin, IsOver}
 use Rattle.desktop_definitions.specs.Outcome.{IsAnswered}
 use Rattle.desktop_laws.specs.OutcomeLaws.{acted}
 use Rattle.desktop_laws.specs.KeyLaws.{refusal_answered, row_as}
 use Rattle.desktop_laws.specs.PlaceLaws.{IsPlacedAnew, placed_anew, anew_shaped, dropped_shaped, dropped_shown}
-use Rattle.desktop_laws.specs.PlaceLaws.{dropped_held}
+use Rattle.desktop_laws.specs.PlaceLaws.{dropped_held, marks_outside}
 use Rattle.desktop_laws.specs.PlacedLaws.{seen_dropped, seen_anew, dropped_within, anew_within, anew_written}
 use Rattle.desktop_laws.specs.PlacedLaws.{anew_held, dropped_written, done, fits_within, at_columns}
 use Rattle.desktop_laws.specs.RowLaws.{known_no_viewer}
@@ -36,58 +35,6 @@ use Rattle.desktop_laws.specs.LookedLaws.{looks_stay}
 -- a viewer with its place, as it is kept once it is closed
 abbrev pub place_kept : Columns → ℕ → Kept
 place_kept columns v = record { viewer = v; track = track_of columns v; top = placed_top columns v }
-
--- ---- marks in the others
-
-outside_caret : (v : ℕ) (caret : Option Caret) (c : Caret) → caret_outside (λ w. w == v) caret ≡ Some c
-    → (caret ≡ Some c) × ¬ (c.viewer ≡ v)
-outside_caret v None c is = absurd cc
-outside_caret v (Some x) c is = (elim (x.viewer == v) as (λ b. x.viewer == v ≡ b
-    → (let o : Option Caret = if b then None else Some x in o) ≡ Some c → (Some x ≡ Some c) × ¬ (c.viewer ≡ v)) [
-      | true ↦ λ inside is. absurd cc
-      | false ↦ λ out is. (
-        is,
-        (let same : x ≡ c = cc in
-            eqb-false c.viewer v (subst (λ (k : Caret). k.viewer == v ≡ false) same out)),
-      )
-    ]) refl is
-
-passed : (b : Bool) → not b ≡ true → b ≡ false
-passed true is = absurd cc
-passed false is = refl
-
-module _ (old new : Columns) (long : ℕ → ℕ) (v : ℕ)
-    (stay : (w : ℕ) → times_placed w old ≤ times_placed w new + times_meant w (Some v)) where
-  still_there : (w : ℕ) → ¬ (w ≡ v) → IsPlaced w old → IsPlaced w new
-  still_there w other placed =
-      let apart : times_meant w (Some v) ≡ 0 = rw (ne_eqb v w (λ same. other (sym same))) refl in
-      omega (arith, stay w, apart, placed)
-
-  -- who stands elsewhere keeps what is marked
-  pub marks_outside : (caret : Option Caret) (selections : List Selection) → AreMarks old long caret selections
-      → AreMarks new long (caret_outside (λ w. w == v) caret) (selections_outside (λ w. w == v) selections)
-  marks_outside caret selections are = record {
-    caret_stands = λ c here.
-        let was = outside_caret v caret c here in
-        let stands = are.caret_stands c was.0 in
-        record { placed = still_there c.viewer was.1 stands.placed; within = stands.within };
-    all_stand = λ i s low.
-        let at = slice_index_or (selections_outside (λ w. w == v) selections) i s in
-        let out : not (at.viewer == v) ≡ true
-        = filter_passes (λ (s : Selection). not (s.viewer == v)) selections i s low in
-        let stands = All-filter (λ (s : Selection). not (s.viewer == v)) (IsSelection old long) selections
-        are.all_stand i s low in
-        record {
-          placed = still_there at.viewer (eqb-false at.viewer v (passed _ out)) stands.placed;
-          some = stands.some;
-          within = stands.within;
-        };
-    one_each = λ w.
-        let parts = sum_by-filter_both (λ (s : Selection). not (s.viewer == v)) (λ s. not (not (s.viewer == v)))
-        (λ s. refl) (λ s. if s.viewer == w then 1 else 0) selections in
-        let one = are.one_each w in
-        omega (arith, parts, one);
-  }
 
 -- ---- viewers that stand elsewhere
 
@@ -194,14 +141,22 @@ module _ {T : Type 0} (d : DesktopOf T) (v : ℕ) where
   unfolding put_away
   put_away_is = gone_and_kept kept_before
 
-module _ (d : Desktop) (v : ℕ) (shaped : IsShaped d) (hold : IsColumns (after_close d.columns v))
+module _ (d : Desktop) (v : ℕ) (shaped : IsShaped d) (placed : IsOnTop v d.columns)
+    (hold : IsColumns (after_close d.columns v))
     (places : (w : ℕ) → times_placed w (after_close d.columns v) + times_meant w (Some v) ≡ times_placed w d.columns)
     (place : IsKeptPlace (place_kept d.columns v)) where
+  still_on_top : (w : ℕ) → ¬ (w ≡ v) → IsOnTop w d.columns → IsOnTop w (after_close d.columns v)
+  still_on_top w other top =
+      let apart : times_meant w (Some v) ≡ 0 = rw (ne_eqb v w (λ same. other (sym same))) refl in
+      let stay = close_shows d.columns v w shaped.places.columns_hold placed in
+      omega (arith, stay, apart, top)
+
   pub closed_anew : IsPlacedAnew (closed_desktop d v) (closed_columns d v) (kept_before d v)
   closed_anew = record {
     viewers = shaped.viewers;
-    marks = marks_outside d.columns (after_close d.columns v) (main_length d.texts d.viewers) v
-        (λ w. let now = places w in omega (arith, now)) d.caret d.selections shaped.marks;
+    marks = marks_outside (λ w. w == v) d.columns (after_close d.columns v) (main_length d.texts d.viewers)
+        (main_length d.texts d.viewers) (λ w out. still_on_top w (eqb-false w v out)) (λ w out top. refl) d.caret
+        d.selections shaped.marks;
     marker = shaped.marker;
     files = shaped.files;
     pattern = shaped.pattern;
@@ -212,7 +167,7 @@ module _ (d : Desktop) (v : ℕ) (shaped : IsShaped d) (hold : IsColumns (after_
     stay = λ w. omega arith;
   }
 
-module _ (H : Type 0) (old : List ℕ) (d : KeptDesktop) (over : IsOver old d) (v : ℕ)
+module _ (H : Type 0) (old : List ℕ) (d : KeptDesktop) (over : IsOver old d) (v : ℕ) (placed : IsOnTop v d.columns)
     (hold : IsColumns (after_close d.columns v))
     (places : (w : ℕ) → times_placed w (after_close d.columns v) + times_meant w (Some v) ≡ times_placed w d.columns)
     (place : IsKeptPlace (place_kept d.columns v)) where
@@ -229,7 +184,7 @@ module _ (H : Type 0) (old : List ℕ) (d : KeptDesktop) (over : IsOver old d) (
       (restood_answered H old d over (closed_columns d v) (caret_outside (λ w. w == v) d.caret)
       (selections_outside (λ w. w == v) d.selections) (Some (place_kept d.columns v)) (closed_columns d v)
       (kept_before d v)
-      (λ all. closed_anew (seen all d) v (over.whole.sound all).shaped hold places place)))
+      (λ all. closed_anew (seen all d) v (over.whole.sound all).shaped placed hold places place)))
 
 -- ---- the viewer that is kept is recalled
 
@@ -280,7 +235,9 @@ module _ (d : Desktop) (k : Kept) (shaped : IsShaped d) (is : d.kept ≡ Some k)
         let meant : times_meant w (option_map (λ x. x.viewer) d.kept) ≡ times_meant w (Some k.viewer)
         = ap (λ (o : Option Kept). times_meant w (option_map (λ x. x.viewer) o)) is in
         omega (arith, before, now, meant);
-    stay = λ w. let now = places w in omega (arith, now);
+    stay = λ w.
+        let now = open_shows d.columns k.viewer (left_of k.track) k.top w shaped.places.columns_hold in
+        omega (arith, now);
   }
 
 module _ (H : Type 0) (old : List ℕ) (d : KeptDesktop) (over : IsOver old d) where

@@ -21,7 +21,7 @@ use Rattle.piece_ring.specs.Offsets.{AreWithin}
 use Rattle.piece_ring.specs.Renaming.{renamed-inserted, renamed-deleted, renamed-looks_changed}
 use Rattle.piece_ring.specs.Text.{Text, inserted, deleted, looks_changed}
 use Rattle.readers_scanners.specs.Reading.{contents, bytes}
-use Rattle.viewer_tracks.specs.Columns.{IsPlaced}
+use Rattle.viewer_tracks.specs.Columns.{IsOnTop}
 use Rattle.text_frames.specs.Rules.{shown_org}
 use Rattle.desktop_definitions.specs.declared.viewer.Viewer.{Viewer}
 use Rattle.desktop_definitions.specs.declared.viewer.Caret.{Caret}
@@ -157,7 +157,7 @@ module _ (d : Desktop) (shaped : IsShaped d) where
         looks = looks_stay shaped.looks refl;
       }
 
-  pub with_caret_shaped : (v p : ℕ) → IsPlaced v d.columns → p ≤ main_length d.texts d.viewers v
+  pub with_caret_shaped : (v p : ℕ) → IsOnTop v d.columns → p ≤ main_length d.texts d.viewers v
       → IsShaped (with_caret d v p)
   with_caret_shaped v p placed low = record {
     viewers = shaped.viewers;
@@ -436,7 +436,7 @@ looks_seen characters d s selector look pieces is =
     ∙ ap (λ (t : Text ℕ). edited (seen characters d) n t d.viewers) text_is)
 
 module _ (characters : List ℕ) (d : KeptDesktop) (s : Selection) (pieces : List Piece)
-    (built : IsBuilt (length characters) d) (placed : IsPlaced s.viewer d.columns)
+    (built : IsBuilt (length characters) d) (placed : IsOnTop s.viewer d.columns)
     (there : IsSome (numbered d.texts (viewer_or_none d.viewers s.viewer).main)) (some : s.beg < s.end)
     (low : s.end ≤ length (flat (text_in d.texts (viewer_or_none d.viewers s.viewer).main)))
     (long : length (flat pieces) ≡ length (flat (text_in d.texts (viewer_or_none d.viewers s.viewer).main)))
@@ -485,7 +485,7 @@ module _ (characters : List ℕ) (d : KeptDesktop) (s : Selection) (pieces : Lis
   }
 
 module _ (H : Type 0) (characters : List ℕ) (d : KeptDesktop) (v p org : ℕ) (built : IsBuilt (length characters) d)
-    (placed : IsPlaced v d.columns)
+    (placed : IsOnTop v d.columns)
     (low : p ≤ length (flat (text_in d.texts (viewer_or_none d.viewers v).main)))
     (org_low : org ≤ length (flat (text_in d.texts (viewer_or_none d.viewers v).main)))
     (exact : H → org ≡ shown_org (bytes characters (flat (text_in d.texts (viewer_or_none d.viewers v).main)))

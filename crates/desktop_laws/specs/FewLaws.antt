@@ -1,4 +1,5 @@
--- Laws of how many there are: viewers at most as many as rows and one, and texts by the viewers that show them.
+-- Laws of how many there are: viewers at most as many as the rows of all tracks and one, and texts by the viewers that
+-- show them.
 use Rattle.std.specs.Prelude.{◌≡◌, ℕ, ◌+◌, ◌*◌, ◌<◌, ◌≤◌, ◌==◌, ◌||◌, Bool, true, false, cond, IsTrue}
 use Rattle.std.specs.Prelude.{All}
 use Rattle.std.specs.Prelude.{List, [], ◌∷◌, ◌++◌, length, map, sum_by, Option, Some, None, option_map}
@@ -17,9 +18,9 @@ use Rattle.std.proofs.lemmas.List.Sums.{sum_by-cons}
 use Rattle.std.proofs.lemmas.Map.Entries.{length-keys_of}
 use Rattle.std.proofs.lemmas.Map.Keys.{IsDistinct-from_sorted}
 use Rattle.std.proofs.lemmas.Map.Made.{is_some-lookup, length-le_from_is_member}
-use Rattle.viewer_tracks.specs.declared.display.TheConstants.{ROWS}
+use Rattle.viewer_tracks.specs.declared.display.TheConstants.{ROWS, DEPTH}
 use Rattle.viewer_tracks.specs.Viewers.{Entry, IsTrack, times_in}
-use Rattle.viewer_tracks.specs.Columns.{Columns, times_on, times_meant, topmost}
+use Rattle.viewer_tracks.specs.Columns.{Columns, times_on, times_meant}
 use Rattle.desktop_definitions.specs.declared.viewer.Viewer.{Viewer}
 use Rattle.desktop_definitions.specs.declared.viewer.Kept.{Kept}
 use Rattle.desktop_definitions.specs.Desktop.{DesktopOf}
@@ -84,12 +85,28 @@ named_in v (e ∷ t) some =
       | false ↦ λ is some. or_right (is_at (nat_cmp v) e.viewer) _ (named_in v t (omega (arith, some)))
     ]) refl sum
 
--- a column has one track
-one_track : (s : List (List Entry)) → length s ≡ 1 → All IsTrack s
-    → IsTrack (topmost s) × ((v : ℕ) → times_on v s ≡ times_in v (topmost s))
-one_track [] one all = absurd (omega (arith, one))
-one_track (t ∷ []) one all = (all 0 t (omega arith), (λ v. sum_by-cons (times_in v) t [] ∙ omega arith))
-one_track (t ∷ u ∷ s) one all = absurd (omega (arith, one))
+-- ---- who stands in a stack of tracks
+
+abbrev all_names : List (List Entry) → List ℕ
+all_names [] = []
+all_names (t ∷ under) = names t ++ all_names under
+
+few_on : (s : List (List Entry)) → All IsTrack s → length (all_names s) ≤ ROWS * length s
+few_on [] all = omega arith
+few_on (t ∷ under) all =
+    let here = few_names t (all 0 t (omega arith)) in
+    let rest = few_on under (All-tail IsTrack t under all) in
+    let sum = length-append (names t) (all_names under) in
+    omega (arith, here, rest, sum)
+
+named_on : (v : ℕ) (s : List (List Entry)) → 0 < times_on v s → list_any (is_at (nat_cmp v)) (all_names s) ≡ true
+named_on v [] some = absurd (omega (arith, some))
+named_on v (t ∷ under) some =
+    ⊎_elim
+    (λ here. any_left _ (names t) (all_names under) (named_in v t here))
+    (λ not_here. any_right _ (names t) (all_names under)
+    (named_on v under (omega (arith, some, not_here, sum_by-cons (times_in v) t under))))
+    (cases_lt 0 (times_in v t))
 
 -- ---- viewers
 
@@ -113,38 +130,29 @@ named_kept v (Some k) some = (elim (k.viewer == v) as (λ b. (k.viewer == v) ≡
 module _ (viewers : List (ℕ × Viewer)) (columns : Columns) (kept : Option Kept)
     (are : ArePlaces viewers columns kept) where
   abbrev user : List ℕ
-  user = names (topmost columns.user)
+  user = all_names columns.user
 
   abbrev system : List ℕ
-  system = names (topmost columns.system)
+  system = all_names columns.system
 
-  abbrev all_names : List ℕ
-  all_names = user ++ (system ++ kept_name kept)
+  abbrev all_there : List ℕ
+  all_there = user ++ (system ++ kept_name kept)
 
-  user_track : IsTrack (topmost columns.user) × ((v : ℕ) → times_on v columns.user ≡ times_in v (topmost columns.user))
-  user_track = one_track columns.user are.columns_hold.one_user are.columns_hold.user
-
-  system_track : IsTrack (topmost columns.system)
-      × ((v : ℕ) → times_on v columns.system ≡ times_in v (topmost columns.system))
-  system_track = one_track columns.system are.columns_hold.one_system are.columns_hold.system
-
-  few_all : length all_names ≤ ROWS + ROWS + 1
+  few_all : length all_there ≤ ROWS * (length columns.user + length columns.system) + 1
   few_all =
-      let first = few_names (topmost columns.user) user_track.0 in
-      let second = few_names (topmost columns.system) system_track.0 in
+      let first = few_on columns.user are.columns_hold.user.tracks in
+      let second = few_on columns.system are.columns_hold.system.tracks in
       let third = one_kept kept in
       let sum = length-append user (system ++ kept_name kept) in
       let more = length-append system (kept_name kept) in
       omega (arith, first, second, third, sum, more)
 
-  named_there : (v : ℕ) → 0 < times_there columns kept v → list_any (is_at (nat_cmp v)) all_names ≡ true
+  named_there : (v : ℕ) → 0 < times_there columns kept v → list_any (is_at (nat_cmp v)) all_there ≡ true
   named_there v some =
       ⊎_elim
-      (λ left. any_left _ user (system ++ kept_name kept) (named_in v (topmost columns.user)
-      (omega (arith, left, user_track.1 v))))
+      (λ left. any_left _ user (system ++ kept_name kept) (named_on v columns.user left))
       (λ no_user. any_right _ user (system ++ kept_name kept) (⊎_elim
-      (λ right. any_left _ system (kept_name kept) (named_in v (topmost columns.system)
-      (omega (arith, right, system_track.1 v))))
+      (λ right. any_left _ system (kept_name kept) (named_on v columns.system right))
       (λ no_system. any_right _ system (kept_name kept) (named_kept v kept (omega (arith, some, no_user, no_system))))
       (cases_lt 0 (times_on v columns.system))))
       (cases_lt 0 (times_on v columns.user))
@@ -154,13 +162,19 @@ module _ (viewers : List (ℕ × Viewer)) (columns : Columns) (kept : Option Kep
   some_there v true is once = omega (arith, once)
   some_there v false is once = absurd cc
 
-  pub few_viewers : IsStrictlySortedBy nat_cmp (keys_of viewers) → length viewers ≤ ROWS + ROWS + 1
-  few_viewers ids =
-      let few = length-le_from_is_member (eq_by_cmp_equiv nat_cmp_total) (keys_of viewers) all_names
+  -- no more than there are rows in all tracks, and one
+  pub few_by_depth : IsStrictlySortedBy nat_cmp (keys_of viewers)
+      → length viewers ≤ ROWS * (length columns.user + length columns.system) + 1
+  few_by_depth ids =
+      let few = length-le_from_is_member (eq_by_cmp_equiv nat_cmp_total) (keys_of viewers) all_there
       (IsDistinct-from_sorted nat_cmp (keys_of viewers) ids)
       (λ q is. named_there q (some_there q _ (is_some-lookup (is_at (nat_cmp q)) viewers ∙ is) (are.once q))) in
       let same = length-keys_of viewers in
       omega (arith, few, few_all, same)
+
+  pub few_viewers : IsStrictlySortedBy nat_cmp (keys_of viewers) → length viewers ≤ 2 * DEPTH * ROWS + 1
+  few_viewers ids =
+      omega (arith, few_by_depth ids, are.columns_hold.user.few, are.columns_hold.system.few)
 
 -- ---- texts
 

@@ -19,7 +19,7 @@ use Rattle.piece_ring.specs.Offsets.{AreWithin, stretch-AreWithin}
 use Rattle.piece_ring.specs.Text.{stretch, looks_changed}
 use Rattle.readers_scanners.specs.Reading.{contents}
 use Rattle.text_core.specs.Attributes.{look_at, look_of}
-use Rattle.viewer_tracks.specs.Columns.{IsPlaced}
+use Rattle.viewer_tracks.specs.Columns.{IsOnTop}
 use Rattle.event_bytes.specs.declared.keys.Key.TheVariants.{Back, Copy, Cut, Escape}
 use Rattle.desktop_definitions.specs.declared.viewer.Caret.{Caret}
 use Rattle.desktop_definitions.specs.declared.viewer.Selection.{Selection}
@@ -40,6 +40,7 @@ use Rattle.desktop_definitions.specs.Step.{settled}
 use Rattle.desktop_definitions.specs.Sound.{IsOver}
 use Rattle.desktop_definitions.specs.Changed.{texts_shown, IsChanged, Counts}
 use Rattle.desktop_definitions.specs.Outcome.{reply_codes, IsAnswered}
+use Rattle.desktop_laws.specs.PlaceLaws.{on_top_placed}
 use Rattle.desktop_laws.specs.OutcomeLaws.{refused, seen_grown, length_in_look}
 use Rattle.desktop_laws.specs.RowLaws.{has_space, row_answered, rest_answered, changed_answered, full_answered}
 use Rattle.desktop_laws.specs.RowLaws.{full_rest_answered, over_built, changed_as, changed_under, changed_further}
@@ -206,12 +207,12 @@ room_left a b v beg end n number same some low shorter =
     omega (arith, long, here, low, some)
 
 -- the texts of a desktop that is kept are seen where they are kept
-pub main_there_seen : (old : List ℕ) (d : KeptDesktop) (v : ℕ) → IsOver old d → IsPlaced v d.columns
+pub main_there_seen : (old : List ℕ) (d : KeptDesktop) (v : ℕ) → IsOver old d → IsOnTop v d.columns
     → IsSome (numbered (seen old d).texts (viewer_of (seen old d) v).main)
 unfolding seen
 main_there_seen old d v over placed =
     let sound = over.whole.sound old in
-    main_seen (seen old d) sound.shaped.viewers sound.shaped.places v placed
+    main_seen (seen old d) sound.shaped.viewers sound.shaped.places v (on_top_placed d.columns v placed)
 
 -- ---- rows that are done
 
@@ -304,7 +305,7 @@ module _ (H : Type 0) (old new : List ℕ) (before after : KeptDesktop) (over : 
         (taken_out_some (seen old before) s some)
 
     -- a stretch was selected, and its copy put in at the caret
-    pub sent_answered : (c : Caret) → before.caret ≡ Some c → IsPlaced s.viewer before.columns
+    pub sent_answered : (c : Caret) → before.caret ≡ Some c → IsOnTop s.viewer before.columns
         → IsChanged H old (with_selection before s) after
         (put_at_caret (seen old (with_selection before s)) (seen_text old buffer) c) (length (flat buffer)) 0
         → ((all : List ℕ) → has_space (seen all before) 0 (s.end - s.beg) 0 ≡ true)
@@ -390,7 +391,7 @@ module _ (H : Type 0) (old bytes now new : List ℕ) (before after : KeptDesktop
 -- ---- refusals for the limits
 
 module _ (H : Type 0) (old : List ℕ) (d : KeptDesktop) (over : IsOver old d) where
-  module _ (c : Caret) (is : d.caret ≡ Some c) (placed : IsPlaced c.viewer d.columns) where
+  module _ (c : Caret) (is : d.caret ≡ Some c) (placed : IsOnTop c.viewer d.columns) where
     pub typed_full : (bytes : List ℕ) → has_space (seen old d) (length bytes) (length bytes) 0 ≡ false
         → IsAnswered H old old d d (settled (seen old d) (typed (seen old d) bytes)) (No full)
     unfolding seen
@@ -426,7 +427,7 @@ module _ (H : Type 0) (old : List ℕ) (d : KeptDesktop) (over : IsOver old d) w
         (length_seen_text old d.copied) (copied_counts (seen old d) (selected (seen old d) s)))) none)
         (copy_some (seen old d) s is)
 
-    pub copied_to_full : (v p : ℕ) → IsPlaced v d.columns → has_space (seen old d) 0 (s.end - s.beg) 0 ≡ false
+    pub copied_to_full : (v p : ℕ) → IsOnTop v d.columns → has_space (seen old d) 0 (s.end - s.beg) 0 ≡ false
         → IsAnswered H old old d d (settled (seen old d) (copied_to (seen old d) v p)) (No full)
     unfolding seen
     copied_to_full v p placed none = row_as (seen old d) (copied_to (seen old d) v p)
@@ -487,7 +488,7 @@ module _ (H : Type 0) (old : List ℕ) (before middle : KeptDesktop) (over : IsO
     (some : s.beg < s.end) (within : s.end ≤ length (flat (kept_main before s.viewer))) (v p : ℕ)
     (look : Look) (look_is : look ≡ look_at p (flat (kept_main before v)))
     (changed : IsChanged ⊤ old before middle (looks_set (seen old before) s 7 look) 0 0)
-    (placed : IsPlaced v middle.columns) (low : p ≤ length (flat (kept_main before v))) where
+    (placed : IsOnTop v middle.columns) (low : p ≤ length (flat (kept_main before v))) where
   main_stays : length (flat (kept_main middle v)) ≡ length (flat (kept_main before v))
   main_stays =
       sym (kept_main_long old middle v)

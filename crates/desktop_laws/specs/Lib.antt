@@ -31,5 +31,6 @@ pub mod LogLaws
 pub mod StoreLaws
 pub mod CallLaws
 pub mod OpeningOnLaws
+pub mod GrownLaws
 pub mod PartSound
 pub mod StepSound

@@ -549,7 +549,7 @@ module _ {H : Type 0} (cs : List ℕ) (a : KeptDesktop) (v : ℕ) where
     log_elsewhere other =
         changed_as (log_shown (seen cs a) v) (unchanged H cs a built) (λ h. other_text (seen cs a) v other)
 
-    -- and so does one that isn't on the display
+    -- and so does one that stands in no track
     pub log_nowhere : ¬ IsPlaced v a.columns → IsChanged H cs a a (log_shown (seen cs a) v) 0 0
     unfolding seen
     log_nowhere none =

@@ -15,7 +15,7 @@ use Rattle.std.proofs.lemmas.List.Sums.{sum_by-cons, sum_by-append}
 use Rattle.std.proofs.lemmas.Map.{keys-set_value}
 use Rattle.piece_ring.specs.Flat.{flat}
 use Rattle.viewer_tracks.specs.declared.display.TheConstants.{ROWS, COLUMNS}
-use Rattle.viewer_tracks.specs.Columns.{Columns, IsPlaced}
+use Rattle.viewer_tracks.specs.Columns.{Columns, IsOnTop}
 use Rattle.desktop_definitions.specs.declared.viewer.Viewer.{Viewer}
 use Rattle.desktop_definitions.specs.declared.viewer.Caret.{Caret}
 use Rattle.desktop_definitions.specs.declared.viewer.Selection.{Selection}
@@ -87,13 +87,13 @@ only_one P x here zero d low = here
 only_one P x here (suc i) d low = absurd (omega (arith, low))
 
 module _ (columns : Columns) (long : ℕ → ℕ) where
-  pub caret_stands : (v p : ℕ) → IsPlaced v columns → p ≤ long v
+  pub caret_stands : (v p : ℕ) → IsOnTop v columns → p ≤ long v
       → ForSome (Some (record { viewer = v; position = p })) (IsCaret columns long)
   caret_stands v p placed within = λ c here.
       let this : record { viewer = v; position = p } ≡ c = cc here in
       subst (IsCaret columns long) this (record { placed = placed; within = within })
 
-  pub selection_stands : (s : Selection) → IsPlaced s.viewer columns → s.beg < s.end → s.end ≤ long s.viewer
+  pub selection_stands : (s : Selection) → IsOnTop s.viewer columns → s.beg < s.end → s.end ≤ long s.viewer
       → All (IsSelection columns long) (s ∷ [])
   selection_stands s placed some within =
       only_one (IsSelection columns long) s (record { placed = placed; some = some; within = within })
@@ -151,7 +151,7 @@ module _ (H : Type 0) (characters : List ℕ) (d : KeptDesktop) (built : IsBuilt
   unfolding seen
   marker_before = (built.shaped characters).marker
 
-  pub with_caret_changed : (v p : ℕ) → IsPlaced v d.columns
+  pub with_caret_changed : (v p : ℕ) → IsOnTop v d.columns
       → p ≤ length (flat (text_in d.texts (viewer_or_none d.viewers v).main))
       → IsChanged H characters d (with_caret d v p) (with_caret (seen characters d) v p) 0 0
   unfolding seen
@@ -179,7 +179,7 @@ module _ (H : Type 0) (characters : List ℕ) (d : KeptDesktop) (built : IsBuilt
             omega (arith, fewer, once);
       }) marker_before H characters refl
 
-  pub with_selection_changed : (s : Selection) → IsPlaced s.viewer d.columns → s.beg < s.end
+  pub with_selection_changed : (s : Selection) → IsOnTop s.viewer d.columns → s.beg < s.end
       → s.end ≤ length (flat (text_in d.texts (viewer_or_none d.viewers s.viewer).main))
       → IsChanged H characters d (with_selection d s) (with_selection (seen characters d) s) 0 0
   unfolding seen
@@ -197,7 +197,7 @@ module _ (H : Type 0) (characters : List ℕ) (d : KeptDesktop) (built : IsBuilt
       }) marker_before H characters refl
 
   -- what was drawn is selected, or nothing of its viewer is
-  pub drawn_in_changed : (s : Selection) → IsPlaced s.viewer d.columns
+  pub drawn_in_changed : (s : Selection) → IsOnTop s.viewer d.columns
       → s.end ≤ length (flat (text_in d.texts (viewer_or_none d.viewers s.viewer).main))
       → IsChanged H characters d (drawn_in d s) (drawn_in (seen characters d) s) 0 0
   unfolding drawn_in

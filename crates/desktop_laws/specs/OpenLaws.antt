@@ -22,12 +22,12 @@ use Rattle.desktop_definitions.specs.declared.viewer.Viewer.{Viewer}
 use Rattle.desktop_definitions.specs.declared.viewer.Caret.{Caret}
 use Rattle.desktop_definitions.specs.declared.viewer.Selection.{Selection}
 use Rattle.desktop_definitions.specs.declared.viewer.Kept.{Kept}
-use Rattle.viewer_tracks.specs.Columns.{Columns, IsPlaced}
+use Rattle.viewer_tracks.specs.Columns.{Columns, IsPlaced, IsOnTop}
 use Rattle.desktop_definitions.specs.Tables.{Texts, numbered}
 use Rattle.desktop_definitions.specs.Viewers.{viewer_in, text_in, main_length, viewer_or_none, bare_viewer}
 use Rattle.desktop_definitions.specs.Opening.{least_unused}
 use Rattle.desktop_definitions.specs.Sound.{IsViewer, AreViewers, ArePlaces, AreMarks, times_there}
-use Rattle.desktop_laws.specs.PlaceLaws.{any_at, at_itself, at_other, by_number}
+use Rattle.desktop_laws.specs.PlaceLaws.{any_at, at_itself, at_other, by_number, on_top_placed}
 
 passed : (b : Bool) → not b ≡ true → b ≡ false
 passed true is = absurd cc
@@ -141,9 +141,9 @@ is_there : {A : Type 0} (o : Option A) → IsSome o → (a : A) × (o ≡ Some a
 is_there None some = absurd cc
 is_there (Some a) some = (a, refl)
 
--- marks stand where the main text of each viewer on the display is as long as before
+-- marks stand where the main text of each viewer in a track that is shown is as long as before
 pub same_marks : (columns : Columns) (long other : ℕ → ℕ) (caret : Option Caret) (selections : List Selection)
-    → ((w : ℕ) → IsPlaced w columns → other w ≡ long w) → AreMarks columns long caret selections
+    → ((w : ℕ) → IsOnTop w columns → other w ≡ long w) → AreMarks columns long caret selections
     → AreMarks columns other caret selections
 same_marks columns long other caret selections same marks = record {
   caret_stands = λ c here.
@@ -282,7 +282,7 @@ module _ {X : Type 0} (texts : Texts (List X)) (viewers new : List (ℕ × Viewe
       ap (λ (o : Option Viewer). length (text_in texts (unwrap_or o bare_viewer).main))
       (more.others w (apart_from viewers v w found.0 more.none found.1))
 
--- ---- who stands on the display has an entry
+-- ---- who stands in a track has an entry
 
 some_if : (there : ℕ) (found : Bool) → 0 < there → there ≡ cond found 1 0 → found ≡ true
 some_if there true some is = refl
@@ -294,3 +294,8 @@ pub placed_known : (viewers : List (ℕ × Viewer)) (columns : Columns)
 placed_known viewers columns kept w are placed =
     let once = are.once w in
     some_if (times_there columns kept w) _ (omega (arith, placed)) once
+
+pub on_top_known : (viewers : List (ℕ × Viewer)) (columns : Columns) (kept : Option Kept) (w : ℕ)
+    → ArePlaces viewers columns kept → IsOnTop w columns → IsSome (viewer_in viewers w)
+on_top_known viewers columns kept w are top =
+    placed_known viewers columns kept w are (on_top_placed columns w top)

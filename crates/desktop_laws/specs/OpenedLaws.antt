@@ -6,7 +6,7 @@ use Rattle.std.specs.Map.{keys_of, remove_entry}
 use Rattle.std.specs.Ordering.{nat_cmp}
 use Rattle.std.specs.BTreeMap.{is_at, insert_entry}
 use Rattle.std.proofs.Common.{refl, sym, ap, subst, ◌∙◌, arith}
-use Rattle.std.proofs.lemmas.Bool.{eq-eqb, ne_eqb}
+use Rattle.std.proofs.lemmas.Bool.{eq-eqb, ne_eqb, ltb-false}
 use Rattle.std.proofs.lemmas.Cmp.{nat_cmp_total}
 use Rattle.std.proofs.lemmas.Map.Made.{is_some-lookup, keys_of-map_values}
 use Rattle.std.proofs.lemmas.Map.Views.{All-values-insert_entry}
@@ -14,57 +14,79 @@ use Rattle.piece_ring.specs.declared.piece.Piece.{Piece}
 use Rattle.piece_ring.specs.Flat.{flat}
 use Rattle.piece_ring.specs.Offsets.{AreWithin}
 use Rattle.piece_ring.specs.Text.{Text}
-use Rattle.viewer_tracks.specs.Columns.{Columns, IsColumns, IsPlaced, times_placed, times_meant, after_open}
-use Rattle.viewer_tracks.specs.Columns.{replaced_at}
+use Rattle.viewer_tracks.specs.declared.display.Track.{Track}
+use Rattle.viewer_tracks.specs.declared.display.Track.TheVariants.{User, System}
+use Rattle.viewer_tracks.specs.Display.{track_at, left_of}
+use Rattle.viewer_tracks.specs.Viewers.{times_in}
+use Rattle.viewer_tracks.specs.Columns.{Columns, IsColumns, IsOnTop, times_placed, times_meant, shown}
+use Rattle.viewer_tracks.specs.Columns.{after_open, after_open_track, replaced_at}
+use Rattle.viewer_tracks.proofs.PlacedLemmas.{cover_places, cover_shows}
 use Rattle.desktop_definitions.specs.declared.viewer.Viewer.{Viewer}
 use Rattle.desktop_definitions.specs.Tables.{Texts, numbered, lengths, with_values}
 use Rattle.desktop_laws.specs.TableLaws.{insert_seen, rising_put}
 use Rattle.desktop_definitions.specs.Desktop.{Desktop, DesktopOf, KeptDesktop, held}
-use Rattle.desktop_definitions.specs.Viewers.{viewer_in, main_length, without_viewer, opened_at, text_of}
-use Rattle.desktop_definitions.specs.Opening.{least_unused, with_new, opening_on, opening, dropped}
+use Rattle.desktop_definitions.specs.Viewers.{viewer_in, main_length, without_viewer, opened_at, text_of, unmarked}
+use Rattle.desktop_definitions.specs.Viewers.{is_shown_in, covered_by}
+use Rattle.desktop_definitions.specs.Opening.{least_unused, with_new, new_number, new_id, new_viewer, with_viewer}
+use Rattle.desktop_definitions.specs.Opening.{opening_on, opening_over, opening, dropped}
 use Rattle.desktop_definitions.specs.Seen.{seen, seen_text}
-use Rattle.desktop_definitions.specs.Sound.{times_there, IsShaped, IsBuilt}
-use Rattle.desktop_laws.specs.PlaceLaws.{any_at, by_number, IsPlacedAnew, placed_anew}
+use Rattle.desktop_definitions.specs.Sound.{AreViewers, times_there, IsShaped, IsBuilt}
+use Rattle.desktop_laws.specs.PlaceLaws.{any_at, by_number, StandStill, marks_outside, IsPlacedAnew}
+use Rattle.desktop_laws.specs.PlaceLaws.{placed_anew}
 use Rattle.desktop_laws.specs.PlacedLaws.{seen_anew}
 use Rattle.desktop_laws.specs.OpenLaws.{unused_none, put_itself, put_other, apart_from, same_marks, IsTextMore}
 use Rattle.desktop_laws.specs.OpenLaws.{not_new, some_stays, length_stays, text_viewers, text_long, IsViewerMore}
-use Rattle.desktop_laws.specs.OpenLaws.{viewer_viewers, viewer_long, placed_known}
+use Rattle.desktop_laws.specs.OpenLaws.{viewer_viewers, viewer_long, on_top_known}
 use Rattle.desktop_laws.specs.HeldLaws.{any_put, any_put_without, lengths_put, filter_alike}
 use Rattle.desktop_definitions.specs.Looks.{AreLooks}
 use Rattle.desktop_laws.specs.LookedLaws.{seen_looks, looks_stay, new_looks}
 
+pub left_at : (k : Track) → track_at (left_of k) ≡ k
+left_at User = refl
+left_at System = refl
+
+-- where a new viewer comes to stand: at a cell, or in a new track over the one that a column shows
+pub data NewPlace : Type 0 where
+  at_cell : ℕ × ℕ → NewPlace
+  over : Track → NewPlace
+
 module _ {T : Type 0} (d : DesktopOf T) where
-  -- the number of a new text, and the id of a new viewer
-  abbrev pub new_number : ℕ
-  new_number = least_unused (keys_of d.texts)
-
-  abbrev pub new_id : ℕ
-  new_id = least_unused (keys_of d.viewers)
-
   -- a text more, which nobody shows yet
   abbrev pub text_more : T → DesktopOf T
   text_more text = record d { texts = with_new d.texts text }
 
-  abbrev pub new_viewer : ℕ → ℕ → Viewer
-  new_viewer main org = record { menu = new_number; main = main; org = org }
-
   abbrev pub new_viewers : ℕ → ℕ → List (ℕ × Viewer)
-  new_viewers main org = insert_entry nat_cmp d.viewers new_id (new_viewer main org)
-
-  -- a viewer more with a menu of its own, which stands nowhere yet
-  abbrev pub one_more : T → ℕ → ℕ → DesktopOf T
-  one_more menu main org = record d { texts = with_new d.texts menu; viewers = new_viewers main org }
+  new_viewers main org = insert_entry nat_cmp d.viewers (new_id d) (new_viewer d main org)
 
   pub opening_on_is : (menu : T) (main org : ℕ) (cell : ℕ × ℕ) → opening_on d menu main org cell
-      ≡ placed_anew (one_more menu main org) (after_open d.columns new_id cell.0 cell.1)
+      ≡ placed_anew (with_viewer d menu main org) (after_open d.columns (new_id d) cell.0 cell.1)
       (replaced_at d.columns cell.0 cell.1)
   unfolding opening_on opened_at
   opening_on_is menu main org cell = refl
 
   pub opening_is : (menu main : T) (cell : ℕ × ℕ) → opening d menu main cell
-      ≡ opening_on (text_more main) menu new_number 0 cell
+      ≡ opening_on (text_more main) menu (new_number d) 0 cell
   unfolding opening
   opening_is menu main cell = refl
+
+  -- the columns with the new viewer's track over the one that a column showed
+  abbrev pub columns_over : Track → Columns
+  columns_over k = after_open_track d.columns (new_id d) (left_of k)
+
+  -- the new viewer has its track, and in the one under it nothing is marked
+  abbrev pub covered_desktop : T → ℕ → ℕ → Track → DesktopOf T
+  covered_desktop menu main org k =
+      record (unmarked (is_shown_in d k) (with_viewer d menu main org)) { columns = columns_over k }
+
+  pub opening_over_is : (menu : T) (main org : ℕ) (k : Track) → opening_over d menu main org k
+      ≡ placed_anew (covered_desktop menu main org k) (columns_over k) None
+  unfolding opening_over covered_by
+  opening_over_is menu main org k = refl
+
+  -- a new viewer with a menu of its own on a text that is there, which stands in a place
+  abbrev pub opening_to : T → ℕ → ℕ → NewPlace → DesktopOf T
+  opening_to menu main org (at_cell cell) = opening_on d menu main org cell
+  opening_to menu main org (over k) = opening_over d menu main org k
 
 some_of : {A : Type 0} (o : Option A) (a : A) → o ≡ Some a → IsSome o
 some_of {A} o a is = subst (λ (x : Option A). IsSome x) (sym is) refl
@@ -91,8 +113,8 @@ module _ (d : Desktop) (text : Text ℕ) (shaped : IsShaped d) where
     places = shaped.places;
     marks = same_marks d.columns (main_length d.texts d.viewers) (main_length (with_new d.texts text) d.viewers)
         d.caret d.selections
-        (λ w placed. text_long d.texts (with_new d.texts text) (new_number d) is_text_more d.viewers shaped.viewers w
-        (placed_known d.viewers d.columns d.kept w shaped.places placed)) shaped.marks;
+        (λ w top. text_long d.texts (with_new d.texts text) (new_number d) is_text_more d.viewers shaped.viewers w
+        (on_top_known d.viewers d.columns d.kept w shaped.places top)) shaped.marks;
     marker = shaped.marker;
     files = shaped.files;
     pattern = shaped.pattern;
@@ -138,13 +160,17 @@ module _ (d : Desktop) (menu : Text ℕ) (main org : ℕ) (shaped : IsShaped d) 
   abbrev found : List (ℕ × Viewer) → ℕ → ℕ
   found viewers w = if is_some (viewer_in viewers w) then 1 else 0
 
-  long_stays : (w : ℕ) → IsPlaced w d.columns
+  long_stays : (w : ℕ) → IsOnTop w d.columns
       → main_length texts (new_viewers d main org) w ≡ main_length d.texts d.viewers w
-  long_stays w placed =
-      let some = placed_known d.viewers d.columns d.kept w shaped.places placed in
+  long_stays w top =
+      let some = on_top_known d.viewers d.columns d.kept w shaped.places top in
       viewer_long texts d.viewers (new_viewers d main org) (new_id d) (new_viewer d main org) is_viewer_more
       (text_viewers d.texts texts (new_number d) more d.viewers shaped.viewers) w some
       ∙ text_long d.texts texts (new_number d) more d.viewers shaped.viewers w some
+
+  viewers_anew : AreViewers texts (new_viewers d main org)
+  viewers_anew = viewer_viewers texts d.viewers (new_viewers d main org) (new_id d) (new_viewer d main org)
+      is_viewer_more (text_viewers d.texts texts (new_number d) more d.viewers shaped.viewers)
 
   module _ (columns : Columns) (taken : Option ℕ) (hold : IsColumns columns)
       (places : (w : ℕ) → times_placed w columns + times_meant w taken
@@ -171,10 +197,16 @@ module _ (d : Desktop) (menu : Text ℕ) (main org : ℕ) (shaped : IsShaped d) 
         let before : times_there d.columns d.kept w ≡ found d.viewers w = shaped.places.once w in
         omega (arith, meant, same, all, before)
 
-    pub opening_anew : AreLooks menu → IsPlacedAnew (one_more d menu main org) columns taken
-    opening_anew looks = record {
-      viewers = viewer_viewers texts d.viewers (new_viewers d main org) (new_id d) (new_viewer d main org)
-          is_viewer_more (text_viewers d.texts texts (new_number d) more d.viewers shaped.viewers);
+    once_anew : (w : ℕ) → times_there columns d.kept w + times_meant w taken ≡ found (new_viewers d main org) w
+    once_anew w = by_number w (new_id d) _
+        (λ same. subst (λ (n : ℕ). times_there columns d.kept n + times_meant n taken
+        ≡ found (new_viewers d main org) n) (sym same) once_new)
+        (once_other w)
+
+    pub opening_anew : StandStill d.columns columns taken → AreLooks menu
+        → IsPlacedAnew (with_viewer d menu main org) columns taken
+    opening_anew stay looks = record {
+      viewers = viewers_anew;
       marks = same_marks d.columns (main_length d.texts d.viewers) (main_length texts (new_viewers d main org))
           d.caret d.selections long_stays shaped.marks;
       marker = shaped.marker;
@@ -183,11 +215,34 @@ module _ (d : Desktop) (menu : Text ℕ) (main org : ℕ) (shaped : IsShaped d) 
       looks = looks_stay (new_looks d shaped.looks menu looks) refl;
       kept_place = shaped.places.kept_place;
       columns_hold = hold;
-      once = λ w. by_number w (new_id d) _
-          (λ same. subst (λ (n : ℕ). times_there columns d.kept n + times_meant n taken
-          ≡ found (new_viewers d main org) n) (sym same) once_new)
-          (once_other w);
-      stay = λ w. let all = places w in omega (arith, all);
+      once = once_anew;
+      stay = stay;
+    }
+
+  module _ (k : Track) (hold : IsColumns (columns_over d k)) where
+    -- who isn't in the covered track is shown still
+    still_on_top : (w : ℕ) → is_shown_in d k w ≡ false → IsOnTop w d.columns → IsOnTop w (columns_over d k)
+    still_on_top w out top =
+        let none = ltb-false 0 (times_in w (shown d.columns k)) out in
+        let sum = cover_shows d.columns (new_id d) (left_of k) w in
+        let there = ap (λ (j : Track). times_in w (shown d.columns j)) (left_at k) in
+        omega (arith, none, sum, there, top)
+
+    pub covering_anew : AreLooks menu → IsPlacedAnew (covered_desktop d menu main org k) (columns_over d k) None
+    covering_anew looks = record {
+      viewers = viewers_anew;
+      marks = marks_outside (is_shown_in d k) d.columns (columns_over d k) (main_length d.texts d.viewers)
+          (main_length texts (new_viewers d main org)) still_on_top (λ w out top. long_stays w top) d.caret
+          d.selections shaped.marks;
+      marker = shaped.marker;
+      files = shaped.files;
+      pattern = shaped.pattern;
+      looks = looks_stay (new_looks d shaped.looks menu looks) refl;
+      kept_place = shaped.places.kept_place;
+      columns_hold = hold;
+      once = once_anew (columns_over d k) None hold
+          (λ w. let sum = cover_places d.columns (new_id d) (left_of k) w in omega (arith, sum));
+      stay = λ w. omega arith;
     }
 
 -- ---- as it is seen
@@ -208,7 +263,7 @@ module _ (characters : List ℕ) (d : KeptDesktop) where
   unfolding seen
   seen_text_more text = λ k. record (seen characters d) { texts = new_seen (seen_text characters) d.texts text k }
 
-  pub seen_opening_on : (menu : List Piece) (main org : ℕ) (cell : ℕ × ℕ)
+  seen_opening_on : (menu : List Piece) (main org : ℕ) (cell : ℕ × ℕ)
       → seen characters (opening_on d menu main org cell)
       ≡ opening_on (seen characters d) (seen_text characters menu) main org cell
   unfolding seen
@@ -217,13 +272,28 @@ module _ (characters : List ℕ) (d : KeptDesktop) where
       let columns = after_open d.columns (new_id d) cell.0 cell.1 in
       let taken = replaced_at d.columns cell.0 cell.1 in
       ap (seen characters) (opening_on_is d menu main org cell)
-      ∙ seen_anew characters (one_more d menu main org) columns taken
+      ∙ seen_anew characters (with_viewer d menu main org) columns taken
       ∙ (λ k. placed_anew (record (seen characters d) {
         texts = new_seen f d.texts menu k;
         viewers = insert_entry nat_cmp d.viewers (new_id d)
             (record { menu = sym number_seen k; main = main; org = org });
       }) columns taken)
       ∙ sym (opening_on_is (seen characters d) (f menu) main org cell)
+
+  seen_opening_over : (menu : List Piece) (main org : ℕ) (k : Track)
+      → seen characters (opening_over d menu main org k)
+      ≡ opening_over (seen characters d) (seen_text characters menu) main org k
+  unfolding seen opening_over covered_by
+  seen_opening_over menu main org k = λ i. covered_by (record (seen characters d) {
+    texts = new_seen (seen_text characters) d.texts menu i;
+    viewers = insert_entry nat_cmp d.viewers (new_id d) (record { menu = sym number_seen i; main = main; org = org });
+  }) (new_id d) k
+
+  pub seen_opening_to : (menu : List Piece) (main org : ℕ) (place : NewPlace)
+      → seen characters (opening_to d menu main org place)
+      ≡ opening_to (seen characters d) (seen_text characters menu) main org place
+  seen_opening_to menu main org (at_cell cell) = seen_opening_on menu main org cell
+  seen_opening_to menu main org (over k) = seen_opening_over menu main org k
 
   -- an opening of what is seen, where its main text comes first
   pub opening_seen : (menu : Text ℕ) (main : List Piece) (cell : ℕ × ℕ)
@@ -342,11 +412,11 @@ module _ (d : Desktop) (menu : Text ℕ) (main org : ℕ) (taken : Option ℕ)
   lengths_left = lengths_new d.texts menu test (staying main taken d.viewers) menu_stays
       (λ k other. test_is k ∙ (λ i. (k == 0) || ((other i || (main == k)) || by_others taken d.viewers k)))
 
-  held_one_more : (columns : Columns) → held (dropped (placed_anew (one_more d menu main org) columns taken))
+  held_one_more : (columns : Columns) → held (dropped (placed_anew (with_viewer d menu main org) columns taken))
       ≡ lengths (filter (λ e. staying main taken d.viewers e.0) d.texts) + lengths d.files + length d.copied
       + length d.deleted + length menu
   held_one_more columns =
-      let all = held_anew (one_more d menu main org) columns taken in
+      let all = held_anew (with_viewer d menu main org) columns taken in
       let left = lengths_left in
       omega (arith, all, left)
 
@@ -385,3 +455,20 @@ module _ (d : Desktop) (menu : Text ℕ) (cell : ℕ × ℕ) (apart : IsApart d 
       (λ k other i. (k == 0) || (other i || by_others gone d.viewers k)) in
       let before = held_without d gone in
       omega (arith, is, all, first, before)
+
+module _ (d : Desktop) (menu : Text ℕ) (main org : ℕ) (k : Track) where
+  held_covered : held (dropped (opening_over d menu main org k))
+      ≡ held (dropped (placed_anew (with_viewer d menu main org) (columns_over d k) None))
+  unfolding held dropped opening_over covered_by
+  held_covered = refl
+
+  -- in a new track nobody's place is taken
+  pub held_opening_over : ((n : ℕ) → list_any (λ j. j == n) (keys_of d.texts) ≡ true
+      → staying main None d.viewers n ≡ (n == 0) || by_others None d.viewers n)
+      → held (dropped (opening_over d menu main org k)) ≡ held (dropped d) + length menu
+  held_opening_over stays =
+      let all = held_one_more d menu main org None refl (columns_over d k) in
+      let before = held_without d None in
+      let same = ap lengths (filter_alike (staying main None d.viewers) (λ n. (n == 0) || by_others None d.viewers n)
+      d.texts stays) in
+      omega (arith, held_covered, all, before, same)

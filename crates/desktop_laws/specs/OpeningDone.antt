@@ -1,6 +1,6 @@
 -- The outcome of an opening, where the limits are known to hold after it.
 use Rattle.std.specs.Prelude.{◌≡◌, ◌≤◌, ◌<◌, ◌&&◌, nat_le, true, ℕ, ◌+◌, ◌*◌, ◌^◌, List, [], ◌∷◌, ◌++◌, length}
-use Rattle.std.specs.Prelude.{is_some, if◌then◌else◌, Some, Ok}
+use Rattle.std.specs.Prelude.{is_some, if◌then◌else◌, Some, None, Ok}
 use Rattle.std.specs.Ordering.{nat_cmp, match_ordering}
 use Rattle.std.specs.declared.cmp.Ordering.TheVariants.{Less, Equal, Greater}
 use Rattle.std.specs.BTreeMap.{insert_entry}
@@ -13,16 +13,20 @@ use Rattle.piece_ring.specs.Lengths.{length-run}
 use Rattle.piece_ring.specs.Offsets.{AreWithin, run-AreWithin}
 use Rattle.piece_ring.specs.Text.{Text}
 use Rattle.readers_scanners.specs.Reading.{contents}
-use Rattle.viewer_tracks.specs.declared.display.TheConstants.{ROWS}
+use Rattle.viewer_tracks.specs.declared.display.TheConstants.{ROWS, DEPTH}
+use Rattle.viewer_tracks.specs.declared.display.Track.{Track}
+use Rattle.viewer_tracks.specs.Display.{left_of}
 use Rattle.viewer_tracks.specs.Columns.{Columns, IsColumns, IsPlaced, times_placed, times_meant, after_open}
-use Rattle.viewer_tracks.specs.Columns.{replaced_at}
+use Rattle.viewer_tracks.specs.Columns.{after_open_track, replaced_at}
+use Rattle.viewer_tracks.proofs.PlacedLemmas.{open_shows}
 use Rattle.desktop_definitions.specs.declared.reply.Reply.TheVariants.{Done}
 use Rattle.desktop_definitions.specs.Limits.{most_written, most_held}
 use Rattle.desktop_definitions.specs.Tables.{Texts}
 use Rattle.desktop_laws.specs.TableLaws.{length_seen_text, length_seen}
 use Rattle.desktop_definitions.specs.Desktop.{DesktopOf, Desktop, KeptDesktop, held}
 use Rattle.desktop_definitions.specs.Change.{plain, more_written}
-use Rattle.desktop_definitions.specs.Opening.{with_new, opening_on, opening, dropped}
+use Rattle.desktop_definitions.specs.Opening.{new_number, new_id, with_new, with_viewer, opening_on, opening_over}
+use Rattle.desktop_definitions.specs.Opening.{opening, dropped}
 use Rattle.desktop_definitions.specs.Seen.{seen, seen_text}
 use Rattle.desktop_laws.specs.SeenLaws.{seen_longer, new_read}
 use Rattle.desktop_definitions.specs.Step.{fits, settled}
@@ -36,14 +40,15 @@ use Rattle.desktop_laws.specs.PlacedLaws.{seen_dropped, dropped_within, anew_wit
 use Rattle.desktop_laws.specs.PlacedLaws.{done}
 use Rattle.desktop_laws.specs.FewLaws.{few_viewers, few_texts}
 use Rattle.desktop_laws.specs.OpenLaws.{unused_none}
-use Rattle.desktop_laws.specs.OpenedLaws.{new_number, new_id, text_more, one_more, opening_on_is, opening_is}
-use Rattle.desktop_laws.specs.OpenedLaws.{CanShow, opening_anew, seen_opening_on, opening_seen, text_built, new_kept}
+use Rattle.desktop_laws.specs.OpenedLaws.{NewPlace, at_cell, over, text_more, columns_over, covered_desktop}
+use Rattle.desktop_laws.specs.OpenedLaws.{opening_to, opening_on_is, opening_over_is, opening_is, CanShow, opening_anew}
+use Rattle.desktop_laws.specs.OpenedLaws.{covering_anew, seen_opening_to, opening_seen, text_built, new_kept}
 use Rattle.desktop_definitions.specs.Looks.{AreLooks}
 use Rattle.desktop_laws.specs.LookedLaws.{default_is_look, run_looks, seen_looks, written_shaped, within_stays}
 
 -- ---- how many there are
 
-pub kept_viewers : (d : KeptDesktop) → IsKeptWhole d → length d.viewers ≤ ROWS + ROWS + 1
+pub kept_viewers : (d : KeptDesktop) → IsKeptWhole d → length d.viewers ≤ 2 * DEPTH * ROWS + 1
 unfolding seen
 kept_viewers d whole =
     let shaped = (whole.sound []).shaped in
@@ -78,10 +83,10 @@ new_fresh d whole placed =
     = once ∙ (λ k. if is_some (unused_none d.viewers k) then 1 else 0) in
     absurd (omega (arith, none, placed))
 
--- A text more and a viewer more have numbers of 16 and 8 bits, and that viewer stands nowhere yet.
+-- A text more and a viewer more have numbers of 16 bits, and that viewer stands nowhere yet.
 pub record CanOpen (d : KeptDesktop) : Type 0 where
   pub texts : length d.texts < 2 ^ 16
-  pub viewers : length d.viewers < 2 ^ 8
+  pub viewers : length d.viewers < 2 ^ 16
   pub fresh : ¬ IsPlaced (new_id d) d.columns
 
 pub can_open : (d : KeptDesktop) → IsKeptWhole d → CanOpen d
@@ -112,10 +117,21 @@ pub written_on : {T : Type 0} (d : DesktopOf T) (menu : T) (main org : ℕ) (cel
     → (dropped (opening_on d menu main org cell)).written ≡ d.written
 written_on {T} d menu main org cell =
     ap (λ (x : DesktopOf T). (dropped x).written) (opening_on_is d menu main org cell)
-    ∙ dropped_written (placed_anew (one_more d menu main org) (after_open d.columns (new_id d) cell.0 cell.1)
+    ∙ dropped_written (placed_anew (with_viewer d menu main org) (after_open d.columns (new_id d) cell.0 cell.1)
     (replaced_at d.columns cell.0 cell.1))
-    ∙ anew_written (one_more d menu main org) (after_open d.columns (new_id d) cell.0 cell.1)
+    ∙ anew_written (with_viewer d menu main org) (after_open d.columns (new_id d) cell.0 cell.1)
     (replaced_at d.columns cell.0 cell.1)
+
+pub written_over : {T : Type 0} (d : DesktopOf T) (menu : T) (main org : ℕ) (k : Track)
+    → (dropped (opening_over d menu main org k)).written ≡ d.written
+written_over {T} d menu main org k =
+    ap (λ (x : DesktopOf T). (dropped x).written) (opening_over_is d menu main org k)
+    ∙ dropped_written (placed_anew (covered_desktop d menu main org k) (columns_over d k) None)
+
+written_to : {T : Type 0} (d : DesktopOf T) (menu : T) (main org : ℕ) (place : NewPlace)
+    → (dropped (opening_to d menu main org place)).written ≡ d.written
+written_to d menu main org (at_cell cell) = written_on d menu main org cell
+written_to d menu main org (over k) = written_over d menu main org k
 
 -- texts that go have nothing to do with what was written
 dropped_more : {T : Type 0} (d : DesktopOf T) (n : ℕ) → more_written (dropped d) n ≡ dropped (more_written d n)
@@ -170,18 +186,32 @@ pub record PlacesOpened (columns : Columns) (v : ℕ) (cell : ℕ × ℕ) : Type
   pub places : (w : ℕ) → times_placed w (after_open columns v cell.0 cell.1)
       + times_meant w (replaced_at columns cell.0 cell.1) ≡ times_placed w columns + times_meant w (Some v)
 
-module _ (d : Desktop) (menu : Text ℕ) (main org : ℕ) (cell : ℕ × ℕ) (n : ℕ) (shaped : IsShaped d)
-    (can : CanShow d main org) (places : PlacesOpened d.columns (new_id d) cell) (looks : AreLooks menu) where
-  on_shaped : IsShaped (dropped (opening_on d menu main org cell))
-  on_shaped = dropped_shaped _ (subst IsShaped (sym (opening_on_is d menu main org cell))
-      (anew_shaped (one_more d menu main org) _ _
-      (opening_anew d menu main org shaped can _ _ places.hold places.places looks)))
+-- the columns stay sound where a viewer comes to stand in a place
+abbrev pub CanStand : Columns → ℕ → NewPlace → Type 0
+CanStand columns v (at_cell cell) = PlacesOpened columns v cell
+CanStand columns v (over k) = IsColumns (after_open_track columns v (left_of k))
 
-  on_sound : fits (more_written (dropped (opening_on d menu main org cell)) n) ≡ true
-      → IsSound (more_written (dropped (opening_on d menu main org cell)) n)
-  on_sound fit = record {
-    shaped = written_shaped _ on_shaped;
-    shown = dropped_shown (opening_on d menu main org cell);
+module _ (d : Desktop) (menu : Text ℕ) (main org : ℕ) (shaped : IsShaped d) (can : CanShow d main org)
+    (looks : AreLooks menu) where
+  pub opened_shaped : (place : NewPlace) → CanStand d.columns (new_id d) place
+      → IsShaped (opening_to d menu main org place)
+  opened_shaped (at_cell cell) places =
+      subst IsShaped (sym (opening_on_is d menu main org cell))
+      (anew_shaped (with_viewer d menu main org) _ _
+      (opening_anew d menu main org shaped can _ _ places.hold places.places
+      (λ w. let all = open_shows d.columns (new_id d) cell.0 cell.1 w shaped.places.columns_hold in omega (arith, all))
+      looks))
+  opened_shaped (over k) hold =
+      subst IsShaped (sym (opening_over_is d menu main org k))
+      (anew_shaped (covered_desktop d menu main org k) (columns_over d k) None
+      (covering_anew d menu main org shaped can k hold looks))
+
+  opened_sound : (place : NewPlace) (n : ℕ) → CanStand d.columns (new_id d) place
+      → fits (more_written (dropped (opening_to d menu main org place)) n) ≡ true
+      → IsSound (more_written (dropped (opening_to d menu main org place)) n)
+  opened_sound place n stands fit = record {
+    shaped = written_shaped _ (dropped_shaped _ (opened_shaped place stands));
+    shown = dropped_shown (opening_to d menu main org place);
     written_within = fit_written _ fit;
     held_within = fit_held _ fit;
   }
@@ -191,58 +221,63 @@ module _ (d : Desktop) (menu : Text ℕ) (main org : ℕ) (cell : ℕ × ℕ) (n
 -- An opening on a text that is there, of a desktop inside an event, whose menu is of the characters that there are and
 -- of these that were added.
 pub record IsOpeningOn (old bytes new : List ℕ) (d : KeptDesktop) (menu : List Piece) (main org : ℕ)
-    (cell : ℕ × ℕ) : Type 0 where
+    (place : NewPlace) : Type 0 where
   pub counted : length old ≡ d.written
   pub built : IsBuilt d.written d
   pub grown : new ≡ old ++ bytes
   pub within : AreWithin (d.written + length bytes) (flat menu)
   pub looks : AreLooks (flat menu)
   pub can : (characters : List ℕ) → CanShow (seen characters d) main org
-  pub places : PlacesOpened d.columns (new_id d) cell
+  pub stands : CanStand d.columns (new_id d) place
   pub fit : (characters : List ℕ) (text : Text ℕ) → length text ≡ length (flat menu)
-      → fits (dropped (more_written (opening_on (seen characters d) text main org cell) (length bytes))) ≡ true
+      → fits (dropped (more_written (opening_to (seen characters d) text main org place) (length bytes))) ≡ true
 
-module _ (H : Type 0) (old bytes new : List ℕ) (d : KeptDesktop) (menu : List Piece) (main org : ℕ) (cell : ℕ × ℕ)
-    (on : IsOpeningOn old bytes new d menu main org cell) where
+module _ (H : Type 0) (old bytes new : List ℕ) (d : KeptDesktop) (menu : List Piece) (main org : ℕ) (place : NewPlace)
+    (on : IsOpeningOn old bytes new d menu main org place) where
   abbrev n : ℕ
   n = length bytes
 
   abbrev pub after_on : KeptDesktop
-  after_on = record (dropped (opening_on d menu main org cell)) { written = d.written + n }
+  after_on = record (dropped (opening_to d menu main org place)) { written = d.written + n }
 
   abbrev now : List ℕ → Desktop
-  now characters = dropped (opening_on (seen characters d) (seen_text characters menu) main org cell)
+  now characters = dropped (opening_to (seen characters d) (seen_text characters menu) main org place)
 
   seen_after : (characters : List ℕ) → seen characters after_on ≡ more_written (now characters) n
   unfolding seen
   seen_after characters =
-      let same = seen_dropped characters (opening_on d menu main org cell)
-      ∙ ap dropped (seen_opening_on characters d menu main org cell) in
+      let same = seen_dropped characters (opening_to d menu main org place)
+      ∙ ap dropped (seen_opening_to characters d menu main org place) in
       let written = ap (λ (w : ℕ). w + n)
-      (sym (written_on (seen characters d) (seen_text characters menu) main org cell)) in
+      (sym (written_to (seen characters d) (seen_text characters menu) main org place)) in
       λ k. record (same k) { written = written k }
 
   sound_now : (characters : List ℕ) → IsSound (more_written (now characters) n)
   unfolding seen
   sound_now characters =
-      on_sound (seen characters d) (seen_text characters menu) main org cell n (on.built.shaped characters)
-      (on.can characters) (record { hold = on.places.hold; places = on.places.places })
-      (seen_looks characters menu on.looks)
-      (ap fits (dropped_more (opening_on (seen characters d) (seen_text characters menu) main org cell) n)
+      opened_sound (seen characters d) (seen_text characters menu) main org (on.built.shaped characters)
+      (on.can characters) (seen_looks characters menu on.looks) place n on.stands
+      (ap fits (dropped_more (opening_to (seen characters d) (seen_text characters menu) main org place) n)
       ∙ on.fit characters (seen_text characters menu) (length_seen_text characters menu))
 
-  on_within : IsWithin (d.written + n) (dropped (opening_on d menu main org cell))
-  on_within =
+  joined_within : IsWithin (d.written + n) (with_viewer d menu main org)
+  joined_within =
       let more = within_longer d.written (d.written + n) d (omega arith) on.built.within in
-      dropped_within (d.written + n) (opening_on d menu main org cell)
-      (subst (IsWithin (d.written + n)) (sym (opening_on_is d menu main org cell))
-      (anew_within (d.written + n) (one_more d menu main org) _ _ (record {
+      record {
         texts = All-values-insert_entry nat_cmp (new_number d) menu
             (λ pieces. AreWithin (d.written + n) (flat pieces)) d.texts more.texts on.within;
         files = more.files;
         copied = more.copied;
         deleted = more.deleted;
-      })))
+      }
+
+  on_within : IsWithin (d.written + n) (dropped (opening_to d menu main org place))
+  on_within = dropped_within (d.written + n) (opening_to d menu main org place) (by_place place) where
+    by_place : (place : NewPlace) → IsWithin (d.written + n) (opening_to d menu main org place)
+    by_place (at_cell cell) = subst (IsWithin (d.written + n)) (sym (opening_on_is d menu main org cell))
+        (anew_within (d.written + n) (with_viewer d menu main org) _ _ joined_within)
+    by_place (over k) = subst (IsWithin (d.written + n)) (sym (opening_over_is d menu main org k))
+        (within_stays joined_within refl)
 
   over_after : IsOver new after_on
   over_after = record {
@@ -259,11 +294,11 @@ module _ (H : Type 0) (old bytes new : List ℕ) (d : KeptDesktop) (menu : List 
 
   -- whatever the desktop was before the event
   pub on_answered : (before : KeptDesktop) (was : Desktop) (text : Text ℕ) (outcome : Desktop)
-      → seen_text new menu ≡ text → opening_on (seen old d) text main org cell ≡ outcome
+      → seen_text new menu ≡ text → opening_to (seen old d) text main org place ≡ outcome
       → IsAnswered H old new before after_on (settled was (Ok (more_written outcome n))) Done
   on_answered before was text outcome read is = acted H old new before after_on _ over_after (λ h.
       (λ k. (seen_after new k, Done))
-      ∙ (λ k. (more_written (dropped (opening_on (before_read k) (read k) main org cell)) n, Done))
+      ∙ (λ k. (more_written (dropped (opening_to (before_read k) (read k) main org place)) n, Done))
       ∙ (λ k. (dropped_more (is k) n k, Done))
       ∙ done was (more_written outcome n)
       (ap (λ (x : Desktop). fits (dropped (more_written x n))) (sym is)
@@ -306,14 +341,14 @@ module _ (H : Type 0) (old bytes new : List ℕ) (d : KeptDesktop) (menu : List 
         (Ok (more_written (opening (seen old d) (plain bytes) (seen_text old main) cell) (length bytes)))) Done
     unfolding opening
     opening_answered main within looks fit =
-        on_answered H old bytes new (text_more d main) menu (new_number d) 0 cell (record {
+        on_answered H old bytes new (text_more d main) menu (new_number d) 0 (at_cell cell) (record {
           counted = over.counted;
           built = text_built d.written d main built within looks;
           grown = grown;
           within = menu_within;
           looks = menu_looks;
           can = new_kept d main shaped;
-          places = record { hold = places.hold; places = places.places };
+          stands = record { hold = places.hold; places = places.places };
           fit = λ characters text long.
               ap (λ (x : Desktop). fits (dropped (more_written x (length bytes))))
               (opening_seen characters d text main cell)
@@ -330,13 +365,13 @@ module _ (H : Type 0) (old bytes new : List ℕ) (d : KeptDesktop) (menu : List 
         (settled (seen old d)
         (Ok (more_written (opening_on (seen old d) (plain bytes) main org cell) (length bytes)))) Done
     written_answered main org can fit =
-        on_answered H old bytes new d menu main org cell (record {
+        on_answered H old bytes new d menu main org (at_cell cell) (record {
           counted = over.counted;
           built = record { within = built.within; shaped = shaped };
           grown = grown;
           within = menu_within;
           looks = menu_looks;
           can = can;
-          places = record { hold = places.hold; places = places.places };
+          stands = record { hold = places.hold; places = places.places };
           fit = λ characters text long. fit characters text (long ∙ menu_long);
         }) d (seen old d) (plain bytes) (opening_on (seen old d) (plain bytes) main org cell) menu_read refl

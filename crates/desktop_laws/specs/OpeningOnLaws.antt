@@ -27,8 +27,9 @@ use Rattle.viewer_tracks.specs.declared.display.Track.TheVariants.{User, System}
 use Rattle.viewer_tracks.specs.Display.{track_at, left_of}
 use Rattle.viewer_tracks.specs.Viewers.{Entry, bottom_of, top_of, tops, lowest_reaching, entry_of}
 use Rattle.viewer_tracks.specs.Edits.{open_entry, open_top, takes_place, replaced}
-use Rattle.viewer_tracks.specs.Columns.{Columns, IsPlaced, shown, track_of, placed_bottom, placed_top, replaced_at}
-use Rattle.viewer_tracks.specs.Columns.{allocated}
+use Rattle.viewer_tracks.specs.Columns.{Columns, IsColumns, IsPlaced, IsOnTop, shown, track_of, placed_bottom}
+use Rattle.viewer_tracks.specs.Columns.{placed_top, replaced_at, allocated}
+use Rattle.viewer_tracks.proofs.PlacedLemmas.{shown_stands}
 use Rattle.desktop_definitions.specs.declared.viewer.Viewer.{Viewer}
 use Rattle.desktop_definitions.specs.declared.reply.Reply.TheVariants.{Done, No}
 use Rattle.desktop_definitions.specs.Limits.{no_file, full, too_low}
@@ -38,7 +39,7 @@ use Rattle.desktop_laws.specs.TableLaws.{lookup_seen, is_some_map, length_seen_t
 use Rattle.desktop_definitions.specs.Desktop.{Desktop, KeptDesktop, file_of, held}
 use Rattle.desktop_definitions.specs.Viewers.{viewer_in, viewer_or_none, bare_viewer, text_in, text_of, without_viewer}
 use Rattle.desktop_definitions.specs.Change.{plain, more_written}
-use Rattle.desktop_definitions.specs.Opening.{menu_line, opening_on, opening, is_shown, dropped}
+use Rattle.desktop_definitions.specs.Opening.{menu_line, new_id, opening_on, opening, is_shown, dropped}
 use Rattle.desktop_definitions.specs.Effects.{opened_on_copy, document_opened, file_opened, log_opened}
 use Rattle.desktop_definitions.specs.Effects.{viewer_copied}
 use Rattle.desktop_definitions.specs.Gesture.{tool_opened}
@@ -48,17 +49,17 @@ use Rattle.desktop_laws.specs.StepLaws.{AllShown}
 use Rattle.desktop_definitions.specs.Sound.{IsShaped, IsBuilt, IsKeptWhole, IsOver}
 use Rattle.desktop_definitions.specs.Outcome.{IsAnswered}
 use Rattle.desktop_laws.specs.OutcomeLaws.{refused, length_in_look}
-use Rattle.desktop_laws.specs.PlaceLaws.{any_at}
+use Rattle.desktop_laws.specs.PlaceLaws.{any_at, on_top_placed}
 use Rattle.desktop_laws.specs.OpenLaws.{placed_known}
 use Rattle.desktop_laws.specs.FewLaws.{all_any}
-use Rattle.desktop_laws.specs.OpenedLaws.{new_id, by_others, staying, CanShow, IsApart, held_opening_on}
+use Rattle.desktop_laws.specs.OpenedLaws.{at_cell, left_at, by_others, staying, CanShow, IsApart, held_opening_on}
 use Rattle.desktop_laws.specs.OpeningDone.{PlacesOpened, written_on, on_answered}
 use Rattle.desktop_laws.specs.OpeningDone.{written_answered}
 use Rattle.desktop_laws.specs.RowPartLaws.{kept_text_seen, text_within}
 use Rattle.desktop_definitions.specs.Looks.{AreLooks}
 use Rattle.desktop_laws.specs.LookedLaws.{found_looks, kept_text_looks, kept_files_looks}
 
-whole_built : (d : KeptDesktop) → IsKeptWhole d → IsBuilt d.written d
+pub whole_built : (d : KeptDesktop) → IsKeptWhole d → IsBuilt d.written d
 whole_built d whole = record { within = whole.within; shaped = λ characters. (whole.sound characters).shaped }
 
 -- ---- refusals
@@ -111,7 +112,7 @@ or_again : (a b : Bool) → a || (a || b) ≡ a || b
 or_again true b = refl
 or_again false b = refl
 
-or_more : (a b c : Bool) → a || c ≡ true → a || (b || c) ≡ a || c
+pub or_more : (a b c : Bool) → a || c ≡ true → a || (b || c) ≡ a || c
 or_more true b c is = refl
 or_more false true c is = sym is
 or_more false false c is = refl
@@ -120,7 +121,7 @@ module _ (d : Desktop) (all : AllShown d) where
   shown_there : (k : ℕ) → list_any (λ j. j == k) (keys_of d.texts) ≡ true → is_shown d k ≡ true
   shown_there k there = all_any k (λ n. is_shown d n ≡ true) (keys_of d.texts) all (any_at k (keys_of d.texts) ∙ there)
 
-  stays_anyway : (main k : ℕ) (taken : Option ℕ) → (main ≡ 0) ⊎ (taken ≡ None)
+  pub stays_anyway : (main k : ℕ) (taken : Option ℕ) → (main ≡ 0) ⊎ (taken ≡ None)
       → list_any (λ j. j == k) (keys_of d.texts) ≡ true
       → staying main taken d.viewers k ≡ (k == 0) || by_others taken d.viewers k
   stays_anyway main k taken (inl log) there =
@@ -195,10 +196,6 @@ module _ (t : List Entry) where
       and_false true b is = is
       and_false false b is = refl
 
-left_at : (k : Track) → track_at (left_of k) ≡ k
-left_at User = refl
-left_at System = refl
-
 -- where a viewer stands: its left column, the row at which it begins and the one before which it ends
 pub record IsPlaceOf (c : Columns) (v x bottom top : ℕ) : Type 0 where
   pub left : x ≡ left_of (track_of c v)
@@ -207,15 +204,16 @@ pub record IsPlaceOf (c : Columns) (v x bottom top : ℕ) : Type 0 where
   pub some : bottom < top
   pub within : top ≤ ROWS
 
-pub half_free : (c : Columns) (v x bottom top : ℕ) → IsPlaceOf c v x bottom top → ¬ (top - bottom ≡ 1)
-    → replaced_at c x (bottom + (top - bottom) / 2) ≡ None
-half_free c v x bottom top place more =
+pub half_free : (c : Columns) (v x bottom top : ℕ) → IsColumns c → IsOnTop v c → IsPlaceOf c v x bottom top
+    → ¬ (top - bottom ≡ 1) → replaced_at c x (bottom + (top - bottom) / 2) ≡ None
+half_free c v x bottom top hold placed place more =
     let t = shown c (track_of c v) in
+    let own = shown_stands c v hold placed in
     let some = place.some in
     let rows : 2 ≤ top - bottom =
     ⊎_elim (λ two. omega (arith, two)) (λ one. absurd (more (omega (arith, some, one)))) (cases_lt 1 (top - bottom)) in
-    let begins = place.begins in
-    let ends = place.ends in
+    let begins = place.begins ∙ ap (λ (t : List Entry). bottom_of t (entry_of t v)) own in
+    let ends = place.ends ∙ ap (λ (t : List Entry). top_of t (entry_of t v)) own in
     let within = place.within in
     ap (λ (k : Track). replaced (shown c k) (bottom + (top - bottom) / 2))
     (ap track_at place.left ∙ left_at (track_of c v))
@@ -240,11 +238,11 @@ module _ (d : Desktop) (v x bottom top : ℕ) (place : IsPlaceOf d.columns v x b
       (sym place.left k, sym place.begins k + (sym place.ends k - sym place.begins k) / 2))))
       ∙ rw (ne_eqb (top - bottom) 1 more) refl
 
-none_more : (d : Desktop) → more_written d 0 ≡ d
+pub none_more : (d : Desktop) → more_written d 0 ≡ d
 none_more d = let same : d.written + 0 ≡ d.written = omega arith in λ k. record d { written = same k }
 
 module _ (H : Type 0) (old : List ℕ) (d : KeptDesktop) (v x bottom top : ℕ) (menu : List Piece) (viewer : Viewer)
-    (over : IsOver old d) (placed : IsPlaced v d.columns) (place : IsPlaceOf d.columns v x bottom top)
+    (over : IsOver old d) (placed : IsOnTop v d.columns) (place : IsPlaceOf d.columns v x bottom top)
     (more : ¬ (top - bottom ≡ 1)) (is : viewer ≡ viewer_or_none d.viewers v)
     (copy : flat menu ≡ flat (text_in d.texts viewer.menu)) where
   abbrev cell : ℕ × ℕ
@@ -271,7 +269,7 @@ module _ (H : Type 0) (old : List ℕ) (d : KeptDesktop) (v x bottom top : ℕ) 
   can : (characters : List ℕ) → CanShow (seen characters d) viewer.main viewer.org
   unfolding seen
   can characters = subst (λ (w : Viewer). CanShow (seen characters d) w.main w.org) (sym is)
-      (viewer_can (seen characters d) v (over.whole.sound characters).shaped placed)
+      (viewer_can (seen characters d) v (over.whole.sound characters).shaped (on_top_placed d.columns v placed))
 
   pub copied_answered : PlacesOpened d.columns (new_id d) cell
       → ((characters : List ℕ) (text : Text ℕ) → length text ≡ length (flat menu)
@@ -283,7 +281,7 @@ module _ (H : Type 0) (old : List ℕ) (d : KeptDesktop) (v x bottom top : ℕ) 
       let after : KeptDesktop = dropped (opening_on d menu viewer.main viewer.org cell) in
       let same : d.written + 0 ≡ after.written = none ∙ sym (written_on d menu viewer.main viewer.org cell) in
       let built = whole_built d over.whole in
-      let answered = on_answered H old [] old d menu viewer.main viewer.org cell (record {
+      let answered = on_answered H old [] old d menu viewer.main viewer.org (at_cell cell) (record {
         counted = over.counted;
         built = record { within = built.within; shaped = built.shaped };
         grown = sym (append-nil old);
@@ -292,7 +290,7 @@ module _ (H : Type 0) (old : List ℕ) (d : KeptDesktop) (v x bottom top : ℕ) 
             (text_within d.written d viewer.menu over.whole.within));
         looks = subst AreLooks (sym copy) (kept_text_looks d.written d built viewer.menu);
         can = can;
-        places = record { hold = places.hold; places = places.places };
+        stands = record { hold = places.hold; places = places.places };
         fit = fit;
       }) d (seen old d) (text_of (seen old d) viewer.menu) outcome copy_read refl in
       subst (λ (p : KeptDesktop × Result Desktop ℕ). IsAnswered H old old d p.0 (settled (seen old d) p.1) Done)

@@ -15,7 +15,7 @@ use Rattle.piece_ring.specs.Look.{default_look}
 use Rattle.piece_ring.specs.declared.piece.Look.{Look}
 use Rattle.piece_ring.specs.Lengths.{length-inserted, length-deleted, length-looks_changed}
 use Rattle.piece_ring.specs.Text.{Text, inserted, deleted, looks_changed}
-use Rattle.viewer_tracks.specs.Columns.{Columns, IsPlaced, times_placed}
+use Rattle.viewer_tracks.specs.Columns.{Columns, IsPlaced, IsOnTop, times_placed}
 use Rattle.text_frames.specs.Lines.{line_start, line_above, begins_line}
 use Rattle.text_frames.specs.Rules.{moved, changed_org, is_in_rows as line_shown, shown_org}
 use Rattle.text_frames.proofs.Greatest.{greatest_within}
@@ -38,6 +38,7 @@ use Rattle.desktop_laws.specs.EditLaws.{edited_shaped, with_org_shaped, with_car
 use Rattle.desktop_laws.specs.EditLaws.{stays_moved}
 use Rattle.desktop_laws.specs.LookedLaws.{written_shaped, inserted_looks, deleted_looks, looks_changed_looks}
 use Rattle.desktop_laws.specs.LookedLaws.{stretch_looks, no_looks, default_is_look}
+use Rattle.desktop_laws.specs.PlaceLaws.{on_top_placed}
 use Rattle.desktop_laws.specs.OpeningOnLaws.{viewer_can}
 use Rattle.desktop_laws.specs.RowLaws.{main_seen, same_main}
 use Rattle.desktop_laws.specs.RowPartLaws.{last_holds}
@@ -162,10 +163,11 @@ module _ (d : Desktop) (shaped : IsShaped d) where
       (shown_within (bytes_of (main_of d v)) (rows_of d v) p (viewer_of d v).org (length (main_of d v)) low
       (viewer_can d v shaped placed).within)
 
-pub caret_shown_shaped : (d : Desktop) → IsShaped d → (v p : ℕ) → IsPlaced v d.columns → p ≤ length (main_of d v)
+pub caret_shown_shaped : (d : Desktop) → IsShaped d → (v p : ℕ) → IsOnTop v d.columns → p ≤ length (main_of d v)
     → IsShaped (caret_shown d v p)
 caret_shown_shaped d shaped v p placed low =
-    showing_shaped (with_caret d v p) (with_caret_shaped d shaped v p placed low) v p placed low
+    showing_shaped (with_caret d v p) (with_caret_shaped d shaped v p placed low) v p
+    (on_top_placed d.columns v placed) low
 
 -- ---- looks of what is put in
 
@@ -239,15 +241,15 @@ deletion_low d p q v there order low =
 -- ---- characters that are put in and taken out
 
 module _ (d : Desktop) (shaped : IsShaped d) where
-  pub put_in_shaped : (v p : ℕ) (more : Text ℕ) → IsPlaced v d.columns → p ≤ length (main_of d v) → AreLooks more
+  pub put_in_shaped : (v p : ℕ) (more : Text ℕ) → IsOnTop v d.columns → p ≤ length (main_of d v) → AreLooks more
       → IsShaped (put_in d v p more)
   put_in_shaped v p more placed low looks =
       let n : ℕ = (viewer_of d v).main in
-      let there = main_there d shaped v placed in
+      let there = main_there d shaped v (on_top_placed d.columns v placed) in
       let long = insertion_long d p more v there in
       caret_shown_shaped (insertion d n p more)
       (insertion_shaped d shaped n p more there low looks (text_looks d shaped n)) v (p + length more)
-      (subst (λ (c : Columns). IsPlaced v c) (sym (insertion_columns d n p more)) placed)
+      (subst (λ (c : Columns). IsOnTop v c) (sym (insertion_columns d n p more)) placed)
       (omega (arith, long, low))
 
   -- the caret stands in a viewer on the display
@@ -257,14 +259,14 @@ module _ (d : Desktop) (shaped : IsShaped d) where
   put_at_caret_shaped (first ∷ more) c stands looks =
       put_in_shaped c.viewer c.position (first ∷ more) stands.placed stands.within looks
 
-  pub taken_shaped : (v p q : ℕ) → IsPlaced v d.columns → p ≤ q → q ≤ length (main_of d v)
+  pub taken_shaped : (v p q : ℕ) → IsOnTop v d.columns → p ≤ q → q ≤ length (main_of d v)
       → IsShaped (caret_shown (deletion d (viewer_of d v).main p q) v p)
   taken_shaped v p q placed order low =
       let n : ℕ = (viewer_of d v).main in
-      let there = main_there d shaped v placed in
+      let there = main_there d shaped v (on_top_placed d.columns v placed) in
       caret_shown_shaped (deletion d n p q)
       (deletion_shaped d shaped n p q there low (text_looks d shaped n)) v p
-      (subst (λ (c : Columns). IsPlaced v c) (sym (deletion_columns d n p q)) placed)
+      (subst (λ (c : Columns). IsOnTop v c) (sym (deletion_columns d n p q)) placed)
       (deletion_low d p q v there order low)
 
   pub cut_out_shaped : (s : Selection) → IsSelection d.columns (main_length d.texts d.viewers) s
@@ -282,7 +284,7 @@ module _ (d : Desktop) (shaped : IsShaped d) where
       let n : ℕ = (viewer_of d s.viewer).main in
       let some = stands.some in
       let text : Text ℕ = looks_changed s.beg s.end selector look (text_of d n) in
-      let there = main_there d shaped s.viewer stands.placed in
+      let there = main_there d shaped s.viewer (on_top_placed d.columns s.viewer stands.placed) in
       let long : length text ≡ length (text_of d n) = length-looks_changed s.beg s.end selector look (text_of d n)
       (omega (arith, some)) stands.within in
       let now : text_in (set_value (is_at (nat_cmp n)) d.texts text) n ≡ text =

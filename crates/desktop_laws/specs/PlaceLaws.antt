@@ -22,7 +22,8 @@ use Rattle.std.proofs.lemmas.Map.Entries.{lookup-filter-keys}
 use Rattle.std.proofs.lemmas.Map.Lookups.{exact_unsigned}
 use Rattle.std.proofs.lemmas.Map.Views.{tells_apart}
 use Rattle.viewer_tracks.specs.declared.display.TheConstants.{ROWS, COLUMNS}
-use Rattle.viewer_tracks.specs.Columns.{Columns, IsColumns, times_placed, times_meant}
+use Rattle.viewer_tracks.specs.Columns.{Columns, IsColumns, IsPlaced, IsOnTop, times_placed, times_shown, times_meant}
+use Rattle.viewer_tracks.proofs.PlacedLemmas.{shown_placed}
 use Rattle.desktop_definitions.specs.declared.viewer.Viewer.{Viewer}
 use Rattle.desktop_definitions.specs.declared.viewer.Caret.{Caret}
 use Rattle.desktop_definitions.specs.declared.viewer.Selection.{Selection}
@@ -173,9 +174,48 @@ passed : (b : Bool) → not b ≡ true → b ≡ false
 passed true is = absurd cc
 passed false is = refl
 
--- who stood on the display still does, but for one that goes
-abbrev StandStill : Columns → Columns → Option ℕ → Type 0
-StandStill old new taken = (w : ℕ) → times_placed w old ≤ times_placed w new + times_meant w taken
+-- a viewer in a track that is shown stands in a track
+pub on_top_placed : (c : Columns) (v : ℕ) → IsOnTop v c → IsPlaced v c
+on_top_placed c v top = let placed = shown_placed c v in omega (arith, placed, top)
+
+-- who was shown still is, but for one that goes
+abbrev pub StandStill : Columns → Columns → Option ℕ → Type 0
+StandStill old new taken = (w : ℕ) → times_shown w old ≤ times_shown w new + times_meant w taken
+
+-- Viewers that don't pass a test keep what is marked, where they are shown still and have main texts as long as before.
+module _ (test : ℕ → Bool) (old new : Columns) (long other : ℕ → ℕ)
+    (still : (w : ℕ) → test w ≡ false → IsOnTop w old → IsOnTop w new)
+    (same : (w : ℕ) → test w ≡ false → IsOnTop w old → other w ≡ long w) where
+  caret_still : (x : Caret) → test x.viewer ≡ false → IsCaret old long x → IsCaret new other x
+  caret_still x out stands = record {
+    placed = still x.viewer out stands.placed;
+    within = subst (λ n. x.position ≤ n) (sym (same x.viewer out stands.placed)) stands.within;
+  }
+
+  selection_still : (s : Selection) → test s.viewer ≡ false → IsSelection old long s → IsSelection new other s
+  selection_still s out stands = record {
+    placed = still s.viewer out stands.placed;
+    some = stands.some;
+    within = subst (λ n. s.end ≤ n) (sym (same s.viewer out stands.placed)) stands.within;
+  }
+
+  pub marks_outside : (caret : Option Caret) (selections : List Selection) → AreMarks old long caret selections
+      → AreMarks new other (caret_outside test caret) (selections_outside test selections)
+  marks_outside caret selections are = record {
+    caret_stands = λ x here.
+        let was = caret_left test caret x here in
+        caret_still x was.1 (are.caret_stands x was.0);
+    all_stand = λ i s low.
+        let at = slice_index_or (selections_outside test selections) i s in
+        let out : not (test at.viewer) ≡ true = filter_passes (λ (s : Selection). not (test s.viewer)) selections i s low in
+        selection_still at (passed _ out)
+        (All-filter (λ (s : Selection). not (test s.viewer)) (IsSelection old long) selections are.all_stand i s low);
+    one_each = λ v.
+        let parts = sum_by-filter_both (λ (s : Selection). not (test s.viewer)) (λ s. not (not (test s.viewer)))
+        (λ s. refl) (λ s. cond (s.viewer == v) 1 0) selections in
+        let one = are.one_each v in
+        omega (arith, parts, one);
+  }
 
 module _ {X : Type 0} (g : ℕ) (texts : Texts (List X)) (viewers : List (ℕ × Viewer)) (old new : Columns)
     (stay : StandStill old new (Some g)) where
@@ -186,47 +226,17 @@ module _ {X : Type 0} (g : ℕ) (texts : Texts (List X)) (viewers : List (ℕ ×
   same_length w other = ap
       (λ (o : Option Viewer). length (text_in texts (unwrap_or o bare_viewer).main)) (removed_other g w viewers other)
 
-  still_placed : (w : ℕ) → ¬ (w ≡ g) → 0 + 1 ≤ times_placed w old → 0 + 1 ≤ times_placed w new
-  still_placed w other placed =
+  still_on_top : (w : ℕ) → ¬ (w ≡ g) → IsOnTop w old → IsOnTop w new
+  still_on_top w other placed =
       let apart : times_meant w (Some g) ≡ 0 = rw (ne_eqb g w (λ same. other (sym same))) refl in
       omega (arith, stay w, apart, placed)
-
-  caret_still : (x : Caret) → ¬ (x.viewer ≡ g) → IsCaret old (main_length texts viewers) x
-      → IsCaret new (main_length texts left) x
-  caret_still x other stands = record {
-    placed = still_placed x.viewer other stands.placed;
-    within = subst (λ n. x.position ≤ n) (sym (same_length x.viewer other)) stands.within;
-  }
-
-  selection_still : (s : Selection) → ¬ (s.viewer ≡ g) → IsSelection old (main_length texts viewers) s
-      → IsSelection new (main_length texts left) s
-  selection_still s other stands = record {
-    placed = still_placed s.viewer other stands.placed;
-    some = stands.some;
-    within = subst (λ n. s.end ≤ n) (sym (same_length s.viewer other)) stands.within;
-  }
 
   pub marks_left : (caret : Option Caret) (selections : List Selection)
       → AreMarks old (main_length texts viewers) caret selections
       → AreMarks new (main_length texts left) (caret_outside (λ w. w == g) caret)
       (selections_outside (λ w. w == g) selections)
-  marks_left caret selections are = record {
-    caret_stands = λ x here.
-        let was = caret_left (λ w. w == g) caret x here in
-        caret_still x (eqb-false x.viewer g was.1) (are.caret_stands x was.0);
-    all_stand = λ i s low.
-        let out : not ((slice_index_or (selections_outside (λ w. w == g) selections) i s).viewer == g) ≡ true
-        = filter_passes (λ (s : Selection). not (s.viewer == g)) selections i s low in
-        selection_still (slice_index_or (selections_outside (λ w. w == g) selections) i s)
-        (eqb-false _ g (passed _ out))
-        (All-filter (λ (s : Selection). not (s.viewer == g)) (IsSelection old (main_length texts viewers)) selections
-        are.all_stand i s low);
-    one_each = λ v.
-        let parts = sum_by-filter_both (λ (s : Selection). not (s.viewer == g)) (λ s. not (not (s.viewer == g)))
-        (λ s. refl) (λ s. cond (s.viewer == v) 1 0) selections in
-        let one = are.one_each v in
-        omega (arith, parts, one);
-  }
+  marks_left = marks_outside (λ w. w == g) old new (main_length texts viewers) (main_length texts left)
+      (λ w out. still_on_top w (eqb-false w g out)) (λ w out top. same_length w (eqb-false w g out))
 
 -- ---- places anew
 
@@ -287,7 +297,7 @@ module _ (d : Desktop) (columns : Columns) where
     pattern = are.pattern;
     looks = looks_stay are.looks refl;
   } where
-    still : (w : ℕ) → IsPlacedAnew d columns None → 0 + 1 ≤ times_placed w d.columns → 0 + 1 ≤ times_placed w columns
+    still : (w : ℕ) → IsPlacedAnew d columns None → IsOnTop w d.columns → IsOnTop w columns
     still w are placed = let stay = are.stay w in omega (arith, stay, placed)
   anew_shaped (Some g) are = record {
     viewers = viewers_left g d.texts d.viewers are.viewers;
@@ -306,8 +316,8 @@ module _ (d : Desktop) (columns : Columns) where
   -- where nobody comes
   pub none_comes : (taken : Option ℕ) → IsShaped d → IsColumns columns
       → ((w : ℕ) → times_placed w columns + times_meant w taken ≡ times_placed w d.columns)
-      → IsPlacedAnew d columns taken
-  none_comes taken shaped hold places = record {
+      → StandStill d.columns columns taken → IsPlacedAnew d columns taken
+  none_comes taken shaped hold places stay = record {
     viewers = shaped.viewers;
     marks = shaped.marks;
     marker = shaped.marker;
@@ -317,7 +327,7 @@ module _ (d : Desktop) (columns : Columns) where
     kept_place = shaped.places.kept_place;
     columns_hold = hold;
     once = λ w. let before = shaped.places.once w in let now = places w in omega (arith, before, now);
-    stay = λ w. let now = places w in omega (arith, now);
+    stay = stay;
   }
 
 -- ---- texts go that nobody shows

@@ -9,8 +9,10 @@ use Rattle.std.proofs.lemmas.Map.Made.{keys_of-map_values}
 use Rattle.piece_ring.specs.declared.piece.Piece.{Piece}
 use Rattle.piece_ring.specs.Flat.{flat}
 use Rattle.piece_ring.specs.Offsets.{AreWithin}
-use Rattle.viewer_tracks.specs.Columns.{Columns, IsColumns, IsPlaced, times_placed, times_meant}
+use Rattle.viewer_tracks.specs.Columns.{Columns, IsColumns, IsPlaced, IsOnTop, times_placed, times_meant}
 use Rattle.viewer_tracks.specs.Columns.{after_change as columns_changed, after_close, after_open, replaced_at}
+use Rattle.viewer_tracks.proofs.ColumnLemmas.{close_keeps}
+use Rattle.viewer_tracks.proofs.PlacedLemmas.{open_shows, change_shows, close_shows}
 use Rattle.desktop_definitions.specs.declared.reply.Reply.TheVariants.{Done}
 use Rattle.desktop_definitions.specs.Limits.{most_written, most_held}
 use Rattle.desktop_definitions.specs.Tables.{Texts, with_values}
@@ -24,7 +26,7 @@ use Rattle.desktop_definitions.specs.Sound.{AllWithin, IsWithin, IsSound, IsOver
 use Rattle.desktop_definitions.specs.Outcome.{IsAnswered}
 use Rattle.desktop_laws.specs.OutcomeLaws.{acted}
 use Rattle.desktop_laws.specs.PlaceLaws.{IsPlacedAnew, placed_anew, anew_shaped, none_comes, dropped_shaped}
-use Rattle.desktop_laws.specs.PlaceLaws.{dropped_shown, dropped_held, all_shown}
+use Rattle.desktop_laws.specs.PlaceLaws.{dropped_shown, dropped_held, all_shown, StandStill}
 
 -- ---- what is done to the desktop that is kept is done to what is seen
 
@@ -197,6 +199,17 @@ module _ {T : Type 0} (d : DesktopOf T) (v : ℕ) where
   unfolding carried opened_at
   carried_is x y = at_closed (after_close d.columns v) _ _
 
+-- who is shown still is after a viewer of a shown track was changed, and after it was carried elsewhere
+pub change_stays : (c : Columns) (v y : ℕ) → IsColumns c → IsOnTop v c → StandStill c (columns_changed c v y) None
+change_stays c v y hold placed w = let same = change_shows c v y w hold placed in omega (arith, same)
+
+pub carry_stays : (c : Columns) (v x y : ℕ) → IsColumns c → IsOnTop v c
+    → StandStill c (after_open (after_close c v) v x y) (replaced_at (after_close c v) x y)
+carry_stays c v x y hold placed w =
+    let closed = close_shows c v w hold placed in
+    let opened = open_shows (after_close c v) v x y w (close_keeps c v hold placed) in
+    omega (arith, closed, opened)
+
 -- what the laws of the tracks say of one edit
 pub record PlacesKept (old new : Columns) (taken : Option ℕ) : Type 0 where
   pub hold : IsColumns new
@@ -213,32 +226,43 @@ pub over_columns : (characters : List ℕ) (d : KeptDesktop) → IsOver characte
 unfolding seen
 over_columns characters d over = (over.whole.sound characters).shaped.places.columns_hold
 
+-- each text of a desktop that is kept is shown
+pub over_shown : (characters : List ℕ) (d : KeptDesktop) → IsOver characters d
+    → All (λ n. IsTrue (is_shown d n)) (keys_of d.texts)
+unfolding seen
+over_shown characters d over = subst (λ (ks : List ℕ). All (λ n. IsTrue (is_shown d n)) ks)
+    (keys_of-map_values (seen_text []) d.texts) (over.whole.sound []).shown
+
 module _ (H : Type 0) (old : List ℕ) (d : KeptDesktop) (over : IsOver old d) where
-  nobody : (columns : Columns) (taken : Option ℕ) → PlacesKept d.columns columns taken → (characters : List ℕ)
-      → IsPlacedAnew (seen characters d) columns taken
+  nobody : (columns : Columns) (taken : Option ℕ) → PlacesKept d.columns columns taken
+      → StandStill d.columns columns taken → (characters : List ℕ) → IsPlacedAnew (seen characters d) columns taken
   unfolding seen
-  nobody columns taken places characters =
-      none_comes (seen characters d) columns taken (over.whole.sound characters).shaped places.hold places.places
+  nobody columns taken places stay characters =
+      none_comes (seen characters d) columns taken (over.whole.sound characters).shaped places.hold places.places stay
 
   abbrev answered : KeptDesktop × Desktop → Type 0
   answered both = IsAnswered H old old d both.0 (settled (seen old d) (Ok both.1)) Done
 
-  shown : All (λ n. IsTrue (is_shown d n)) (keys_of d.texts)
-  unfolding seen
-  shown = subst (λ (ks : List ℕ). All (λ n. IsTrue (is_shown d n)) ks) (keys_of-map_values (seen_text []) d.texts)
-      (over.whole.sound []).shown
+  hold : IsColumns d.columns
+  hold = over_columns old d over
 
-  pub resized_answered : (v y : ℕ) → PlacesKept d.columns (columns_changed d.columns v (y + 1)) None
+  pub resized_answered : (v y : ℕ) → IsOnTop v d.columns
+      → PlacesKept d.columns (columns_changed d.columns v (y + 1)) None
       → answered (resized d v y, resized (seen old d) v y)
   unfolding resized seen
-  resized_answered v y places = subst answered
-      (λ k. (all_shown (record d { columns = columns_changed d.columns v (y + 1) }) shown k, resized (seen old d) v y))
-      (anew_answered H old d (columns_changed d.columns v (y + 1)) None over (nobody _ None places))
+  resized_answered v y placed places = subst answered
+      (λ k. (
+        all_shown (record d { columns = columns_changed d.columns v (y + 1) }) (over_shown old d over) k,
+        resized (seen old d) v y,
+      ))
+      (anew_answered H old d (columns_changed d.columns v (y + 1)) None over
+      (nobody _ None places (change_stays d.columns v (y + 1) hold placed)))
 
-  pub carried_answered : (v x y : ℕ) → PlacesKept d.columns (after_open (after_close d.columns v) v x (y + 1))
+  pub carried_answered : (v x y : ℕ) → IsOnTop v d.columns
+      → PlacesKept d.columns (after_open (after_close d.columns v) v x (y + 1))
       (replaced_at (after_close d.columns v) x (y + 1))
       → answered (dropped (carried d v x y), carried (seen old d) v x y)
   unfolding seen
-  carried_answered v x y places = subst answered
+  carried_answered v x y placed places = subst answered
       (λ k. (dropped (sym (carried_is d v x y) k), sym (carried_is (seen old d) v x y) k))
-      (anew_answered H old d _ _ over (nobody _ _ places))
+      (anew_answered H old d _ _ over (nobody _ _ places (carry_stays d.columns v x (y + 1) hold placed)))

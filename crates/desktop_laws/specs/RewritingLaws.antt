@@ -1,5 +1,5 @@
 -- Laws of texts that are written anew: they read as before, in the same looks, and name no other characters.
-use Rattle.std.proofs.Common.{◌≡◌, ℕ, zero, suc, ◌+◌, ◌<◌, ◌≤◌, List, [], ◌∷◌, ◌++◌, length, map, All, slice_index}
+use Rattle.std.proofs.Common.{◌≡◌, ℕ, zero, suc, ◌+◌, ◌≤◌, List, [], ◌∷◌, ◌++◌, length, map, All, slice_index}
 use Rattle.std.proofs.Common.{refl, sym, ap, subst, ◌∙◌, arith, add-zero, append_assoc, length-append}
 use Rattle.std.specs.Map.{values_of}
 use Rattle.std.proofs.lemmas.List.Elements.{All-nil, All-cons, All-head, All-tail}

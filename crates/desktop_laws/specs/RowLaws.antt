@@ -21,7 +21,7 @@ use Rattle.desktop_definitions.specs.declared.viewer.Kept.{Kept}
 use Rattle.desktop_definitions.specs.declared.reply.Reply.TheVariants.{Done, No}
 use Rattle.desktop_definitions.specs.Limits.{most_written, most_held, no_caret, no_selection, no_command, no_file, full}
 use Rattle.desktop_definitions.specs.Limits.{too_many_files, outside, wrong_symbol, no_viewer as viewer_missing}
-use Rattle.desktop_definitions.specs.Limits.{not_found, bad_value, too_low}
+use Rattle.desktop_definitions.specs.Limits.{not_found, bad_value, too_deep, too_low}
 use Rattle.desktop_definitions.specs.Tables.{Texts, numbered}
 use Rattle.desktop_laws.specs.TableLaws.{lookup_seen, is_some_map, kept_lengths, lengths_seen}
 use Rattle.desktop_definitions.specs.Desktop.{Desktop, KeptDesktop, held}
@@ -77,8 +77,11 @@ known_not_found = inr (inr (inr (inr (inr (inr (inr (inr (inr (inl refl)))))))))
 pub known_bad_value : OneOf reply_codes bad_value
 known_bad_value = inr (inr (inr (inr (inr (inr (inr (inr (inr (inr (inl refl))))))))))
 
+pub known_too_deep : OneOf reply_codes too_deep
+known_too_deep = inr (inr (inr (inr (inr (inr (inr (inr (inr (inr (inr (inl refl)))))))))))
+
 pub known_too_low : OneOf reply_codes too_low
-known_too_low = inr (inr (inr (inr (inr (inr (inr (inr (inr (inr (inr refl))))))))))
+known_too_low = inr (inr (inr (inr (inr (inr (inr (inr (inr (inr (inr (inr refl)))))))))))
 
 -- ---- texts that are shown
 
@@ -348,13 +351,13 @@ counts_then a b c m n g h more fewer first next more_is fewer_is = record {
   written = next.written ∙ first.written;
 }
 
--- ---- viewers on the display, and their texts
+-- ---- viewers in tracks, and their texts
 
 some_placed : (found : Bool) (a b : ℕ) → a + b ≡ (if found then 1 else 0) → 0 < a → found ≡ true
 some_placed true a b is low = refl
 some_placed false a b is low = absurd (omega (arith, is, low))
 
--- a viewer on the display is in the table
+-- a viewer in a track is in the table
 pub placed_there : {viewers : List (ℕ × Viewer)} {columns : Columns} {kept : Option Kept}
     → ArePlaces viewers columns kept → (v : ℕ) → IsPlaced v columns → IsSome (viewer_in viewers v)
 placed_there places v placed = some_placed _ _ _ (places.once v) placed

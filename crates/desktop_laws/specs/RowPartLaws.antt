@@ -14,7 +14,7 @@ use Rattle.piece_ring.specs.Offsets.{AreWithin}
 use Rattle.piece_ring.specs.Renaming.{renamed-stretch}
 use Rattle.piece_ring.specs.Text.{Text, stretch}
 use Rattle.readers_scanners.specs.Reading.{contents}
-use Rattle.viewer_tracks.specs.Columns.{IsPlaced}
+use Rattle.viewer_tracks.specs.Columns.{IsOnTop}
 use Rattle.desktop_definitions.specs.declared.viewer.Caret.{Caret}
 use Rattle.desktop_definitions.specs.declared.viewer.Selection.{Selection}
 use Rattle.desktop_definitions.specs.declared.reply.Reply.TheVariants.{Done}
@@ -94,7 +94,7 @@ text_within n d m within = within_table n d.texts m within.texts
 
 -- the caret stands in a viewer on the display, within its text
 pub kept_caret : (n : ℕ) (d : KeptDesktop) (c : Caret) → IsBuilt n d → d.caret ≡ Some c
-    → IsPlaced c.viewer d.columns × (c.position ≤ length (flat (kept_main d c.viewer)))
+    → IsOnTop c.viewer d.columns × (c.position ≤ length (flat (kept_main d c.viewer)))
 unfolding seen
 kept_caret n d c built is =
     let stands = (built.shaped []).marks.caret_stands c is in
@@ -119,7 +119,7 @@ last_holds P o (y ∷ ys) x first all is =
 
 -- the newest selection is some stretch of a viewer on the display
 pub kept_newest : (n : ℕ) (d : KeptDesktop) (s : Selection) → IsBuilt n d → last_or None d.selections ≡ Some s
-    → IsPlaced s.viewer d.columns × (s.beg < s.end) × (s.end ≤ length (flat (kept_main d s.viewer)))
+    → IsOnTop s.viewer d.columns × (s.beg < s.end) × (s.end ≤ length (flat (kept_main d s.viewer)))
 unfolding seen
 kept_newest n d s built is =
     let stands = last_holds

@@ -16,7 +16,7 @@ use Rattle.piece_ring.specs.declared.piece.Piece.{Piece}
 use Rattle.piece_ring.specs.Flat.{flat}
 use Rattle.piece_ring.specs.Text.{Text}
 use Rattle.readers_scanners.specs.Reading.{contents, bytes}
-use Rattle.viewer_tracks.specs.Columns.{IsPlaced}
+use Rattle.viewer_tracks.specs.Columns.{IsOnTop}
 use Rattle.desktop_definitions.specs.declared.viewer.Caret.{Caret}
 use Rattle.desktop_definitions.specs.declared.viewer.Selection.{Selection}
 use Rattle.desktop_definitions.specs.declared.reply.Reply.{Reply}
@@ -399,7 +399,7 @@ module _ (H : Type 0) (old : List ℕ) (d : KeptDesktop) (buffer : List Piece) (
     unfolding seen
     put_some = rw is refl
 
-    pub put_full : IsPlaced c.viewer d.columns → has_space (seen old d) 0 (length (flat buffer)) 0 ≡ false
+    pub put_full : IsOnTop c.viewer d.columns → has_space (seen old d) 0 (length (flat buffer)) 0 ≡ false
         → IsAnswered H old old d d (settled (seen old d) (put_row (seen old d) text)) (No full)
     put_full placed none = row_as (seen old d) (put_row (seen old d) text)
         (full_rest_answered H old d (put_at_caret (seen old d) text c) (length (flat buffer)) 0 over

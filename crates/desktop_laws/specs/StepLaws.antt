@@ -10,7 +10,8 @@ use Rattle.std.proofs.lemmas.Cmp.{nat_cmp_total, lists_total}
 use Rattle.std.proofs.lemmas.List.Elements.{All-nil, All-cons}
 use Rattle.std.proofs.lemmas.Map.Views.{All-keys-insert_entry}
 use Rattle.piece_ring.specs.Text.{Text}
-use Rattle.viewer_tracks.specs.Columns.{track_of}
+use Rattle.viewer_tracks.specs.Viewers.{Entry}
+use Rattle.viewer_tracks.specs.Columns.{IsStack, track_of}
 use Rattle.event_bytes.specs.Bytes.{is_name}
 use Rattle.event_bytes.specs.declared.event.Event.TheVariants.{File}
 use Rattle.desktop_definitions.specs.declared.reply.Reply.TheVariants.{Done, No}
@@ -124,6 +125,14 @@ filed_sound d name text sound valid room looks fit = record {
   held_within = fit_held _ fit;
 }
 
+bare_stack : IsStack (let s : List (List Entry) = [] ∷ [] in s)
+bare_stack = record {
+  some = omega arith;
+  few = omega arith;
+  tracks = search rules;
+  overlays = λ level high within. absurd (omega (arith, high, within));
+}
+
 pub empty_sound : IsSound empty_desktop
 unfolding empty_desktop IsStrictlySortedBy held track_of
 empty_sound = record {
@@ -136,10 +145,8 @@ empty_sound = record {
     };
     places = record {
       columns_hold = record {
-        one_user = refl;
-        one_system = refl;
-        user = search rules;
-        system = search rules;
+        user = bare_stack;
+        system = bare_stack;
         once = λ v. omega arith;
       };
       once = λ v. refl;

@@ -2,7 +2,7 @@
 use Rattle.std.specs.Prelude.{◌≡◌, ◌<◌, ◌≤◌, ℕ, zero, suc, ◌+◌, ◌-◌, ◌/◌, ◌*◌, ◌==◌, ◌&&◌, nat_le, nat_lt, min, max}
 use Rattle.std.specs.Prelude.{Bool}
 use Rattle.std.specs.Prelude.{true, false, cond, if◌then◌else◌, List, [], ◌∷◌, length, take, drop, fold, map}
-use Rattle.std.specs.Prelude.{codes, Option, Some, None, is_some, IfSome, IsTrue, All, Result, Ok, Err, IfOk}
+use Rattle.std.specs.Prelude.{codes, Option, Some, None, is_some, IfSome, IsTrue, Result, Ok, Err, IfOk}
 use Rattle.std.specs.Option.{unwrap_or, option_map}
 use Rattle.std.specs.List.{find, list_all, range_with_len}
 use Rattle.std.specs.Map.{keys_of}
@@ -42,27 +42,28 @@ use Rattle.command_table.specs.declared.command.Command.TheVariants.{SystemDirec
 use Rattle.command_table.specs.declared.command.Command.TheVariants.{SystemSetFont, SystemSetColor, SystemSetOffset}
 use Rattle.command_table.specs.declared.command.Command.TheVariants.{EditChangeFont, EditChangeColor}
 use Rattle.command_table.specs.declared.command.Command.TheVariants.{EditChangeOffset, EditStore, EditSearch}
-use Rattle.command_table.specs.declared.command.Command.TheVariants.{EditRecall, SystemCollect}
+use Rattle.command_table.specs.declared.command.Command.TheVariants.{EditRecall, SystemCollect, SystemGrow}
 use Rattle.text_frames.specs.Cells.{position_at, stands_by, row_of}
 use Rattle.text_frames.specs.Lines.{line_start, begins_line}
 use Rattle.text_frames.proofs.Greatest.{greatest_within}
 use Rattle.viewer_tracks.specs.declared.display.Track.{Track}
-use Rattle.viewer_tracks.specs.declared.display.Track.TheVariants.{User, System}
-use Rattle.viewer_tracks.specs.declared.display.TheConstants.{ROWS, COLUMNS}
+use Rattle.viewer_tracks.specs.declared.display.Track.TheVariants.{System}
+use Rattle.viewer_tracks.specs.declared.display.TheConstants.{ROWS, COLUMNS, DEPTH}
 use Rattle.viewer_tracks.specs.Display.{left_of}
-use Rattle.viewer_tracks.specs.Viewers.{Entry, IsTrack, bottom_of, top_of}
-use Rattle.viewer_tracks.specs.Columns.{Columns, IsColumns, IsPlaced, topmost, shown, track_of}
-use Rattle.viewer_tracks.specs.Columns.{placed_top, placed_bottom, placed_entry, seen_at, after_open, after_change}
+use Rattle.viewer_tracks.specs.Viewers.{Entry, IsTrack, bottom_of, top_of, entry_of}
+use Rattle.viewer_tracks.specs.Columns.{Columns, IsColumns, IsPlaced, IsOnTop, stack_of, shown, track_of}
+use Rattle.viewer_tracks.specs.Columns.{placed_top, placed_bottom, seen_at, after_open, after_change}
 use Rattle.viewer_tracks.specs.Columns.{after_close, replaced_at, allocated, StandsAt}
-use Rattle.viewer_tracks.proofs.ColumnLemmas.{open_keeps, change_keeps, close_keeps}
-use Rattle.viewer_tracks.proofs.PlacedLemmas.{open_places, change_places, close_places, seen_placed}
+use Rattle.viewer_tracks.proofs.StackLemmas.{topmost_track}
+use Rattle.viewer_tracks.proofs.ColumnLemmas.{stack_in, open_keeps, cover_keeps, change_keeps, close_keeps}
+use Rattle.viewer_tracks.proofs.PlacedLemmas.{open_places, change_places, close_places, seen_placed, shown_stands}
 use Rattle.desktop_definitions.specs.declared.region.Region.{Region}
 use Rattle.desktop_definitions.specs.declared.region.Region.TheVariants.{Filler, Menu, Bar, Body}
 use Rattle.desktop_definitions.specs.declared.call.Call.{Call}
 use Rattle.desktop_definitions.specs.declared.viewer.Caret.{Caret}
 use Rattle.desktop_definitions.specs.declared.viewer.Kept.{Kept}
 use Rattle.desktop_definitions.specs.declared.viewer.Selection.{Selection}
-use Rattle.desktop_definitions.specs.Limits.{most_pattern, too_low, no_file, too_many_files}
+use Rattle.desktop_definitions.specs.Limits.{most_pattern, too_low, too_deep, no_file, too_many_files}
 use Rattle.desktop_definitions.specs.Limits.{wrong_symbol, no_selection, not_found, no_caret, outside}
 use Rattle.desktop_definitions.specs.Limits.{bad_value, no_command, full, no_viewer as viewer_missing}
 use Rattle.desktop_definitions.specs.Needs.{needs, unless, given}
@@ -74,12 +75,13 @@ use Rattle.desktop_definitions.specs.Viewers.{newest, selected, rows_of, with_or
 use Rattle.desktop_definitions.specs.Viewers.{with_selection}
 use Rattle.desktop_definitions.specs.Change.{plain, bytes_of, in_look, looks_set, put_in, put_at_caret, cut_out}
 use Rattle.desktop_definitions.specs.Change.{caret_shown, deletion, more_written}
-use Rattle.desktop_definitions.specs.Opening.{menu_line, opening_on, dropped}
+use Rattle.desktop_definitions.specs.Opening.{menu_line, new_number, new_id, opening_on, opening_over, dropped}
 use Rattle.desktop_definitions.specs.Log.{all_logged}
 use Rattle.desktop_definitions.specs.Looks.{IsLook, AreLooks, SetsLook, font_set, colour_set, offset_set}
 use Rattle.desktop_definitions.specs.Shown.{caret_position}
 use Rattle.desktop_definitions.specs.Effects.{opened_on_copy, file_opened, document_opened, log_opened, put_away}
-use Rattle.desktop_definitions.specs.Effects.{brought_back, parted, viewer_copied, log_cleared, directory_logged}
+use Rattle.desktop_definitions.specs.Effects.{brought_back, parted, viewer_copied, grown, viewer_grown, log_cleared}
+use Rattle.desktop_definitions.specs.Effects.{directory_logged}
 use Rattle.desktop_definitions.specs.Effects.{files_deleted, deleting_line, storing_line, without_file, menu_name}
 use Rattle.desktop_definitions.specs.Effects.{stored, stored_as, look_set}
 use Rattle.desktop_definitions.specs.Effects.{selection_set, found_at, pattern_after, searched, collected}
@@ -99,11 +101,11 @@ use Rattle.desktop_definitions.specs.Sound.{IsShaped, IsSound, IsCaret, IsKeptPl
 use Rattle.desktop_laws.specs.LookedLaws.{look_at_looks, relooked_is_look, copied_looks, taken_looks, typed_looks}
 use Rattle.desktop_laws.specs.LookedLaws.{looks_stay, shape_stays, written_shaped, files_looks, put_looks, no_looks}
 use Rattle.desktop_laws.specs.LookedLaws.{font_sets_look, colour_sets_look, offset_sets_look}
-use Rattle.desktop_laws.specs.PlaceLaws.{anew_shaped, none_comes, dropped_shaped, dropped_shown}
-use Rattle.desktop_laws.specs.PlacedLaws.{resized_is, carried_is, closed_fresh}
+use Rattle.desktop_laws.specs.PlaceLaws.{on_top_placed, anew_shaped, none_comes, dropped_shaped, dropped_shown}
+use Rattle.desktop_laws.specs.PlacedLaws.{resized_is, carried_is, closed_fresh, change_stays, carry_stays}
 use Rattle.desktop_laws.specs.OpenLaws.{unused_none}
-use Rattle.desktop_laws.specs.OpenedLaws.{CanShow, new_id, new_number, text_more, one_more, opening_on_is, opening_is}
-use Rattle.desktop_laws.specs.OpenedLaws.{text_shaped, new_shown, opening_anew}
+use Rattle.desktop_laws.specs.OpenedLaws.{at_cell, over, left_at, CanShow, text_more, opening_is, text_shaped, new_shown}
+use Rattle.desktop_laws.specs.OpeningDone.{opened_shaped}
 use Rattle.desktop_laws.specs.OpeningOnLaws.{log_can, viewer_can}
 use Rattle.desktop_laws.specs.ClosingLaws.{place_kept, closed_desktop, closed_columns, kept_before, put_away_is}
 use Rattle.desktop_laws.specs.ClosingLaws.{closed_anew, restood, kept_nowhere, recalled_columns, replaced_by_kept}
@@ -221,14 +223,6 @@ symbol_named bs p = first_named (drop (after_blanks bs p) bs)
 
 -- ---- columns
 
-topmost_track : (s : List (List Entry)) → All IsTrack s → length s ≡ 1 → IsTrack (topmost s)
-topmost_track [] all one = absurd (omega (arith, one))
-topmost_track (t ∷ under) all one = all 0 t (omega arith)
-
-shown_track : (c : Columns) (k : Track) → IsColumns c → IsTrack (shown c k)
-shown_track c User are = topmost_track c.user are.user are.one_user
-shown_track c System are = topmost_track c.system are.system are.one_system
-
 -- an entry ends above the bottom of the display, and within it
 top_within : (t : List Entry) (i : ℕ) → IsTrack t → (0 < top_of t i) × (top_of t i ≤ ROWS)
 top_within t i is = (elim (nat_lt i (length t)) as (λ b. nat_lt i (length t) ≡ b
@@ -243,15 +237,17 @@ top_within t i is = (elim (nat_lt i (length t)) as (λ b. nat_lt i (length t) �
       | false ↦ λ high. (omega arith, omega arith)
     ]) refl
 
-kept_within : (c : Columns) (v : ℕ) → IsColumns c → IsKeptPlace (place_kept c v)
-kept_within c v are =
-    let both = top_within (shown c (track_of c v)) (placed_entry c v) (shown_track c (track_of c v) are) in
-    record { some = both.0; within = both.1 }
+kept_within : (c : Columns) (v : ℕ) → IsColumns c → IsOnTop v c → IsKeptPlace (place_kept c v)
+kept_within c v are placed =
+    let k = track_of c v in
+    let own = ap (λ (t : List Entry). top_of t (entry_of t v)) (shown_stands c v are placed) in
+    let both = top_within (shown c k) (entry_of (shown c k) v) (topmost_track (stack_of c k) (stack_in c k are)) in
+    record { some = omega (arith, both.0, own); within = omega (arith, both.1, own) }
 
 -- ---- openings
 
 module _ (d : Desktop) (shaped : IsShaped d) where
-  new_fresh : IsPlaced (new_id d) d.columns → ⊥
+  new_fresh : ¬ IsPlaced (new_id d) d.columns
   new_fresh placed =
       let none : times_there d.columns d.kept (new_id d) ≡ 0 = shaped.places.once (new_id d)
       ∙ (λ k. if is_some (unused_none d.viewers k) then 1 else 0) in
@@ -261,16 +257,21 @@ module _ (d : Desktop) (shaped : IsShaped d) where
       → IsShaped (opening_on d menu main org cell)
   opening_on_shaped menu main org cell can looks =
       let hold = shaped.places.columns_hold in
-      subst IsShaped (sym (opening_on_is d menu main org cell))
-      (anew_shaped (one_more d menu main org) (after_open d.columns (new_id d) cell.0 cell.1)
-      (replaced_at d.columns cell.0 cell.1)
-      (opening_anew d menu main org shaped can (after_open d.columns (new_id d) cell.0 cell.1)
-      (replaced_at d.columns cell.0 cell.1) (open_keeps d.columns (new_id d) cell.0 cell.1 hold new_fresh)
-      (λ w. open_places d.columns (new_id d) cell.0 cell.1 w hold) looks))
+      opened_shaped d menu main org shaped can looks (at_cell cell) (record {
+        hold = open_keeps d.columns (new_id d) cell.0 cell.1 hold new_fresh;
+        places = λ w. open_places d.columns (new_id d) cell.0 cell.1 w hold;
+      })
 
-opened_shaped : (d : Desktop) (name : List ℕ) (text : Text ℕ) (cell : ℕ × ℕ) → IsShaped d → AreLooks text
+  opening_over_shaped : (menu : Text ℕ) (main org : ℕ) (k : Track) → CanShow d main org → AreLooks menu
+      → length (stack_of d.columns k) < DEPTH → IsShaped (opening_over d menu main org k)
+  opening_over_shaped menu main org k can looks room =
+      opened_shaped d menu main org shaped can looks (over k)
+      (cover_keeps d.columns (new_id d) (left_of k) shaped.places.columns_hold new_fresh
+      (subst (λ (j : Track). length (stack_of d.columns j) < DEPTH) (sym (left_at k)) room))
+
+copy_shaped : (d : Desktop) (name : List ℕ) (text : Text ℕ) (cell : ℕ × ℕ) → IsShaped d → AreLooks text
     → IsShaped (opened_on_copy d name text cell)
-opened_shaped d name text cell shaped looks =
+copy_shaped d name text cell shaped looks =
     written_shaped _ (subst IsShaped (sym (opening_is d (plain (menu_line name)) text cell))
     (opening_on_shaped (text_more d text) (text_shaped d text shaped looks) (plain (menu_line name)) (new_number d) 0
     cell (new_shown d text shaped) (plain_looks (menu_line name))))
@@ -290,23 +291,23 @@ module _ (d : Desktop) (shaped : IsShaped d) where
   file_opened_shaped : (name : List ℕ) → IfOk (file_opened d name) IsShaped
   unfolding file_opened
   file_opened_shaped name = by_need IsShaped (file_of d name) _ _
-      (λ text is. opened_shaped d name text _ shaped (file_looks name text is))
+      (λ text is. copy_shaped d name text _ shaped (file_looks name text is))
 
   document_opened_shaped : (name : List ℕ) → IsShaped (document_opened d name)
   unfolding document_opened
-  document_opened_shaped name = opened_shaped d name _ _ shaped (found_looks (file_of d name) (file_looks name))
+  document_opened_shaped name = copy_shaped d name _ _ shaped (found_looks (file_of d name) (file_looks name))
 
   log_opened_shaped : IsShaped (log_opened d)
   unfolding log_opened
   log_opened_shaped = written_shaped _ (opening_on_shaped d shaped (plain (menu_line (codes "System.Log"))) 0 0
       (allocated d.columns System d.marker) (log_can d shaped) (plain_looks (menu_line (codes "System.Log"))))
 
-  put_away_shaped : (v : ℕ) → IsPlaced v d.columns → IsShaped (put_away d v)
+  put_away_shaped : (v : ℕ) → IsOnTop v d.columns → IsShaped (put_away d v)
   put_away_shaped v placed =
       let hold = shaped.places.columns_hold in
       subst IsShaped (put_away_is d v) (anew_shaped (closed_desktop d v) (closed_columns d v) (kept_before d v)
-      (closed_anew d v shaped (close_keeps d.columns v hold placed) (λ w. close_places d.columns v w hold placed)
-      (kept_within d.columns v hold)))
+      (closed_anew d v shaped placed (close_keeps d.columns v hold placed)
+      (λ w. close_places d.columns v w hold placed) (kept_within d.columns v hold placed)))
 
   brought_back_shaped : (k : Kept) → d.kept ≡ Some k → IsShaped (brought_back d k)
   brought_back_shaped k is =
@@ -317,16 +318,24 @@ module _ (d : Desktop) (shaped : IsShaped d) where
       (open_keeps d.columns k.viewer (left_of k.track) k.top hold (kept_nowhere d k shaped is))
       (λ w. open_places d.columns k.viewer (left_of k.track) k.top w hold)))
 
-  copied_shaped : (v : ℕ) → IsPlaced v d.columns → IfOk (viewer_copied d v) IsShaped
+  copied_shaped : (v : ℕ) → IsOnTop v d.columns → IfOk (viewer_copied d v) IsShaped
   unfolding viewer_copied
   copied_shaped v placed =
       let rows : ℕ = placed_top d.columns v - placed_bottom d.columns v in
       elim (rows == 1) as (λ b. IfOk (let r : Result Desktop ℕ = if b then Err too_low else Ok (parted d v rows) in r)
       IsShaped) [
         | true ↦ tt
-        | false ↦ opening_on_shaped d shaped _ _ _ _ (viewer_can d v shaped placed)
+        | false ↦ opening_on_shaped d shaped _ _ _ _ (viewer_can d v shaped (on_top_placed d.columns v placed))
             (text_looks d shaped (viewer_of d v).menu)
       ]
+
+  grown_shaped : (v : ℕ) → IsOnTop v d.columns → IfOk (viewer_grown d v) IsShaped
+  unfolding viewer_grown
+  grown_shaped v placed =
+      let k : Track = track_of d.columns v in
+      by_test IsShaped (nat_lt (length (stack_of d.columns k)) DEPTH) too_deep (Ok (grown d v))
+      (λ room. opening_over_shaped d shaped _ _ _ k (viewer_can d v shaped (on_top_placed d.columns v placed))
+      (text_looks d shaped (viewer_of d v).menu) (ltb-true (length (stack_of d.columns k)) DEPTH room))
 
   log_cleared_shaped : IsShaped (log_cleared d)
   unfolding log_cleared
@@ -416,7 +425,7 @@ few_taken None d few = few
 few_taken (Some s) d few = let long = length-take most_pattern (bytes_of (selected d s)) in omega (arith, long)
 
 module _ (d : Desktop) (shaped : IsShaped d) where
-  searched_shaped : (v : ℕ) → IsPlaced v d.columns → IfOk (searched d v) IsShaped
+  searched_shaped : (v : ℕ) → IsOnTop v d.columns → IfOk (searched d v) IsShaped
   unfolding searched
   searched_shaped v placed =
       let pattern : List ℕ = pattern_after d in
@@ -434,18 +443,18 @@ module _ (d : Desktop) (shaped : IsShaped d) where
 
   -- ---- calls
 
-  seen_marker : (v : ℕ) → seen_at_marker d ≡ Some v → IsPlaced v d.columns
+  seen_marker : (v : ℕ) → seen_at_marker d ≡ Some v → IsOnTop v d.columns
   seen_marker v = (elim d.marker as
       (λ (m : Option (ℕ × ℕ)). (let o : Option ℕ = elim m [ None ↦ None | Some m ↦ seen_at d.columns m.0 m.1 ] in o)
-      ≡ Some v → IsPlaced v d.columns) [
+      ≡ Some v → IsOnTop v d.columns) [
         | None ↦ λ is. absurd (cc is)
         | Some m ↦ λ is. (seen_placed d.columns v m.0 m.1 shaped.places.columns_hold is).placed
       ])
 
-  meant_placed : (call : Call) (v : ℕ) → IsPlaced call.viewer d.columns → meant d call ≡ Some v → IsPlaced v d.columns
+  meant_placed : (call : Call) (v : ℕ) → IsOnTop call.viewer d.columns → meant d call ≡ Some v → IsOnTop v d.columns
   meant_placed call v placed = elim call.in_menu as
-      (λ b. (let o : Option ℕ = if b then Some call.viewer else seen_at_marker d in o) ≡ Some v → IsPlaced v d.columns) [
-        | true ↦ λ is. (let same : call.viewer ≡ v = cc is in subst (λ w. IsPlaced w d.columns) same placed)
+      (λ b. (let o : Option ℕ = if b then Some call.viewer else seen_at_marker d in o) ≡ Some v → IsOnTop v d.columns) [
+        | true ↦ λ is. (let same : call.viewer ≡ v = cc is in subst (λ w. IsOnTop w d.columns) same placed)
         | false ↦ seen_marker v
       ]
 
@@ -453,7 +462,7 @@ module _ (d : Desktop) (shaped : IsShaped d) where
       → ((new : ℕ × Look) → IsLook new.1 → IfOk (f new) IsShaped) → IfOk (needs o bad_value f) IsShaped
   set_shaped o sets f so = by_need IsShaped o bad_value f (λ new is. so new (sets new is))
 
-  commanded_shaped : (command : Command) (call : Call) → IsPlaced call.viewer d.columns
+  commanded_shaped : (command : Command) (call : Call) → IsOnTop call.viewer d.columns
       → IfOk (commanded d command call) IsShaped
   unfolding commanded
   commanded_shaped EditOpen call placed =
@@ -502,8 +511,11 @@ module _ (d : Desktop) (shaped : IsShaped d) where
       by_need IsShaped d.caret no_caret (λ c. Ok (put_at_caret d d.deleted c))
       (λ c is. put_at_caret_shaped d shaped d.deleted c (shaped.marks.caret_stands c is) shaped.looks.deleted)
   commanded_shaped SystemCollect call placed = collected_shaped d shaped
+  commanded_shaped SystemGrow call placed =
+      by_need IsShaped (meant d call) viewer_missing (viewer_grown d)
+      (λ v is. grown_shaped d shaped v (meant_placed call v placed is))
 
-  called_shaped : (version v : ℕ) (in_menu : Bool) (p : ℕ) → IsPlaced v d.columns
+  called_shaped : (version v : ℕ) (in_menu : Bool) (p : ℕ) → IsOnTop v d.columns
       → IfOk (called version d v in_menu p) IsShaped
   unfolding called
   called_shaped version v in_menu p placed =
@@ -574,16 +586,17 @@ module _ (d : Desktop) (shaped : IsShaped d) where
   tool_opened_shaped x y =
       let name : List ℕ = codes "System.Tool" in
       by_need IsShaped (file_of d name) no_file (λ text. Ok (opened_on_copy d name text (x, y + 1)))
-      (λ text is. opened_shaped d name text (x, y + 1) shaped (file_looks d shaped name text is))
+      (λ text is. copy_shaped d name text (x, y + 1) shaped (file_looks d shaped name text is))
 
-  resized_shaped : (v y : ℕ) → IsPlaced v d.columns → IsShaped (resized d v y)
+  resized_shaped : (v y : ℕ) → IsOnTop v d.columns → IsShaped (resized d v y)
   resized_shaped v y placed =
       let hold = shaped.places.columns_hold in
       subst IsShaped (sym (resized_is d v y)) (anew_shaped d (after_change d.columns v (y + 1)) None
       (none_comes d (after_change d.columns v (y + 1)) None shaped (change_keeps d.columns v (y + 1) hold placed)
-      (λ w. let same = change_places d.columns v (y + 1) w hold placed in omega (arith, same))))
+      (λ w. let same = change_places d.columns v (y + 1) w hold placed in omega (arith, same))
+      (change_stays d.columns v (y + 1) hold placed)))
 
-  carried_shaped : (v x y : ℕ) → IsPlaced v d.columns → IsShaped (carried d v x y)
+  carried_shaped : (v x y : ℕ) → IsOnTop v d.columns → IsShaped (carried d v x y)
   carried_shaped v x y placed =
       let hold = shaped.places.columns_hold in
       let closed : Columns = after_close d.columns v in
@@ -593,7 +606,8 @@ module _ (d : Desktop) (shaped : IsShaped d) where
       (anew_shaped d (after_open closed v x (y + 1)) (replaced_at closed x (y + 1))
       (none_comes d (after_open closed v x (y + 1)) (replaced_at closed x (y + 1)) shaped
       (open_keeps closed v x (y + 1) still (closed_fresh d.columns closed v hold (gone v)))
-      (λ w. let left = gone w in let new = open_places closed v x (y + 1) w still in omega (arith, left, new))))
+      (λ w. let left = gone w in let new = open_places closed v x (y + 1) w still in omega (arith, left, new))
+      (carry_stays d.columns v x (y + 1) hold placed)))
 
   place_within : (text : Text ℕ) (org column row : ℕ) → position_at (bytes_of text) org column row ≤ length text
   place_within text org column row =
@@ -624,7 +638,7 @@ module _ (d : Desktop) (shaped : IsShaped d) where
   unfolding text_position
   text_within v x y = place_within (main_of d v) (viewer_of d v).org _ _
 
-  drawn_shaped : (s : Selection) → IsPlaced s.viewer d.columns → s.end ≤ length (main_of d s.viewer)
+  drawn_shaped : (s : Selection) → IsOnTop s.viewer d.columns → s.end ≤ length (main_of d s.viewer)
       → IsShaped (drawn_in d s)
   unfolding drawn_in
   drawn_shaped s placed low = (elim (is_some_stretch s) as (λ b. is_some_stretch s ≡ b
@@ -643,7 +657,7 @@ module _ (d : Desktop) (shaped : IsShaped d) where
       let share = share_within (length (main_of d v)) row (rows_of d v) low in
       with_org_shaped d shaped v (line_start (bytes_of (main_of d v)) at) (omega (arith, start, share))
 
-  copied_to_shaped : (v p : ℕ) → IsPlaced v d.columns → p ≤ length (main_of d v) → IfOk (copied_to d v p) IsShaped
+  copied_to_shaped : (v p : ℕ) → IsOnTop v d.columns → p ≤ length (main_of d v) → IfOk (copied_to d v p) IsShaped
   unfolding copied_to
   copied_to_shaped v p placed low =
       by_need IsShaped (newest d) no_selection (λ s. Ok (put_in d v p (selected d s)))
@@ -653,7 +667,7 @@ module _ (d : Desktop) (shaped : IsShaped d) where
   unfolding looks_set
   looks_columns s selector look = refl
 
-  looks_taken_shaped : (v p : ℕ) → IsPlaced v d.columns → p ≤ length (main_of d v) → IfOk (looks_taken d v p) IsShaped
+  looks_taken_shaped : (v p : ℕ) → IsOnTop v d.columns → p ≤ length (main_of d v) → IfOk (looks_taken d v p) IsShaped
   unfolding looks_taken
   looks_taken_shaped v p placed low =
       let look : Look = look_at p (main_of d v) in
@@ -664,9 +678,9 @@ module _ (d : Desktop) (shaped : IsShaped d) where
       let is_look = look_at_looks p (main_of d v) (text_looks d shaped (viewer_of d v).main) in
       let long = looks_long d s 7 look v (omega (arith, some)) stands.within in
       with_caret_shaped (looks_set d s 7 look) (looks_set_shaped d shaped s 7 look stands is_look) v p
-      (subst (λ (c : Columns). IsPlaced v c) (sym (looks_columns s 7 look)) placed) (omega (arith, low, long)))
+      (subst (λ (c : Columns). IsOnTop v c) (sym (looks_columns s 7 look)) placed) (omega (arith, low, long)))
 
-  taken_out_shaped : (s : Selection) → IsPlaced s.viewer d.columns → s.end ≤ length (main_of d s.viewer)
+  taken_out_shaped : (s : Selection) → IsOnTop s.viewer d.columns → s.end ≤ length (main_of d s.viewer)
       → IfOk (taken_out d s) IsShaped
   unfolding taken_out
   taken_out_shaped s placed low =
@@ -681,7 +695,7 @@ module _ (d : Desktop) (shaped : IsShaped d) where
   drawn_caret s = elim (is_some_stretch s) as
       (λ b. (if b then with_selection d s else unselected d s.viewer).caret ≡ d.caret) [ true ↦ refl | false ↦ refl ]
 
-  sent_shaped : (s : Selection) → IsPlaced s.viewer d.columns → s.end ≤ length (main_of d s.viewer)
+  sent_shaped : (s : Selection) → IsOnTop s.viewer d.columns → s.end ≤ length (main_of d s.viewer)
       → IfOk (sent_to_caret d s) IsShaped
   unfolding sent_to_caret
   sent_shaped s placed low =

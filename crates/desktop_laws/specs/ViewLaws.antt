@@ -1,7 +1,7 @@
 -- Laws of what is shown and listed: each text that a viewer names is there, and reads as it is seen.
 use Rattle.std.specs.Prelude.{◌≡◌, ℕ, zero, suc, ◌+◌, ◌*◌, ◌<◌, ◌≤◌, ◌==◌, IsSome, is_some, All, Bool, true, false}
 use Rattle.std.specs.Prelude.{cond, if◌then◌else◌, List, [], ◌∷◌, ◌++◌, length, map, take, drop, sum_by, count_by}
-use Rattle.std.specs.Prelude.{slice_get, Option, Some, None, not}
+use Rattle.std.specs.Prelude.{slice_get, Option, Some, not}
 use Rattle.std.specs.List.{slice_index_or}
 use Rattle.std.specs.List.Sorted.{IsStrictlySortedBy}
 use Rattle.std.specs.Map.{keys_of}
@@ -23,8 +23,10 @@ use Rattle.viewer_tracks.specs.declared.display.Track.TheVariants.{User, System}
 use Rattle.viewer_tracks.specs.declared.display.TheConstants.{ROWS}
 use Rattle.viewer_tracks.specs.Display.{left_of}
 use Rattle.viewer_tracks.specs.Viewers.{Entry as Standing, IsTrack, entry_viewer as standing_at, times_in}
-use Rattle.viewer_tracks.specs.Columns.{Columns, IsColumns, IsPlaced, times_on, topmost, shown}
-use Rattle.viewer_tracks.specs.Columns.{placed_bottom, placed_top}
+use Rattle.viewer_tracks.specs.Columns.{Columns, IsColumns, IsPlaced, shown, stack_of, placed_bottom}
+use Rattle.viewer_tracks.specs.Columns.{placed_top}
+use Rattle.viewer_tracks.proofs.StackLemmas.{topmost_track}
+use Rattle.viewer_tracks.proofs.ColumnLemmas.{stack_in}
 use Rattle.desktop_definitions.specs.declared.viewer.Viewer.{Viewer}
 use Rattle.desktop_definitions.specs.declared.viewer.Caret.{Caret}
 use Rattle.desktop_definitions.specs.declared.viewer.Selection.{Selection}
@@ -76,21 +78,11 @@ few_in (e ∷ t) all = omega (
   few_in t (λ i d low. all (suc i) d (omega (arith, low))),
 )
 
-few_on : (tracks : List (List Standing)) → All IsTrack tracks → length (topmost tracks) ≤ ROWS
-few_on [] all = omega arith
-few_on (t ∷ under) all =
-    let track : IsTrack t = all 0 t (omega arith) in
-    omega (arith, few_in t track.some, track.fits)
+few_in_track : (t : List Standing) → IsTrack t → length t ≤ ROWS
+few_in_track t track = omega (arith, few_in t track.some, track.fits)
 
-pub few_stand : (c : Columns) (k : Track) → IsColumns c → length (shown c k) ≤ ROWS
-few_stand c User columns = few_on c.user columns.user
-few_stand c System columns = few_on c.system columns.system
-
-times_on_one : (v : ℕ) (tracks : List (List Standing)) → length tracks ≡ 1
-    → times_on v tracks ≡ times_in v (topmost tracks)
-times_on_one v [] one = absurd (omega arith)
-times_on_one v (t ∷ []) one = let sum = sum_by-cons (times_in v) t [] in omega (arith, sum)
-times_on_one v (t ∷ under ∷ more) one = absurd (omega arith)
+few_stand : (c : Columns) (k : Track) → IsColumns c → length (shown c k) ≤ ROWS
+few_stand c k columns = few_in_track (shown c k) (topmost_track (stack_of c k) (stack_in c k columns))
 
 -- how often a list of selections is of the viewers of a track
 abbrev times_selected : List Selection → List Standing → ℕ
@@ -131,17 +123,14 @@ one_each_in ss t one =
     sum_by-le (λ (e : Standing). count_by (λ (s : Selection). s.viewer == e.viewer) ss) 1 t
     (λ i d low. one (slice_index_or t i d).viewer)
 
--- no more than the viewers that both tracks have room for
+-- no more than the viewers that both tracks that are shown have room for
 pub few_selections : (columns : Columns) (long : ℕ → ℕ) (caret : Option Caret) (selections : List Selection)
     → IsColumns columns → AreMarks columns long caret selections → length selections ≤ ROWS + ROWS
 few_selections columns long caret selections holds marks =
     let u = shown columns User in
     let s = shown columns System in
     let each : All (λ (o : Selection). 0 < times_in o.viewer u + times_in o.viewer s) selections =
-    λ i d low.
-    let v = (slice_index_or selections i d).viewer in
-    let placed : IsPlaced v columns = (marks.all_stand i d low).placed in
-    omega (arith, placed, times_on_one v columns.user holds.one_user, times_on_one v columns.system holds.one_system) in
+    λ i d low. (marks.all_stand i d low).placed in
     omega (
       arith,
       few_of selections u s each,
@@ -231,16 +220,7 @@ module _ (entry : ℕ → Entry) where
   all_taken (e ∷ t) zero low = absurd (omega (arith, low))
   all_taken (e ∷ t) (suc n) low = ap (λ (es : List Entry). entry e.viewer ∷ es) (all_taken t n (omega (arith, low)))
 
-  none_after : (t : List Standing) (i : ℕ) → None ≡ standing_at t i → length t ≤ i
-  none_after [] i is = omega arith
-  none_after (e ∷ t) zero is = absurd cc
-  none_after (e ∷ t) (suc i) is = omega (arith, none_after t i is)
-
   -- the list is whole where there is no further viewer
   pub listed_all : (t : List Standing) (i : ℕ) (start all : List Entry) → length t ≤ i
       → all ≡ start ++ entries_to entry i t → all ≡ start ++ map (λ (e : Standing). entry e.viewer) t
   listed_all t i start all low is = is ∙ ap (λ (es : List Entry). start ++ es) (all_taken t i low)
-
-  pub listed_to_none : (t : List Standing) (i : ℕ) (start all : List Entry) → None ≡ standing_at t i
-      → all ≡ start ++ entries_to entry i t → all ≡ start ++ map (λ (e : Standing). entry e.viewer) t
-  listed_to_none t i start all none is = listed_all t i start all (none_after t i none) is

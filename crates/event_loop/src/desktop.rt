@@ -12,7 +12,7 @@ ghost use Rattle.desktop_definitions.specs.declared.reply.Reply.TheVariants.{No}
 ghost use Rattle.desktop_definitions.specs.Desktop.{KeptDesktop, empty_desktop, file_of};
 ghost use Rattle.desktop_definitions.specs.Seen.{seen};
 ghost use Rattle.desktop_definitions.specs.Step.{step_in};
-ghost use Rattle.command_table.specs.Versions.{version_number};
+ghost use Rattle.command_table.specs.Versions.{version_number, newest_version};
 ghost use Rattle.desktop_definitions.specs.Unread.{StepsUnread, ListsUnread};
 ghost use Rattle.desktop_definitions.specs.Sound.{IsKeptWhole, IsOver};
 ghost use Rattle.desktop_definitions.specs.Outcome.{IsReply, IsUnchanged, IsSameSource};
@@ -34,7 +34,7 @@ use desk_core::stop::{NoMemory, Stop};
 use desk_image::{ByteSink, ByteSource, ImageFault, desktops_fit, images_are_read, read_picture};
 use desk_imaging::images::assemble;
 use desk_imaging::imaging::put_image;
-use desk_views::{list_track, paint};
+use desk_views::{list_column, paint};
 use desktop_definitions::{Entry, Reply};
 use event_bytes::{Event, Name};
 use screen_cells::{KeptLines, Screen};
@@ -74,17 +74,19 @@ impl Desktop {
         Ok(Desktop { desk })
     }
 
-    /// The desktop of which the bytes of the source, to its end, are the image, where so many characters were written
-    /// for it. Damaged exactly where an honest source has the image of no desktop; NoMemory where an allocation is
-    /// refused; Fault where a byte could not be read.
+    /// The desktop of which the bytes of the source, to its end, are the image in that version, where so many
+    /// characters were written for it. Damaged exactly where an honest source has the image of no desktop; NoMemory
+    /// where an allocation is refused; Fault where a byte could not be read.
     pub fn from_image<S: ByteSource>(
+        version: Version,
         alloc: Global,
         source: &mut S,
         written: u32,
     ) -> Result<Desktop, ImageFault>
-        ensures spelled { IfOk result (λ d. S.honest source.old → Spells written (S.remaining source.old) d) }
+        ensures spelled { IfOk result (λ d. S.honest source.old
+            → Spells (version_number version) written (S.remaining source.old) d) }
         ensures damaged { IsErrOf result ImageFault.Damaged → S.honest source.old
-            → (d : KeptDesktop) → ¬ Spells written (S.remaining source.old) d }
+            → (d : KeptDesktop) → ¬ Spells (version_number version) written (S.remaining source.old) d }
         ensures whole { IfOk result (λ d. IsKeptWhole d) }
         ensures count { IfOk result (λ d. d.written ≡ written) }
         ensures only { OnlyGets S.honest S.same_ground source.old source.new }
@@ -92,7 +94,7 @@ impl Desktop {
     {
         images_are_read();
         desktops_fit();
-        let picture = read_picture(alloc, source, written)?;
+        let picture = read_picture(alloc, source, version, written)?;
         let desk = assemble(alloc, picture, written)?;
         Ok(Desktop { desk })
     }
@@ -136,8 +138,9 @@ impl Desktop {
         file_of(&self.desk.files, name)
     }
 
-    /// An entry for each file, by rising names; one for each viewer of the user track and then of the system track,
-    /// from the bottom up; and at last one for how many characters count as written.
+    /// An entry for each file, by rising names; one for each viewer of the user's and then of the system's column, the
+    /// tracks from the lowest up and each from the bottom up, with one before a track that lies over others; and at
+    /// last one for how many characters count as written.
     ///
     /// Nothing but the names of viewers is read. NoMemory where an allocation is refused; Fault where a character could
     /// not be read. The desktop stays, whatever is returned.
@@ -151,8 +154,8 @@ impl Desktop {
         ensures faults { FailsAs Stop.Fault IsStop result (S.failures source.old) (S.failures source.new) }
     {
         let mut entries = entries(alloc, &self.desk.files)?;
-        list_track(&self.desk, alloc, Track::User, &mut entries, source)?;
-        list_track(&self.desk, alloc, Track::System, &mut entries, source)?;
+        list_column(&self.desk, alloc, Track::User, &mut entries, source)?;
+        list_column(&self.desk, alloc, Track::System, &mut entries, source)?;
         entries.push(Entry::Written(self.desk.written))?;
         Ok(entries)
     }
@@ -197,13 +200,14 @@ impl Desktop {
         paint(&self.desk, alloc, lines, source, screen)
     }
 
-    /// Puts the image of the desktop, the bytes that say how it is kept, and returns how many bytes these are. The
-    /// characters that were written aren't among them. It takes no memory. `Fault`: the sink failed in this call, and
-    /// it may have taken some of the bytes.
+    /// Puts the image of the desktop in the newest version, the bytes that say how it is kept, and returns how many
+    /// bytes these are. The characters that were written aren't among them. It takes no memory. `Fault`: the sink
+    /// failed in this call, and it may have taken some of the bytes.
     pub fn put_image<K: ByteSink>(&self, sink: &mut K) -> Result<u32, Fault>
         requires { IsKeptWhole self.now }
-        ensures spelled { IfOk result (λ n. IsSpellable self.now × (n ≡ length (image_bytes (image_of self.now)))) }
-        ensures puts { Puts K.ByteSink result (image_bytes (image_of self.now)) sink.old sink.new }
+        ensures spelled { IfOk result (λ n. IsSpellable newest_version self.now
+            × (n ≡ length (image_bytes newest_version (image_of self.now)))) }
+        ensures puts { Puts K.ByteSink result (image_bytes newest_version (image_of self.now)) sink.old sink.new }
     {
         put_image(&self.desk, sink)
     }

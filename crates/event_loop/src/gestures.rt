@@ -3,7 +3,7 @@
 ghost use Rattle.std.specs.Prelude.{◌≡◌, ◌<◌, ◌≤◌, ◌&&◌, ◌||◌, not, length, true, false, IfOk};
 ghost use Rattle.piece_ring.specs.Flat.{flat};
 ghost use Rattle.viewer_tracks.specs.declared.display.TheConstants.{ROWS, COLUMNS};
-ghost use Rattle.viewer_tracks.specs.Columns.{IsPlaced};
+ghost use Rattle.viewer_tracks.specs.Columns.{IsOnTop};
 ghost use Rattle.desktop_definitions.specs.declared.region.Region.TheVariants.{Filler, Menu, Bar, Body};
 ghost use Rattle.desktop_definitions.specs.Needs.{unless};
 ghost use Rattle.desktop_definitions.specs.Limits.{outside};
@@ -103,13 +103,13 @@ fn point_menu<S: CharSource>(
     version: Version,
     alloc: Global,
     keys: Keys,
-    id: u8,
+    id: u16,
     cell: (u8, u8),
     source: &mut S,
 ) -> Result<Reply, Stop>
     requires column { cell.0 < COLUMNS }
     requires row { cell.1 < ROWS }
-    requires placed { IsPlaced id (kept desk.old).columns }
+    requires placed { IsOnTop id (kept desk.old).columns }
     requires over { IsOver (S.characters source.old) (kept desk.old) }
     ensures answered { IfOk result
         (Settles S.CharSource (λ d. done_in_menu (version_number version) d keys id cell.0 cell.1)
@@ -132,11 +132,11 @@ fn call_in_menu<S: CharSource>(
     desk: &mut Desk,
     version: Version,
     alloc: Global,
-    id: u8,
+    id: u16,
     x: u8,
     source: &mut S,
 ) -> Result<Reply, Stop>
-    requires placed { IsPlaced id (kept desk.old).columns }
+    requires placed { IsOnTop id (kept desk.old).columns }
     requires over { IsOver (S.characters source.old) (kept desk.old) }
     ensures answered { IfOk result (Settles S.CharSource
         (λ d. called (version_number version) d id true (menu_position d id x))
@@ -152,11 +152,11 @@ fn call_in_menu<S: CharSource>(
 fn point_bar<S: CharSource>(
     desk: &mut Desk,
     keys: Keys,
-    id: u8,
+    id: u16,
     row: u8,
     source: &mut S,
 ) -> Result<Reply, Stop>
-    requires placed { IsPlaced id (kept desk.old).columns }
+    requires placed { IsOnTop id (kept desk.old).columns }
     requires row { row < rows_of (kept desk.old) id }
     requires over { IsOver (S.characters source.old) (kept desk.old) }
     ensures answered { IfOk result (Settles S.CharSource (λ d. done_in_bar d keys id row)
@@ -181,12 +181,12 @@ fn point_text<S: CharSource>(
     version: Version,
     alloc: Global,
     keys: Keys,
-    id: u8,
+    id: u16,
     from: (u8, u8),
     to: (u8, u8),
     source: &mut S,
 ) -> Result<Reply, Stop>
-    requires placed { IsPlaced id (kept desk.old).columns }
+    requires placed { IsOnTop id (kept desk.old).columns }
     requires some { 0 < rows_of (kept desk.old) id }
     requires over { IsOver (S.characters source.old) (kept desk.old) }
     ensures answered { IfOk result (Settles S.CharSource
@@ -214,11 +214,11 @@ fn point_cell<S: CharSource>(
     version: Version,
     alloc: Global,
     keys: Keys,
-    id: u8,
+    id: u16,
     cell: (u8, u8),
     source: &mut S,
 ) -> Result<Reply, Stop>
-    requires placed { IsPlaced id (kept desk.old).columns }
+    requires placed { IsOnTop id (kept desk.old).columns }
     requires some { 0 < rows_of (kept desk.old) id }
     requires over { IsOver (S.characters source.old) (kept desk.old) }
     ensures answered { IfOk result (Settles S.CharSource
@@ -240,11 +240,11 @@ fn point_position<S: CharSource>(
     version: Version,
     alloc: Global,
     keys: Keys,
-    id: u8,
+    id: u16,
     pos: u32,
     source: &mut S,
 ) -> Result<Reply, Stop>
-    requires placed { IsPlaced id (kept desk.old).columns }
+    requires placed { IsOnTop id (kept desk.old).columns }
     requires place { pos ≤ length (flat (text_in (kept desk.old).texts
         (viewer_or_none (kept desk.old).viewers id).main)) }
     requires over { IsOver (S.characters source.old) (kept desk.old) }
@@ -268,12 +268,12 @@ fn draw<S: CharSource>(
     desk: &mut Desk,
     alloc: Global,
     keys: Keys,
-    id: u8,
+    id: u16,
     from: (u8, u8),
     to: (u8, u8),
     source: &mut S,
 ) -> Result<Reply, Stop>
-    requires placed { IsPlaced id (kept desk.old).columns }
+    requires placed { IsOnTop id (kept desk.old).columns }
     requires some { 0 < rows_of (kept desk.old) id }
     requires over { IsOver (S.characters source.old) (kept desk.old) }
     ensures answered { IfOk result (Settles S.CharSource (λ d.
@@ -294,7 +294,7 @@ fn point_stretch<S: CharSource>(
     drawn: Selection,
     source: &mut S,
 ) -> Result<Reply, Stop>
-    requires placed { IsPlaced drawn.viewer (kept desk.old).columns }
+    requires placed { IsOnTop drawn.viewer (kept desk.old).columns }
     requires place { drawn.end ≤ length (flat (text_in (kept desk.old).texts
         (viewer_or_none (kept desk.old).viewers drawn.viewer).main)) }
     requires over { IsOver (S.characters source.old) (kept desk.old) }

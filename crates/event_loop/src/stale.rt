@@ -119,7 +119,7 @@ fn stale_in_text(
     viewers: &ViewerTable,
     caret: Option<Caret>,
     newest: Option<Selection>,
-    id: u8,
+    id: u16,
     keys: Keys,
 ) -> Stale
     ensures { result ≡ stale_by_gesture viewers.now.items caret newest (Body id) keys }
@@ -134,7 +134,7 @@ fn stale_in_text(
 }
 
 /// The main text of a viewer.
-fn stale_in(viewers: &ViewerTable, id: u8) -> Stale
+fn stale_in(viewers: &ViewerTable, id: u16) -> Stale
     ensures { result ≡ stale_in viewers.now.items id }
 {
     Stale::Text(viewer_or_none(viewers, id).main)

@@ -44,7 +44,7 @@ Edit.ChangeFont\r\
 At the marker:\r\
 Edit.Store  Edit.Search\r\
 System.Copy  System.Close\r\
-Edit.Open *\r\
+Edit.Open *  System.Grow\r\
 \r\
 For more room:\r\
 System.Collect\r\

@@ -9,7 +9,7 @@ use Rattle.piece_ring.specs.Text.{Text}
 use Rattle.desktop_definitions.specs.declared.reply.Reply.{Reply}
 use Rattle.desktop_definitions.specs.declared.reply.Reply.TheVariants.{Done, No}
 use Rattle.desktop_definitions.specs.declared.entry.Entry.{Entry}
-use Rattle.desktop_definitions.specs.declared.entry.Entry.TheVariants.{File, Viewer, Written}
+use Rattle.desktop_definitions.specs.declared.entry.Entry.TheVariants.{File, Viewer, Over, Written}
 use Rattle.script_lines.specs.Script.{ended}
 use Rattle.script_lines.specs.Request.{is_printable}
 
@@ -68,6 +68,7 @@ abbrev pub entry_line : Entry → List ℕ
 entry_line (File name len) = ended (codes "file " ++ name ++ 32 ∷ decimal len)
 entry_line (Viewer x bottom top name len) = ended (codes "viewer " ++ decimal x ++ 32 ∷ decimal bottom
     ++ 32 ∷ decimal top ++ 32 ∷ shown name ++ 32 ∷ decimal len)
+entry_line (Over x depth) = ended (codes "over " ++ decimal x ++ 32 ∷ decimal depth)
 entry_line (Written n) = ended (codes "written " ++ decimal n)
 
 abbrev pub list_lines : List Entry → List ℕ

@@ -220,6 +220,7 @@ fn push_entry(text: &mut Vec<u8>, entry: &Entry) -> Result<(), AllocError>
             name,
             len,
         } => push_viewer(text, *x, *bottom, *top, name.as_bytes(), *len)?,
+        Entry::Over { x, depth } => push_over(text, *x, *depth)?,
         Entry::Written(number) => text.extend_from_slice(numbered(
             b"written ",
             *number,
@@ -257,6 +258,15 @@ fn push_viewer(
     push_number(text, top as u32)?;
     push_spelled(text, name)?;
     text.extend_from_slice(numbered(b" ", len).as_slice())?;
+    Ok(())
+}
+
+/// Adds what is said of a track over others: its column, and how many tracks there are up to it.
+fn push_over(text: &mut Vec<u8>, x: u8, depth: u8) -> Result<(), AllocError>
+    ensures { OnOk result (text.new.items ≡ text.old.items ++ (codes "over " ++ decimal x ++ 32 ∷ decimal depth)) }
+{
+    text.extend_from_slice(numbered(b"over ", x as u32).as_slice())?;
+    text.extend_from_slice(numbered(b" ", depth as u32).as_slice())?;
     Ok(())
 }
 

@@ -31,7 +31,7 @@ one_start : UniqueLaw → (h : Head) (image area : List ℕ) (start start' : Des
 one_start law h image area start start' one two =
     sym one.is
     ∙ ap (seen (area ++ take (left_over h.written) image))
-    (law h.written (drop (left_over h.written) image) one.kept two.kept one.spells two.spells)
+    (law h.version h.written (drop (left_over h.written) image) one.kept two.kept one.spells two.spells)
     ∙ two.is
 
 module _ (begins : BeginLaw) (unique : UniqueLaw) (size : ℕ) (c : Content) where

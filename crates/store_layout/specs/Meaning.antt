@@ -41,12 +41,12 @@ image_bytes c slot = stored c (image_at slot) (head c slot).extent
 abbrev pub area_bytes : Content → ℕ → ℕ → List ℕ
 area_bytes c area n = stored c (area_start area) (SECTOR_BYTES * n)
 
--- A head, the bytes of an image and the characters of its area make a desktop: that of the image, as it is seen among
--- the characters of the area and those at the front of the image.
+-- A head, the bytes of an image and the characters of its area make a desktop: that of the image, in the version of the
+-- head, as it is seen among the characters of the area and those at the front of the image.
 pub record Makes (h : Head) (image area : List ℕ) (start : Desktop) : Type 0 where
   pub kept : KeptDesktop
   pub tail : left_over h.written ≤ length image
-  pub spells : Spells h.written (drop (left_over h.written) image) kept
+  pub spells : Spells h.version h.written (drop (left_over h.written) image) kept
   pub is : seen (area ++ take (left_over h.written) image) kept ≡ start
 
 -- a slot starts from this desktop

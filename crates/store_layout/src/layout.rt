@@ -51,7 +51,7 @@ pub const AREAS: u32 = 2;
 pub const FIRST_LAYOUT: u32 = 1;
 
 /// The newest version of the layout, which is written.
-pub const LAYOUT: u32 = 2;
+pub const LAYOUT: u32 = 3;
 
 /// The greatest epoch. After it no checkpoint is possible.
 pub const LAST_EPOCH: u32 = u32::MAX;

@@ -23,17 +23,17 @@ const COLLECT: &[u8] = b"point m 52 30 52 30\n";
 /// What a store is asked that must be as it was.
 const LOOKS: &[u8] = b"list\nshow A.Text\nshow B.Text\nscreen\n";
 
-/// A new store of the first version, closed.
-fn old(alloc: Global) -> Result<MemoryDisk, Fail> {
-    match Store::format_as(MemoryDisk::new(alloc, STORE_SECTORS)?, Version::V1) {
+/// A new store of a version, closed.
+fn old(alloc: Global, version: Version) -> Result<MemoryDisk, Fail> {
+    match Store::format_as(MemoryDisk::new(alloc, STORE_SECTORS)?, version) {
         Ok(disk) => Ok(disk),
         Err(_) => Err("no store".into()),
     }
 }
 
 /// Such a store whose journal has the three events.
-fn with_journal(alloc: Global) -> Result<MemoryDisk, Fail> {
-    let mut disk = old(alloc)?;
+fn with_journal(alloc: Global, version: Version) -> Result<MemoryDisk, Fail> {
+    let mut disk = old(alloc, version)?;
     let mut n: u32 = 5;
     for body in BODIES {
         put(&mut disk, n.saturating_add(1), &beginning_with(body))?;
@@ -53,7 +53,11 @@ fn said(alloc: Global, disk: MemoryDisk, script: &[u8]) -> (Vec<u8>, MemoryDisk)
 /// A journal of the first version is stepped by its commands: the one that gives up characters is none of them.
 #[test]
 fn old_journal_with_collect(rt: HostRuntime) -> Result<(), Fail> {
-    let (answers, _) = said(rt.alloc(), with_journal(rt.alloc())?, b"list\n");
+    let (answers, _) = said(
+        rt.alloc(),
+        with_journal(rt.alloc(), Version::V1)?,
+        b"list\n",
+    );
     let list = b"file System.Tool 14\nviewer 50 0 32 System.Tool 14\nwritten 75\nend\n";
     assert!(rt; answers.strip_prefix(list) == Some(b"ok layout 1 epoch 1 events 3\n".as_slice()));
     Ok(())
@@ -62,13 +66,32 @@ fn old_journal_with_collect(rt: HostRuntime) -> Result<(), Fail> {
 /// The first post makes it a store of the newest version, in which there is that command.
 #[test]
 fn migrated(rt: HostRuntime) -> Result<(), Fail> {
-    let (answers, disk) = said(rt.alloc(), with_journal(rt.alloc())?, MARK);
-    assert!(rt; answers.as_slice() == b"ok\nok layout 2 epoch 2 events 1\n".as_slice());
+    let (answers, disk) = said(rt.alloc(), with_journal(rt.alloc(), Version::V1)?, MARK);
+    assert!(rt; answers.as_slice() == b"ok\nok layout 3 epoch 2 events 1\n".as_slice());
     let (answers, disk) = said(rt.alloc(), disk, COLLECT);
-    assert!(rt; answers.as_slice() == b"ok\nok layout 2 epoch 2 events 2\n".as_slice());
+    assert!(rt; answers.as_slice() == b"ok\nok layout 3 epoch 2 events 2\n".as_slice());
     let (answers, _) = said(rt.alloc(), disk, b"list\n");
     let list = b"file System.Tool 14\nviewer 50 0 32 System.Tool 14\nwritten 89\nend\n";
     assert!(rt; answers.starts_with(list));
+    Ok(())
+}
+
+/// Whether a store of a version shows the same before and after a checkpoint, which makes it one of the newest version.
+/// At first it says `line` of itself.
+fn migrates(alloc: Global, version: Version, line: &[u8]) -> Result<bool, Fail> {
+    let (before, disk) = said(alloc, with_journal(alloc, version)?, LOOKS);
+    let (_, disk) = said(alloc, disk, b"checkpoint\n");
+    let (after, _) = said(alloc, disk, LOOKS);
+    let before = before.strip_suffix(line);
+    Ok(before.is_some() && before == after.strip_suffix(b"ok layout 3 epoch 2 events 0\n"))
+}
+
+/// A store of either older version opens, and is made one of the newest version with the same screen.
+#[test]
+fn migrated_twice(rt: HostRuntime) -> Result<(), Fail> {
+    let first = migrates(rt.alloc(), Version::V1, b"ok layout 1 epoch 1 events 3\n")?;
+    let second = migrates(rt.alloc(), Version::V2, b"ok layout 2 epoch 1 events 3\n")?;
+    assert!(rt; first && second);
     Ok(())
 }
 
@@ -86,7 +109,7 @@ fn filing(alloc: Global, lines: [&[u8]; 2]) -> Result<Vec<u8>, Fail> {
 
 /// The store after the command, two files and a checkpoint.
 fn with_files(alloc: Global) -> Result<MemoryDisk, Fail> {
-    let (_, disk) = said(alloc, with_journal(alloc)?, MARK);
+    let (_, disk) = said(alloc, with_journal(alloc, Version::V1)?, MARK);
     let (_, disk) = said(alloc, disk, COLLECT);
     let script = filing(alloc, [b"file A.Text ", b"file B.Text "])?;
     Ok(said(alloc, disk, &script).1)
@@ -96,13 +119,13 @@ fn with_files(alloc: Global) -> Result<MemoryDisk, Fail> {
 #[test]
 fn collect_areas(rt: HostRuntime) -> Result<(), Fail> {
     let mut disk = with_files(rt.alloc())?;
-    let head = b"\x00\x00\x00\x02\x00\x00\x00\x03\x00\x00\x07\x61";
+    let head = b"\x00\x00\x00\x03\x00\x00\x00\x03\x00\x00\x07\x61";
     assert!(rt; sector(&mut disk, 2)?.starts_with(head));
     assert!(rt; sector(&mut disk, 2)?[16..].starts_with(b"\x00\x00\x00\x01\x00"));
     let (answers, disk) = said(rt.alloc(), disk, b"point m 52 30 52 30\ncheckpoint\n");
-    assert!(rt; answers.as_slice() == b"ok\nok\nok layout 2 epoch 4 events 0\n".as_slice());
+    assert!(rt; answers.as_slice() == b"ok\nok\nok layout 3 epoch 4 events 0\n".as_slice());
     let mut disk = disk;
-    let head = b"\x00\x00\x00\x02\x00\x00\x00\x04\x00\x00\x07\x61";
+    let head = b"\x00\x00\x00\x03\x00\x00\x00\x04\x00\x00\x07\x61";
     assert!(rt; sector(&mut disk, 4)?.starts_with(head));
     assert!(rt; sector(&mut disk, 4)?[16..].starts_with(b"\x00\x00\x00\x00\x00"));
     Ok(())
@@ -111,7 +134,7 @@ fn collect_areas(rt: HostRuntime) -> Result<(), Fail> {
 /// In the last epoch a store of the first version takes no event, and is shown still.
 #[test]
 fn worn_migration(rt: HostRuntime) -> Result<(), Fail> {
-    let mut disk = old(rt.alloc())?;
+    let mut disk = old(rt.alloc(), Version::V1)?;
     let head = b"\x00\x00\x00\x01\xff\xff\xff\xff\x00\x00\x00\x00\x00\x00\x00\x1b";
     put(&mut disk, 2, &beginning_with(head))?;
     let (answers, _) = said(rt.alloc(), disk, b"mark 0 0\ncheckpoint\nlist\n");
@@ -178,7 +201,7 @@ fn stopped_everywhere(alloc: Global, disk: &MemoryDisk, script: &[u8]) -> Result
 /// the one after.
 #[test]
 fn migration_stops(rt: HostRuntime) -> Result<(), Fail> {
-    let disk = with_journal(rt.alloc())?;
+    let disk = with_journal(rt.alloc(), Version::V1)?;
     assert!(rt; stopped_everywhere(rt.alloc(), &disk, MARK)? > 20);
     let (_, disk) = said(rt.alloc(), with_files(rt.alloc())?, COLLECT);
     assert!(rt; stopped_everywhere(rt.alloc(), &disk, b"checkpoint\n")? > 15);

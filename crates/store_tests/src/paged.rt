@@ -71,7 +71,7 @@ fn is_cut_off(alloc: Global, disk: &MemoryDisk, call: u64) -> Result<bool, Fail>
     }
     match said.strip_suffix(b"fault\n") {
         Some(first) if whole.starts_with(first) && first.len() % 912 == 0 => Ok(true),
-        None if said.starts_with(&whole) && said.ends_with(b"\nok layout 2 epoch 2 events 0\n") => {
+        None if said.starts_with(&whole) && said.ends_with(b"\nok layout 3 epoch 2 events 0\n") => {
             Ok(false)
         }
         _ => Err("neither".into()),
@@ -108,9 +108,9 @@ fn is_seen(alloc: Global, said: &[u8], listed: &[u8], itself: &[u8]) -> Result<b
 /// How many events a store of the tool and four files has, none or one.
 fn events(alloc: Global, disk: MemoryDisk) -> Result<usize, Fail> {
     let said = looks(alloc, disk);
-    if is_seen(alloc, &said, LISTS[0], b"ok layout 2 epoch 2 events 0\n")? {
+    if is_seen(alloc, &said, LISTS[0], b"ok layout 3 epoch 2 events 0\n")? {
         Ok(0)
-    } else if is_seen(alloc, &said, LISTS[1], b"ok layout 2 epoch 2 events 1\n")? {
+    } else if is_seen(alloc, &said, LISTS[1], b"ok layout 3 epoch 2 events 1\n")? {
         Ok(1)
     } else {
         Err("neither of these".into())
@@ -194,9 +194,9 @@ fn is_renewed(alloc: Global, image: MemoryDisk) -> Result<bool, Fail> {
     let mut image = image;
     let is_new = sector(&mut image, 1)?.starts_with(b"OPENGATE") && sector(&mut image, 2)?[7] == 3;
     let itself: &[u8] = if is_new {
-        b"ok layout 2 epoch 3 events 0\n"
+        b"ok layout 3 epoch 3 events 0\n"
     } else {
-        b"ok layout 2 epoch 2 events 1\n"
+        b"ok layout 3 epoch 2 events 1\n"
     };
     let said = looks(alloc, image);
     Ok(is_seen(alloc, &said, LISTED_WITH_A_FIFTH, itself)?)
@@ -251,7 +251,7 @@ fn open_stops(rt: HostRuntime) -> Result<(), Fail> {
         let mut said = Vec::new(alloc);
         disk = played(alloc, Fuse::new(disk, call), b"", &mut said).into_inner();
         assert!(rt; disk.pending_sectors(alloc)?.is_empty());
-        let is_open = said.as_slice() == b"ok layout 2 epoch 2 events 1\n".as_slice();
+        let is_open = said.as_slice() == b"ok layout 3 epoch 2 events 1\n".as_slice();
         assert!(rt;
             is_open == (call == CALLS_TO_REPLAY)
                 && (is_open || said.as_slice() == b"fault\n".as_slice())

@@ -344,7 +344,7 @@ fn is_cut_off(alloc: Global, call: u64) -> Result<bool, Fail> {
         HELLO,
         &mut written,
     );
-    let whole = b"ok\n0 15 0 Hello%0d\nend\nok layout 2 epoch 1 events 1\n";
+    let whole = b"ok\n0 15 0 Hello%0d\nend\nok layout 3 epoch 1 events 1\n";
     if written.as_slice() == b"fault\n".as_slice() {
         Ok(true)
     } else if written.as_slice() == whole.as_slice() {

@@ -88,12 +88,12 @@ fn stopped(
 #[test]
 fn post_stops(rt: HostRuntime) -> Result<(), Fail> {
     let first: [&[u8]; 2] = [
-        b"ok layout 2 epoch 1 events 0\n",
-        b"ok layout 2 epoch 1 events 1\n",
+        b"ok layout 3 epoch 1 events 0\n",
+        b"ok layout 3 epoch 1 events 1\n",
     ];
     let last: [&[u8]; 2] = [
-        b"ok layout 2 epoch 1 events 255\n",
-        b"ok layout 2 epoch 1 events 256\n",
+        b"ok layout 3 epoch 1 events 255\n",
+        b"ok layout 3 epoch 1 events 256\n",
     ];
     let wanted = [[1, 0], [5, 0], [25, 0], [1, 0], [3, 2], [0, 1]];
     for (call, images) in wanted.iter().enumerate() {
@@ -175,6 +175,6 @@ fn script_over_fuse(rt: HostRuntime) -> Result<(), Fail> {
             .windows(line.len())
             .any(|part| part == line.as_slice())
     );
-    assert!(rt; shown.ends_with(b"\nmarks\n30:......c\nend\nok layout 2 epoch 1 events 5\n"));
+    assert!(rt; shown.ends_with(b"\nmarks\n30:......c\nend\nok layout 3 epoch 1 events 5\n"));
     Ok(())
 }

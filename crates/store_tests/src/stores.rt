@@ -21,10 +21,10 @@ const SHOW: &[u8] = b"list\nshow A.Text\nshow B.Text\n";
 
 /// What that gives after the first of the three events.
 const SHOWN: [&[u8]; 4] = [
-    b"written 0\nend\nno 5\nno 5\nok layout 2 epoch 1 events 0\n",
-    b"file A.Text 1\nwritten 1\nend\n0 15 0 a\nend\nno 5\nok layout 2 epoch 1 events 1\n",
-    b"file A.Text 1\nfile B.Text 2\nwritten 3\nend\n0 15 0 a\nend\n0 15 0 bc\nend\nok layout 2 epoch 1 events 2\n",
-    b"file A.Text 3\nfile B.Text 2\nwritten 6\nend\n0 15 0 def\nend\n0 15 0 bc\nend\nok layout 2 epoch 1 events 3\n",
+    b"written 0\nend\nno 5\nno 5\nok layout 3 epoch 1 events 0\n",
+    b"file A.Text 1\nwritten 1\nend\n0 15 0 a\nend\nno 5\nok layout 3 epoch 1 events 1\n",
+    b"file A.Text 1\nfile B.Text 2\nwritten 3\nend\n0 15 0 a\nend\n0 15 0 bc\nend\nok layout 3 epoch 1 events 2\n",
+    b"file A.Text 3\nfile B.Text 2\nwritten 6\nend\n0 15 0 def\nend\n0 15 0 bc\nend\nok layout 3 epoch 1 events 3\n",
 ];
 
 /// Opens the store on a disk, plays a script over it, and says of it that it can be used; or says why there is none.
@@ -182,9 +182,12 @@ fn layout_of_one_event(rt: HostRuntime) -> Result<(), Fail> {
         (1, b"OPENGATE"),
         (
             2,
-            b"\x00\x00\x00\x02\x00\x00\x00\x01\x00\x00\x00\x00\x00\x00\x00\x1b",
+            b"\x00\x00\x00\x03\x00\x00\x00\x01\x00\x00\x00\x00\x00\x00\x00\x1e",
         ),
-        (1029, b"\x00\x0f\x40\x00\x00\x00\x01"),
+        (
+            1029,
+            b"\x00\x0f\x40\x00\x00\x00\x01\x00\x00\x00\x00\x00\x00\x00\x00\x00\x00\x00\x00\x00\x00\x00\x00\x00\x00\x01\x00\x01",
+        ),
         (5, b"OPENGATE"),
         (6, b"\x05\x06A.Text\x00\x01a"),
         (7, b""),
@@ -197,17 +200,17 @@ fn layout_of_one_event(rt: HostRuntime) -> Result<(), Fail> {
 
 /// What is said of a new store whose head gives the image so many bytes.
 fn said_of_length(alloc: Global, length: u8) -> Result<Vec<u8>, Fail> {
-    let head = [0, 0, 0, 2, 0, 0, 0, 1, 0, 0, 0, 0, 0, 0, 0, length];
+    let head = [0, 0, 0, 3, 0, 0, 0, 1, 0, 0, 0, 0, 0, 0, 0, length];
     said_of(alloc, 2, &head)
 }
 
-/// The image of the empty desktop has 27 bytes, and is none with fewer or with more.
+/// The image of the empty desktop has 30 bytes, and is none with fewer or with more.
 #[test]
 fn empty_image(rt: HostRuntime) -> Result<(), Fail> {
     assert!(rt;
-        said_of_length(rt.alloc(), 27)?.as_slice() == b"ok layout 2 epoch 1 events 0\n".as_slice()
+        said_of_length(rt.alloc(), 30)?.as_slice() == b"ok layout 3 epoch 1 events 0\n".as_slice()
     );
-    for length in [0, 26, 28] {
+    for length in [0, 27, 29, 31] {
         assert!(rt; said_of_length(rt.alloc(), length)?.as_slice() == b"damaged 1029\n".as_slice());
     }
     Ok(())

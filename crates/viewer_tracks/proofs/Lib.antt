@@ -6,7 +6,10 @@ pub mod Once
 pub mod Tallest
 pub mod InPlace
 pub mod TrackLemmas
-pub mod ColumnLemmas
 pub mod RowLemmas
+pub mod CountLemmas
+pub mod StackLemmas
+pub mod LevelLemmas
+pub mod ColumnLemmas
 pub mod PlacedLemmas
 pub mod HeightLemmas

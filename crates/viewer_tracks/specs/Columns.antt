@@ -1,9 +1,11 @@
--- The two columns of the display. A column is a stack of tracks with the topmost first, which alone is seen, opened
--- into and changed; each has one track so far.
-use Rattle.std.specs.Prelude.{◌≡◌, ℕ, ◌+◌, ◌<◌, ◌≤◌, List, [], ◌∷◌, length, All, sum_by, if◌then◌else◌, ◌==◌, nat_lt}
-use Rattle.std.specs.Prelude.{Option, Some, None}
+-- The two columns of the display. A column is a stack of one to eight tracks with the topmost first, which alone is
+-- seen, opened into, changed and closed in. Levels count from the lowest track, which has level 1; all tracks above it
+-- are overlays, and each of these has a viewer.
+use Rattle.std.specs.Prelude.{◌≡◌, ℕ, ◌+◌, ◌-◌, ◌<◌, ◌≤◌, if◌then◌else◌, ◌==◌, nat_lt, Option, Some, None}
+use Rattle.std.specs.Prelude.{List, [], ◌∷◌, length, reverse, get_or, All, sum_by}
 use Rattle.viewer_tracks.specs.declared.display.Track.{Track}
 use Rattle.viewer_tracks.specs.declared.display.Track.TheVariants.{User, System}
+use Rattle.viewer_tracks.specs.declared.display.TheConstants.{ROWS, DEPTH}
 use Rattle.viewer_tracks.specs.Display.{track_at, left_of}
 use Rattle.viewer_tracks.specs.Viewers.{Entry, IsTrack, bottom_of, top_of, times_in, entry_of, viewer_at}
 use Rattle.viewer_tracks.specs.Edits.{opened, replaced, changed, closed}
@@ -35,6 +37,34 @@ abbrev pub with_topmost : List (List Entry) → List Entry → List (List Entry)
 with_topmost [] new = new ∷ []
 with_topmost (t ∷ under) new = new ∷ under
 
+-- the tracks under the topmost one
+abbrev pub under_topmost : List (List Entry) → List (List Entry)
+under_topmost [] = []
+under_topmost (t ∷ under) = under
+
+-- the track of a level
+abbrev pub track_on : List (List Entry) → ℕ → List Entry
+track_on s level = get_or (reverse s) (level - 1) []
+
+-- the track in which a viewer stands
+abbrev pub track_with : ℕ → List (List Entry) → List Entry
+track_with v [] = []
+track_with v (t ∷ under) = if nat_lt 0 (times_in v t) then t else track_with v under
+
+-- a track that one viewer has whole
+abbrev pub whole_track : ℕ → List Entry
+whole_track v = record { viewer = v; height = ROWS } ∷ []
+
+-- a track over those under it; one without viewers covers no other
+abbrev pub laid_on : List (List Entry) → List Entry → List (List Entry)
+laid_on [] new = new ∷ []
+laid_on (t ∷ under) [] = t ∷ under
+laid_on (t ∷ under) (e ∷ new) = (e ∷ new) ∷ t ∷ under
+
+-- the stack after a viewer of its topmost track was closed: an overlay goes with the last viewer that it has
+abbrev pub closed_on : List (List Entry) → ℕ → List (List Entry)
+closed_on s v = laid_on (under_topmost s) (closed (topmost s) (entry_of (topmost s) v))
+
 -- the track that a column shows, and the columns with another one shown
 abbrev pub shown : Columns → Track → List Entry
 shown c k = topmost (stack_of c k)
@@ -54,34 +84,55 @@ abbrev pub times_meant : ℕ → Option ℕ → ℕ
 times_meant v None = 0
 times_meant v (Some w) = if w == v then 1 else 0
 
+-- a viewer stands in a track, which is shown or covered
 abbrev pub IsPlaced : ℕ → Columns → Type 0
 IsPlaced v c = 0 < times_placed v c
 
--- what is true of the columns at all times: each has one track, heights fit, and a viewer stands in one place at most
+-- how often a viewer stands in the tracks that are shown
+abbrev pub times_shown : ℕ → Columns → ℕ
+times_shown v c = times_in v (shown c User) + times_in v (shown c System)
+
+-- a viewer stands in a track that is shown
+abbrev pub IsOnTop : ℕ → Columns → Type 0
+IsOnTop v c = 0 < times_shown v c
+
+-- the tracks of both columns that are covered
+abbrev pub covered_of : Columns → Columns
+covered_of c = record { user = under_topmost c.user; system = under_topmost c.system }
+
+-- what is true of a stack at all times: it has one to eight tracks, heights fit, and each overlay has a viewer
+pub record IsStack (s : List (List Entry)) : Type 0 where
+  pub some : 0 < length s
+  pub few : length s ≤ DEPTH
+  pub tracks : All IsTrack s
+  pub overlays : (level : ℕ) → 1 < level → level ≤ length s → 0 < length (track_on s level)
+
+-- what is true of the columns at all times: each is a stack, and a viewer stands in one place at most
 pub record IsColumns (c : Columns) : Type 0 where
-  pub one_user : length c.user ≡ 1
-  pub one_system : length c.system ≡ 1
-  pub user : All IsTrack c.user
-  pub system : All IsTrack c.system
+  pub user : IsStack c.user
+  pub system : IsStack c.system
   pub once : (v : ℕ) → times_placed v c ≤ 1
 
--- the column in which a placed viewer stands, and its entry in the track shown there
+-- the column in which a placed viewer stands, its track there, and its entry in that track
 unfoldable pub track_of : Columns → ℕ → Track
 track_of c v = if nat_lt 0 (times_on v c.user) then User else System
 
+abbrev pub placed_in : Columns → ℕ → List Entry
+placed_in c v = track_with v (stack_of c (track_of c v))
+
 abbrev pub placed_entry : Columns → ℕ → ℕ
-placed_entry c v = entry_of (shown c (track_of c v)) v
+placed_entry c v = entry_of (placed_in c v) v
 
 -- the row at which a placed viewer begins, and the one before which it ends
 abbrev pub placed_bottom : Columns → ℕ → ℕ
-placed_bottom c v = bottom_of (shown c (track_of c v)) (placed_entry c v)
+placed_bottom c v = bottom_of (placed_in c v) (placed_entry c v)
 
 abbrev pub placed_top : Columns → ℕ → ℕ
-placed_top c v = top_of (shown c (track_of c v)) (placed_entry c v)
+placed_top c v = top_of (placed_in c v) (placed_entry c v)
 
--- a viewer is placed and has the cell at column x and row y
+-- a viewer is shown and has the cell at column x and row y
 pub record StandsAt (c : Columns) (v x y : ℕ) : Type 0 where
-  pub placed : IsPlaced v c
+  pub placed : IsOnTop v c
   pub track : track_of c v ≡ track_at x
   pub from : placed_bottom c v ≤ y
   pub before : y < placed_top c v
@@ -90,6 +141,10 @@ pub record StandsAt (c : Columns) (v x y : ℕ) : Type 0 where
 abbrev pub seen_at : Columns → ℕ → ℕ → Option ℕ
 seen_at c x y = viewer_at (shown c (track_at x)) y
 
+-- the viewer that the track of a level has at a cell, be that seen or covered
+abbrev pub at_level : Columns → ℕ → ℕ → ℕ → Option ℕ
+at_level c level x y = viewer_at (track_on (stack_of c (track_at x)) level) y
+
 -- the columns after a viewer opened at a cell, and the viewer that it replaced
 unfoldable pub after_open : Columns → ℕ → ℕ → ℕ → Columns
 after_open c v x y = with_shown c (track_at x) (opened (shown c (track_at x)) v y)
@@ -97,13 +152,19 @@ after_open c v x y = with_shown c (track_at x) (opened (shown c (track_at x)) v 
 abbrev pub replaced_at : Columns → ℕ → ℕ → Option ℕ
 replaced_at c x y = replaced (shown c (track_at x)) y
 
--- the columns after the top of a viewer was moved to row y
-unfoldable pub after_change : Columns → ℕ → ℕ → Columns
-after_change c v y = with_shown c (track_of c v) (changed (shown c (track_of c v)) (placed_entry c v) y)
+-- the columns after a viewer opened in a track of its own over the one that column x showed
+unfoldable pub after_open_track : Columns → ℕ → ℕ → Columns
+after_open_track c v x = with_stack c (track_at x) (whole_track v ∷ stack_of c (track_at x))
 
--- the columns after a viewer was closed
+-- the columns after the top of a shown viewer was moved to row y
+unfoldable pub after_change : Columns → ℕ → ℕ → Columns
+after_change c v y =
+    let t = shown c (track_of c v) in
+    with_shown c (track_of c v) (changed t (entry_of t v) y)
+
+-- the columns after a shown viewer was closed
 unfoldable pub after_close : Columns → ℕ → Columns
-after_close c v = with_shown c (track_of c v) (closed (shown c (track_of c v)) (placed_entry c v))
+after_close c v = with_stack c (track_of c v) (closed_on (stack_of c (track_of c v)) v)
 
 -- the cell at which to open a new viewer: above the marker, wherever that is, or else where the track has room
 abbrev pub allocated : Columns → Track → Option (ℕ × ℕ) → ℕ × ℕ

@@ -14,7 +14,7 @@ returns-clause-answered g c =
     let d = kept c.args.desk.now in
     let v = c.args.id in
     let hold = over_columns old d c.requires.over in
-    closed_answered (s.honest c.args.source.now) old d c.requires.over v
+    closed_answered (s.honest c.args.source.now) old d c.requires.over v c.requires.placed
     (c.edits_keep_columns.ensures.closed d.columns v hold c.requires.placed)
     (λ w. c.edits_place_viewers.ensures.closed d.columns v w hold c.requires.placed)
     (subst IsKeptPlace c.place_kept.ensures.value c.place_kept.ensures.place)

@@ -12,11 +12,12 @@ use Rattle.desktop_definitions.specs.Seen.{seen}
 use Rattle.desktop_definitions.specs.Step.{settled}
 use Rattle.desktop_definitions.specs.Outcome.{IsAnswered}
 use Rattle.desktop_laws.specs.KeyLaws.{refusal_answered}
-use Rattle.desktop_laws.specs.OpenedLaws.{new_id}
+use Rattle.desktop_definitions.specs.Opening.{new_id}
 use Rattle.desktop_laws.specs.OpeningDone.{new_fresh, can_open, whole_columns}
 use Rattle.desktop_laws.specs.RowLaws.{known_too_low}
 use Rattle.desktop_laws.specs.OpeningOnLaws.{half_free, copied_low, copied_full}
 use Rattle.desktop_laws.specs.OpeningOnLaws.{copied_answered}
+use Rattle.desktop_laws.specs.PlaceLaws.{on_top_placed}
 use Rattle.desk_core.specs.Kept.{kept}
 use Rattle.desk_core.proofs.ViewLemmas.{menu_there}
 use Rattle.desk_commands.proofs.documents.copy_viewer.Goals as goal
@@ -34,7 +35,8 @@ returns-then-rows-eq1-clause-answered g c =
 pub text_there-menu-requires : goal.text_there-menu-requires
 text_there-menu-requires g c =
     subst (λ (v : Viewer). IsSome (numbered c.args.desk.now.texts.entries v.menu)) (sym c.viewer_or_none-viewer.ensures)
-    (menu_there (kept c.args.desk.now) c.requires.over.whole c.args.id c.requires.placed)
+    (menu_there (kept c.args.desk.now) c.requires.over.whole c.args.id
+    (on_top_placed c.args.desk.now.tracks c.args.id c.requires.placed))
 
 pub returns-then-not-opening_on_fits-clause-answered : goal.returns-then-not-opening_on_fits-clause-answered
 returns-then-not-opening_on_fits-clause-answered g c =
@@ -48,7 +50,8 @@ returns-then-not-opening_on_fits-clause-answered g c =
     (ap (λ (pieces : List Piece). flat pieces) c.text_there-menu.ensures)
     (λ characters text long. sym (c.opening_on_fits.ensures.fits characters text viewer.main viewer.org
     (long ∙ sym c.len.ensures)
-    (inr (half_free d.columns c.args.id place.result.x place.result.bottom place.result.top place.ensures more)))
+    (inr (half_free d.columns c.args.id place.result.x place.result.bottom place.result.top
+    (whole_columns d c.requires.over.whole) c.requires.placed place.ensures more)))
     ∙ c.if-not-opening_on_fits.true)
 
 pub open_on-requires-clause-can : goal.open_on-requires-clause-can
@@ -76,5 +79,6 @@ returns-clause-answered g c =
     })
     (λ characters text long. sym (c.opening_on_fits.ensures.fits characters text viewer.main viewer.org
     (long ∙ ap length c.in_ok-menu.ensures ∙ sym c.len.ensures)
-    (inr (half_free d.columns c.args.id x place.result.bottom place.result.top place.ensures more)))
+    (inr (half_free d.columns c.args.id x place.result.bottom place.result.top hold c.requires.placed place.ensures
+    more)))
     ∙ c.if-not-opening_on_fits.false))

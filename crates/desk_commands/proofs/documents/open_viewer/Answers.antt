@@ -7,7 +7,7 @@ use Rattle.desktop_definitions.specs.Opening.{opening, dropped}
 use Rattle.desktop_definitions.specs.Seen.{seen, seen_text}
 use Rattle.desktop_definitions.specs.Step.{settled}
 use Rattle.desktop_definitions.specs.Outcome.{IsAnswered}
-use Rattle.desktop_laws.specs.OpenedLaws.{new_id}
+use Rattle.desktop_definitions.specs.Opening.{new_id}
 use Rattle.desktop_laws.specs.OpeningDone.{new_fresh, can_open, can_open_more, opened_desk, written_opened}
 use Rattle.desktop_laws.specs.OpeningDone.{whole_columns, opening_answered}
 use Rattle.desk_core.specs.Kept.{kept}

@@ -4,7 +4,7 @@ use Rattle.desktop_definitions.specs.Desktop.{held}
 use Rattle.desktop_definitions.specs.Opening.{dropped}
 use Rattle.desktop_definitions.specs.Viewers.{without_viewer}
 use Rattle.desktop_definitions.specs.Seen.{seen}
-use Rattle.desktop_laws.specs.OpenedLaws.{new_id}
+use Rattle.desktop_definitions.specs.Opening.{new_id}
 use Rattle.desktop_laws.specs.OpeningDone.{new_fresh, whole_columns}
 use Rattle.desk_core.specs.Kept.{kept}
 use Rattle.desk_commands.proofs.OpeningLemmas.{not_taken}

@@ -1,44 +1,17 @@
-use Rattle.std.proofs.Common.{◌≡◌, ℕ, None, List, length, ap, sym, subst, ◌∙◌, arith}
-use Rattle.std.specs.Map.{keys_of}
-use Rattle.std.specs.Ordering.{nat_cmp}
-use Rattle.std.specs.BTreeMap.{insert_entry}
-use Rattle.viewer_tracks.specs.Columns.{IsPlaced}
-use Rattle.desktop_definitions.specs.declared.viewer.Viewer.{Viewer}
-use Rattle.desktop_definitions.specs.Opening.{least_unused, opening_on, dropped}
-use Rattle.desktop_definitions.specs.Viewers.{viewer_in, opened_at}
-use Rattle.desktop_laws.specs.OpenLaws.{unused_none}
-use Rattle.desktop_laws.specs.OpenedLaws.{new_id}
+use Rattle.std.proofs.Common.{◌∙◌}
+use Rattle.desktop_definitions.specs.Opening.{opening_on, dropped}
+use Rattle.desktop_definitions.specs.Viewers.{opened_at}
 use Rattle.desk_core.specs.Kept.{kept}
+use Rattle.desk_commands.proofs.OpeningLemmas.{stands_nowhere}
 use Rattle.desk_commands.proofs.openings.open_on.Goals as goal
 
-pub unused_id-id-requires : goal.unused_id-id-requires
-unused_id-id-requires c =
-    let long = ap length c.as_slice.ensures.value in
-    omega (arith, c.requires.can.viewers, long)
-
-pub add_viewer-requires : goal.add_viewer-requires
-add_viewer-requires c =
-    let viewers = c.args.desk.now.viewers.items in
-    subst (λ (n : ℕ). viewer_in viewers n ≡ None)
-    (sym (c.unused_id-id.ensures ∙ ap (λ (l : List (ℕ × Viewer)). least_unused (keys_of l)) c.as_slice.ensures.value))
-    (unused_none viewers)
-
 pub open_at-requires-clause-fresh : goal.open_at-requires-clause-fresh
-open_at-requires-clause-fresh c = λ placed.
-    c.requires.can.fresh (subst (λ (n : ℕ). IsPlaced n c.args.desk.now.tracks)
-    (c.unused_id-id.ensures ∙ ap (λ (l : List (ℕ × Viewer)). least_unused (keys_of l)) c.as_slice.ensures.value)
-    placed)
+open_at-requires-clause-fresh c =
+    stands_nowhere (kept c.args.desk.now) (kept c.join.new.desk) c.args.menu c.args.main c.args.org c.in_ok-id.id
+    c.requires.can c.in_ok-id.ensures.desk c.in_ok-id.ensures.id
 
 pub returns : goal.returns
 unfolding opening_on
 returns c =
-    let d = kept c.args.desk.now in
-    let id : c.unused_id-id.result ≡ new_id d
-    = c.unused_id-id.ensures ∙ ap (λ (l : List (ℕ × Viewer)). least_unused (keys_of l)) c.as_slice.ensures.value in
-    let viewers : c.add_viewer.new.viewers.items ≡ insert_entry nat_cmp d.viewers (new_id d)
-    (record { menu = least_unused (keys_of d.texts); main = c.args.main; org = c.args.org })
-    = c.in_ok-add_viewer.ensures ∙ (λ k. insert_entry nat_cmp d.viewers (id k)
-    (record { menu = c.in_ok-number.ensures.number k; main = c.args.main; org = c.args.org })) in
     c.open_at.ensures
-    ∙ (λ k. dropped (opened_at (record d { texts = c.in_ok-number.ensures.texts k; viewers = viewers k }) (id k)
-    (c.args.x, c.args.y)))
+    ∙ (λ k. dropped (opened_at (c.in_ok-id.ensures.desk k) (c.in_ok-id.ensures.id k) (c.args.x, c.args.y)))

@@ -1,4 +1,4 @@
-use Rattle.std.proofs.Common.{◌≡◌, ◌+◌, ◌∙◌, List, ℕ, ◌++◌, length, arith, ap, length-append, subst, sym}
+use Rattle.std.proofs.Common.{◌≡◌, ◌∙◌, List, ℕ, ◌++◌, length, arith, ap, length-append, subst, sym}
 use Rattle.char_file.proofs.Reading.{read_on}
 use Rattle.piece_ring.specs.Flat.{flat, run, characters_of}
 use Rattle.piece_ring.specs.Lengths.{length-run}

@@ -1,4 +1,4 @@
-use Rattle.std.proofs.Common.{◌≡◌, ◌∙◌, ◌++◌, ◌∷◌, [], ℕ, List, length, arith, subst, sym}
+use Rattle.std.proofs.Common.{◌∙◌, ℕ, List, arith, subst, sym}
 use Rattle.std.proofs.lemmas.Cmp.{nat_cmp_total}
 use Rattle.piece_ring.specs.declared.piece.Piece.{Piece}
 use Rattle.desk_commands.proofs.RewritingLemmas.{ArePut, IsPut, one_inside, table_long, put_last, put_on}

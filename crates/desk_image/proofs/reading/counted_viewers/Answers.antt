@@ -1,4 +1,4 @@
-use Rattle.std.proofs.Common.{refl}
+use Rattle.std.proofs.Common.{refl, arith}
 use Rattle.std.proofs.lemmas.Result.{err_from_is_err_and}
 use Rattle.desk_image.proofs.Loop.{begins, goes_on, ends, is_done, all_fit}
 use Rattle.desk_image.proofs.reading.counted_viewers.Goals as goal
@@ -21,3 +21,6 @@ returns-clause-reads g c = is_done c.loop.invariant _ _ c.loop-test.false refl
 
 pub returns-clause-fits : goal.returns-clause-fits
 returns-clause-fits g c = all_fit c.loop.invariant
+
+pub returns-clause-many : goal.returns-clause-many
+returns-clause-many g c = omega (arith, c.loop.invariant.many, c.loop-test.false)

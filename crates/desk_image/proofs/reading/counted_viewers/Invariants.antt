@@ -1,3 +1,4 @@
+use Rattle.command_table.specs.Versions.{version_number}
 use Rattle.desk_image.specs.Fitting.{FitsViewer, after_viewer}
 use Rattle.desk_image.specs.Reading.{viewer_at}
 use Rattle.desk_image.proofs.Loop.{IsAt}
@@ -5,5 +6,5 @@ use Rattle.desk_image.proofs.reading.counted_viewers.Given as goal
 
 abbrev pub invariant-loop : goal.invariant-loop
 invariant-loop g l =
-    IsAt g.S.ByteSource viewer_at FitsViewer after_viewer l.count l.counter 0 l.least l.viewers.items l.fn.source
-    l.source
+    IsAt g.S.ByteSource (viewer_at (version_number l.version)) (FitsViewer (version_number l.version)) after_viewer
+    l.count l.counter 0 l.least l.viewers.items l.fn.source l.source

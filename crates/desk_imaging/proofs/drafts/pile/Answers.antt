@@ -1,14 +1,21 @@
-use Rattle.std.proofs.Common.{◌∙◌, ◌+◌, ℕ, ap, subst, sym, arith, get_or, refl}
-use Rattle.viewer_tracks.specs.Columns.{after_open, IsPlaced}
+use Rattle.std.proofs.Common.{◌∙◌, ◌+◌, ℕ, ap, subst, sym, arith, get_or, append-nil}
+use Rattle.viewer_tracks.specs.Columns.{after_open, IsPlaced, shown, with_shown}
 use Rattle.desk_image.specs.declared.picture.Stretch.{Stretch}
-use Rattle.desk_imaging.proofs.DraftLemmas.{nothing_on, rows_fit, not_there, piled, height_more}
+use Rattle.desk_imaging.proofs.DraftLemmas.{as_shown, full_to, rows_fit, not_there, piled, height_more}
 use Rattle.desk_imaging.proofs.drafts.pile.Goals as goal
 
 abbrev none : Stretch
 none = record { viewer = 0; height = 0 }
 
 pub loop-stretch-init : goal.loop-stretch-init
-loop-stretch-init c = record { tracks = nothing_on c.args.tracks.now c.args.track c.requires.empty; top = refl }
+loop-stretch-init c =
+    let t = shown c.args.tracks.now c.args.track in
+    record {
+      tracks = as_shown c.args.tracks.now c.args.track c.requires.sound
+          ∙ ap (with_shown c.args.tracks.now c.args.track) (sym (append-nil t));
+      top = c.requires.bottom ∙ full_to t;
+      sound = c.requires.sound;
+    }
 
 pub overflow_add-top : goal.overflow_add-top
 overflow_add-top c =
@@ -22,7 +29,7 @@ open-requires-clause-fresh c =
     let v = (get_or c.args.stretches.now c.loop-stretch.stretch-index none).viewer in
     subst (λ t. ¬ IsPlaced v t) (sym c.loop-stretch.invariant.tracks)
     (not_there c.args.tracks.now c.args.track c.args.stretches.now c.loop-stretch.stretch-index none
-    c.loop-stretch-test.true c.requires.empty (c.requires.once v))
+    c.loop-stretch-test.true c.requires.sound (c.requires.once v))
 
 pub loop-stretch-preserved : goal.loop-stretch-preserved
 loop-stretch-preserved c =
@@ -37,4 +44,5 @@ loop-stretch-preserved c =
           ∙ (λ k. after_open (before.tracks k) v (c.left.ensures k) (before.top k + h))
           ∙ piled c.args.tracks.now c.args.track ss i none low c.requires.heights;
       top = ap (λ (n : ℕ). n + h) before.top ∙ sym (height_more c.args.tracks.now c.args.track ss i none low);
+      sound = c.open.ensures.sound;
     }

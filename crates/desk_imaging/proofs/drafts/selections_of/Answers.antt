@@ -1,8 +1,8 @@
-use Rattle.std.proofs.Common.{◌≡◌, ◌∙◌, ◌+◌, ◌++◌, sym, ap, arith, List, length}
+use Rattle.std.proofs.Common.{◌≡◌, ◌∙◌, ◌+◌, ◌++◌, sym, ap, arith, List, length, min}
 use Rattle.std.specs.Option.{option_to_list}
 use Rattle.std.specs.List.{filter_map, range_with_len}
 use Rattle.desktop_definitions.specs.declared.viewer.Selection.{Selection}
-use Rattle.desk_imaging.specs.Images.{selected_as, selections_of}
+use Rattle.desk_imaging.specs.Images.{most_ranks, selected_as, selections_of}
 use Rattle.desk_imaging.proofs.DraftLemmas.{range_gives}
 use Rattle.desk_imaging.proofs.drafts.selections_of.Goals as goal
 
@@ -25,5 +25,5 @@ unfolding selections_of
 returns-clause-items c =
     let end = c.loop-at.auto.at-end in
     let past = c.loop-at-test.false in
-    let all : c.loop-at.at ≡ length c.args.pictures.now = omega (arith, end, past) in
+    let all : c.loop-at.at ≡ min (length c.args.pictures.now) most_ranks = omega (arith, end, past) in
     c.loop-at.invariant.items ∙ ap (λ n. filter_map (selected_as c.args.pictures.now) (range_with_len 1 n)) all

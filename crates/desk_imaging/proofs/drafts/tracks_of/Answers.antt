@@ -1,22 +1,24 @@
-use Rattle.std.proofs.Common.{◌∙◌, [], ap, arith, map}
+use Rattle.std.proofs.Common.{◌∙◌, ap, arith}
+use Rattle.std.specs.Prelude.{reverse}
 use Rattle.viewer_tracks.specs.declared.display.Track.TheVariants.{User}
-use Rattle.viewer_tracks.specs.Columns.{times_placed, with_shown}
-use Rattle.desk_image.specs.Pictures.{entry_of}
-use Rattle.desk_imaging.proofs.DraftLemmas.{one_on}
+use Rattle.viewer_tracks.specs.Columns.{Columns, times_placed, with_stack}
+use Rattle.desk_image.specs.Pictures.{stack_of as levels_of}
+use Rattle.desk_imaging.proofs.Stacks.{times_reversed, nothing_placed}
 use Rattle.desk_imaging.proofs.drafts.tracks_of.Goals as goal
 
-pub pile-requires-clause-once : goal.pile-requires-clause-once
-pile-requires-clause-once c = λ v.
+pub build-requires-clause-once : goal.build-requires-clause-once
+build-requires-clause-once c = λ v.
     let once = c.requires.once v in
-    let none = one_on v [] in
+    let none = nothing_placed v in
     let placed = ap (times_placed v) c.new-tracks.ensures.empty in
     omega (arith, once, none, placed)
 
-pub pile-requires-2-clause-once : goal.pile-requires-2-clause-once
-pile-requires-2-clause-once c = λ v.
-    let user = map entry_of c.args.user.now in
+pub build-requires-2-clause-once : goal.build-requires-2-clause-once
+build-requires-2-clause-once c = λ v.
+    let user = levels_of c.args.user.now in
     let once = c.requires.once v in
-    let none = one_on v [] in
-    let some = one_on v user in
-    let placed = ap (times_placed v) (c.pile.ensures ∙ ap (λ t. with_shown t User user) c.new-tracks.ensures.empty) in
-    omega (arith, once, none, some, placed)
+    let none = nothing_placed v in
+    let turned = times_reversed v user in
+    let placed = ap (times_placed v)
+    (c.build.ensures.built ∙ ap (λ (t : Columns). with_stack t User (reverse user)) c.new-tracks.ensures.empty) in
+    omega (arith, once, none, turned, placed)

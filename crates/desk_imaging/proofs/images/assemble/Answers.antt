@@ -1,24 +1,29 @@
 use Rattle.std.proofs.Common.{◌∙◌, length, rules, ap, subst, sym, arith}
+use Rattle.std.proofs.lemmas.List.{length-map}
 use Rattle.desk_image.specs.Image.{IsSpellable}
-use Rattle.desk_image.specs.Pictures.{pictured}
+use Rattle.desk_image.specs.Pictures.{pictured, track_of}
 use Rattle.desk_imaging.specs.Images.{IsDesktopOf}
-use Rattle.desk_imaging.proofs.ImageMade.{few_pictures, made, spellable}
+use Rattle.desk_imaging.proofs.ImageMade.{user_few, system_few, made, spellable}
 use Rattle.desk_imaging.proofs.ImageHolds.{makes_desktop}
 use Rattle.desk_imaging.proofs.images.assemble.Goals as goal
 
-pub selections_of-requires : goal.selections_of-requires
-selections_of-requires c =
-    let few = few_pictures c.args.written (pictured c.args.picture) c.requires in
-    let same = ap length c.as_slice-2.ensures.value in
+pub is_desktop-requires-clause-user : goal.is_desktop-requires-clause-user
+is_desktop-requires-clause-user c =
+    let few = user_few c.requires.0 c.args.written (pictured c.args.picture) c.requires.1 in
+    let same = length-map c.args.picture.user.items track_of in
+    omega (arith, few, same)
+
+pub is_desktop-requires-clause-system : goal.is_desktop-requires-clause-system
+is_desktop-requires-clause-system c =
+    let few = system_few c.requires.0 c.args.written (pictured c.args.picture) c.requires.1 in
+    let same = length-map c.args.picture.system.items track_of in
     omega (arith, few, same)
 
 pub is_desktop-requires-clause-few : goal.is_desktop-requires-clause-few
 is_desktop-requires-clause-few c =
-    let few = few_pictures c.args.written (pictured c.args.picture) c.requires in
-    let same = ap length c.as_slice-2.ensures.value in
     let fewer = c.in_ok-selections.ensures.few in
     let items = ap length c.as_slice-4.ensures.value in
-    omega (arith, few, same, fewer, items)
+    omega (arith, fewer, items)
 
 pub returns-then-not-is_desktop-clause-damaged : goal.returns-then-not-is_desktop-clause-damaged
 returns-then-not-is_desktop-clause-damaged c = λ is d of.
@@ -27,8 +32,10 @@ returns-then-not-is_desktop-clause-damaged c = λ is d of.
 pub returns-clause-made : goal.returns-clause-made
 returns-clause-made c =
     subst (IsDesktopOf c.args.written (pictured c.args.picture)) (sym c.desk_of.ensures)
-    (made c.args.written (pictured c.args.picture) (sym c.is_desktop.ensures ∙ search rules) c.requires)
+    (made c.args.written (pictured c.args.picture) (sym c.is_desktop.ensures ∙ search rules) c.requires.0
+    c.requires.1)
 
 pub returns-clause-parts : goal.returns-clause-parts
-returns-clause-parts c =
-    subst IsSpellable (sym c.desk_of.ensures) (spellable c.args.written (pictured c.args.picture) c.requires)
+returns-clause-parts c = λ version fits.
+    subst (IsSpellable version) (sym c.desk_of.ensures)
+    (spellable version c.args.written (pictured c.args.picture) fits)

@@ -1,6 +1,8 @@
+use Rattle.std.proofs.lemmas.Result.{on_ok_weaker}
+use Rattle.viewer_tracks.specs.declared.display.Track.TheVariants.{User, System}
 use Rattle.desk_image.proofs.Putting.{then_put, same_put}
 use Rattle.desk_core.specs.Kept.{kept}
-use Rattle.desk_imaging.proofs.ImageLemmas.{own_look, short_pattern, some_viewers, image_in_three}
+use Rattle.desk_imaging.proofs.ImageLemmas.{own_look, short_pattern, some_viewers, few_levels, image_in_three}
 use Rattle.desk_core.proofs.ViewLemmas.{few}
 use Rattle.desk_imaging.proofs.imaging.put_parts.Goals as goal
 
@@ -22,3 +24,17 @@ returns-clause-puts g c =
     let through = g.met.K.ByteSink.ground_through in
     same_put k (image_in_three (kept c.args.desk.now)) (then_put k through c.in_ok-put_settings.ensures
     (then_put k through c.in_ok-put_tables.ensures.puts c.put_display.ensures.puts))
+
+pub returns-clause-spellable : goal.returns-clause-spellable
+returns-clause-spellable g c =
+    let tables = c.in_ok-put_tables.ensures in
+    on_ok_weaker c.put_display.result (λ ids. record {
+      texts = tables.texts;
+      files = tables.files;
+      copied = tables.copied;
+      deleted = tables.deleted;
+      numbers = tables.numbers;
+      ids = ids;
+      user = few_levels (kept c.args.desk.now) c.requires User;
+      system = few_levels (kept c.args.desk.now) c.requires System;
+    }) c.put_display.ensures.ids

@@ -1,13 +1,13 @@
 use Rattle.std.proofs.Common.{drop}
 use Rattle.std.specs.List.{flat_map}
-use Rattle.event_bytes.specs.Parts.{byte}
-use Rattle.viewer_tracks.specs.Columns.{shown}
-use Rattle.desk_image.specs.Image.{listed, entry_bytes}
+use Rattle.desktop_definitions.specs.Limits.{newest_version}
+use Rattle.viewer_tracks.specs.Columns.{stack_of, track_on}
+use Rattle.desk_image.specs.Image.{track_bytes, entry_bytes}
 use Rattle.desk_image.proofs.Putting.{IsLeft}
 use Rattle.desk_imaging.proofs.imaging.put_track.Given as goal
 
 -- the viewers so far were put
 abbrev pub invariant-loop-index : goal.invariant-loop-index
 invariant-loop-index g l =
-    IsLeft g.K.ByteSink (listed byte entry_bytes (shown l.tracks l.track))
-    (flat_map entry_bytes (drop l.index (shown l.tracks l.track))) l.fn.sink l.sink
+    IsLeft g.K.ByteSink (track_bytes newest_version (track_on (stack_of l.tracks l.track) l.level))
+    (flat_map (entry_bytes newest_version) (drop l.index (track_on (stack_of l.tracks l.track) l.level))) l.fn.sink l.sink

@@ -1,10 +1,10 @@
 use Rattle.std.proofs.Common.{◌≡◌, ◌∙◌, ◌+◌, ◌∷◌, ℕ, List, All, drop, map, ap, sym, subst, slice_index_or}
 use Rattle.std.specs.Map.{keys_of}
 use Rattle.std.proofs.lemmas.List.Elements.{All-cons}
-use Rattle.event_bytes.specs.Parts.{byte}
+use Rattle.desktop_definitions.specs.Limits.{newest_version}
 use Rattle.desktop_definitions.specs.declared.viewer.Viewer.{Viewer}
 use Rattle.desk_image.specs.declared.picture.ViewerPicture.{ViewerPicture}
-use Rattle.desk_image.specs.Image.{listed, viewer_bytes, picture_of, InByte}
+use Rattle.desk_image.specs.Image.{viewers_bytes, viewer_bytes, picture_of, InWord}
 use Rattle.desk_image.proofs.Putting.{item_put}
 use Rattle.desk_imaging.proofs.ImageLemmas.{from_here}
 use Rattle.desk_imaging.proofs.imaging.put_viewers.Goals as goal
@@ -21,10 +21,10 @@ loop-place-preserved g c =
     let seen = picture_of c.args.caret c.args.selections.now in
     let picture = c.picture_of-picture in
     record {
-      ids = λ small. i.ids (subst (λ (es : List (ℕ × Viewer)). All InByte (keys_of es)) (sym front)
-          (All-cons InByte (slice_index_or viewers place none).0 (keys_of later) picture.ensures.small small));
-      left = item_put g.K.ByteSink g.met.K.ByteSink.ground_through viewer_bytes
-          (listed byte viewer_bytes (map seen viewers)) (map seen (drop place viewers)) picture.result (map seen later)
+      ids = λ small. i.ids (subst (λ (es : List (ℕ × Viewer)). All InWord (keys_of es)) (sym front)
+          (All-cons InWord (slice_index_or viewers place none).0 (keys_of later) picture.ensures.small small));
+      left = item_put g.K.ByteSink g.met.K.ByteSink.ground_through (viewer_bytes newest_version)
+          (viewers_bytes newest_version (map seen viewers)) (map seen (drop place viewers)) picture.result (map seen later)
           (ap (map seen) front ∙ ap (λ (p : ViewerPicture). p ∷ map seen later) (sym picture.ensures.picture))
           i.left c.in_ok-put_viewer.ensures;
     }

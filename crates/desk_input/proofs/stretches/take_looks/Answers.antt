@@ -1,6 +1,6 @@
 use Rattle.std.proofs.Common.{◌∙◌, sym, subst}
 use Rattle.piece_ring.specs.Flat.{flat}
-use Rattle.viewer_tracks.specs.Columns.{Columns, IsPlaced}
+use Rattle.viewer_tracks.specs.Columns.{Columns, IsOnTop}
 use Rattle.desktop_definitions.specs.Looks.{IsLook}
 use Rattle.desktop_definitions.specs.Viewers.{viewer_or_none}
 use Rattle.desktop_definitions.specs.Seen.{seen}
@@ -31,7 +31,7 @@ returns-clause-answered g c =
     let set = c.in_ok-set_looks.ensures in
     looks_taken_answered _ _ _ _ c.requires.over _ stands.some stands.stands.place _ _ _ c.look_at-look.ensures
     (set.changed _ (over_built _ (kept c.args.desk.now) c.requires.over))
-    (subst (λ (columns : Columns). IsPlaced c.args.id columns) (sym set.columns) c.requires.at.placed)
+    (subst (λ (columns : Columns). IsOnTop c.args.id columns) (sym set.columns) c.requires.at.placed)
     c.requires.at.place (sym stands.is)
 
 pub returns-in_default-clause-unread : goal.returns-in_default-clause-unread

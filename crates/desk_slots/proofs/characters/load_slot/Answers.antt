@@ -1,5 +1,9 @@
-use Rattle.std.proofs.Common.{sym, subst}
+use Rattle.std.proofs.Common.{drop, sym, subst}
 use Rattle.sector_disk.specs.Trail.{now}
+use Rattle.sector_disk.specs.Stored.{stored}
+use Rattle.desk_image.specs.Image.{Spells}
+use Rattle.store_layout.specs.Layout.{image_at}
+use Rattle.store_layout.specs.Meaning.{left_over}
 use Rattle.char_pages.specs.Cached.{AreTrue}
 use Rattle.char_pages.proofs.Caching.{none_true}
 use Rattle.sector_disk.proofs.Touching.{still_all}
@@ -19,6 +23,9 @@ returns-in_ok-with_pages-in-Ok-clause-image g c = λ honest is.
     let s = c.in-Ok.ensures.start in
     let p = c.in_ok-with_pages-in-Ok.ensures in
     let content = (now (g.D.Disk.trail c.args.disk.now)).reads in
-    shown_by content _ c.args.slot c.args.head.now
+    let h = c.args.head.now in
+    shown_by content _ c.args.slot h
     (still_all _ _ (c.load_start.ensures.kept.moments honest)) is _ c.in-Ok.desktop c.in_ok-with_pages-in-Ok.field-0 p.desktop (p.characters content)
-    (s.front honest) (s.enough honest) (s.spelled honest)
+    (s.front honest) (s.enough honest)
+    (subst (λ n. Spells n h.written (drop (left_over h.written) (stored content (image_at c.args.slot) h.extent))
+    c.in-Ok.desktop) c.requires.version (s.spelled honest))

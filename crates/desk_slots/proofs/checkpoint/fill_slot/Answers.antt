@@ -2,6 +2,7 @@ use Rattle.std.proofs.Common.{◌++◌, ap, ◌∙◌}
 use Rattle.std.proofs.lemmas.Result.{on_ok_weaker, IfOk-weaker}
 use Rattle.sector_disk.specs.Trail.{now}
 use Rattle.sector_disk.proofs.Touching.{still_reads}
+use Rattle.command_table.specs.Versions.{newest_version}
 use Rattle.desk_image.specs.Image.{image_of, image_bytes}
 use Rattle.desk_slots.proofs.Staying.{goes_on}
 use Rattle.desk_slots.proofs.Fronts.{filled, few_in_area, tail_same, tail_long}
@@ -32,6 +33,6 @@ returns-clause-front g c = on_ok_weaker c.stream.result (λ none honest.
 pub returns-clause-stored : goal.returns-clause-stored
 returns-clause-stored g c = IfOk-weaker c.stream.result _ _ (λ n is_stored honest.
     let live = c.args.desktop.now in
-    is_stored (c.fill_area.ensures.kept.still honest) ∙ ap (λ l. l ++ image_bytes (image_of live.desktop))
+    is_stored (c.fill_area.ensures.kept.still honest) ∙ ap (λ l. l ++ image_bytes newest_version (image_of live.desktop))
     (tail_same (now (g.D.Disk.trail c.args.disk.now)).reads live.pages c.rest-rest.result.now c.rest-rest.ensures))
     c.stream.ensures.stored

@@ -2,6 +2,7 @@ use Rattle.std.proofs.Common.{[], ◌+◌, ◌∙◌, arith, ap, length}
 use Rattle.sector_disk.specs.Trail.{now}
 use Rattle.sector_disk.proofs.Confinement.{joined}
 use Rattle.sector_streams.specs.Filling.{sectors_are}
+use Rattle.command_table.specs.Versions.{newest_version}
 use Rattle.desk_image.specs.Image.{image_of, image_bytes}
 use Rattle.desk_slots.proofs.Counting.{no_content}
 use Rattle.desk_slots.proofs.Streaming.{all_stored, has_room}
@@ -44,7 +45,7 @@ returns-clause-stored g c = λ honest.
     let p = c.put_through.ensures in
     let e = c.in_ok-length.ensures.spelled in
     let d = c.args.desktop.now.desktop in
-    let bytes = image_bytes (image_of d) in
+    let bytes = image_bytes newest_version (image_of d) in
     all_stored (now (g.D.Disk.trail c.finish.new.disk)).reads c.put_through.new.filling _
     (length c.args.tail.now + c.in_ok-length.length) c.args.tail.now bytes
     (p.from ∙ f.from ∙ c.image_at.ensures) (p.limit ∙ f.limit) (ap (λ n. length c.args.tail.now + n) e.1)

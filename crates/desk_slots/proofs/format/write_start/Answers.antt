@@ -1,5 +1,8 @@
+use Rattle.std.proofs.Common.{◌∙◌, length}
+use Rattle.command_table.specs.Versions.{version_number}
+use Rattle.desk_image.specs.Laws.{empty_bytes}
 use Rattle.desk_slots.proofs.Fronts.{placed}
-use Rattle.desk_slots.proofs.Laying.{slot_started}
+use Rattle.desk_slots.proofs.Laying.{empty_spelled, few_bytes, slot_started, versions_known}
 use Rattle.desk_slots.proofs.format.write_start.Goals as goal
 
 pub returns-clause-start : goal.returns-clause-start
@@ -8,8 +11,16 @@ returns-clause-start g c = λ honest.
     let third = c.write-2.ensures.kept.still second in
     let fourth = c.write-3.ensures.kept.still third in
     let fifth = c.write-4.ensures.kept.still fourth in
-    slot_started _ _ _ _ _ _ c.first_image.result c.sector.result c.closed_gate.result c.label.result
-    c.args.version c.requires.first c.requires.newest c.empty_image.ensures c.first_image.ensures c.sector.ensures
+    let v = version_number c.args.version in
+    slot_started _ _ _ _ _ _ c.first_image.result c.sector.result c.closed_gate.result c.label.result (empty_bytes v)
+    v (versions_known c.args.version) (empty_spelled c.empty_image.ensures v) (few_bytes v) c.first_image.ensures
+    (c.sector.ensures ∙ (λ i. record {
+      version = c.number.ensures i;
+      epoch = 1;
+      written = 0;
+      extent = length (c.empty_image_of.ensures i);
+      area = 0;
+    }))
     c.closed_gate.ensures
     (placed _ _ _ _ _ c.image_at.ensures (c.in_ok-write.ensures.written honest))
     (placed _ _ _ _ _ c.slot_head.ensures (c.in_ok-write-2.ensures.written second))

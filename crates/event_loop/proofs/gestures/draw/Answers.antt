@@ -1,6 +1,6 @@
 use Rattle.std.proofs.Common.{◌≤◌, length, subst, sym}
 use Rattle.piece_ring.specs.Flat.{flat}
-use Rattle.viewer_tracks.specs.Columns.{IsPlaced}
+use Rattle.viewer_tracks.specs.Columns.{IsOnTop}
 use Rattle.desktop_definitions.specs.declared.viewer.Selection.{Selection}
 use Rattle.desktop_definitions.specs.Desktop.{Desktop}
 use Rattle.desktop_definitions.specs.Viewers.{text_in, viewer_or_none}
@@ -17,7 +17,7 @@ point_stretch-requires-clause-over g c =
 pub point_stretch-requires-clause-placed : goal.point_stretch-requires-clause-placed
 point_stretch-requires-clause-placed g c =
     let d = kept c.args.desk.now in
-    subst (λ v. IsPlaced v d.columns) (sym c.in_ok-drawn.ensures.viewer) c.requires.placed
+    subst (λ v. IsOnTop v d.columns) (sym c.in_ok-drawn.ensures.viewer) c.requires.placed
 
 pub point_stretch-requires-clause-place : goal.point_stretch-requires-clause-place
 point_stretch-requires-clause-place g c =

@@ -40,3 +40,6 @@ returns-clause-survives g c =
     line_served g.D.Disk c.args.line.now c.request.result c.args.store.now c.work_out.new.store
     c.request.ensures made.worked_out.session (c.info.ensures.durable made.worked_out.usable)
     made.worked_out.premise.1 made.crash
+
+pub returns-clause-durable : goal.returns-clause-durable
+returns-clause-durable g c = c.info.ensures.durable c.in_ok-answer.ensures.worked_out.usable

@@ -40,7 +40,7 @@ returns-clause-answered g c =
     (sym (c.open_at.ensures
     ∙ ap (λ (columns : Columns). dropped (opened_at (record d { columns = columns }) v (c.args.x, c.args.y + 1)))
     c.close.ensures.closed))
-    (carried_answered H old d c.requires.over v c.args.x c.args.y (record {
+    (carried_answered H old d c.requires.over v c.args.x c.args.y c.requires.placed (record {
       hold = c.edits_keep_columns.ensures.opened closed v c.args.x (c.args.y + 1) closed_hold
           (closed_fresh d.columns closed v hold (left v));
       places = λ w.
@@ -62,7 +62,7 @@ returns-clause-unread g c = λ all long.
     (sym (c.open_at.ensures
     ∙ ap (λ (columns : Columns). dropped (opened_at (record d { columns = columns }) v (c.args.x, c.args.y + 1)))
     c.close.ensures.closed))
-    (carried_answered ⊤ all d over v c.args.x c.args.y (record {
+    (carried_answered ⊤ all d over v c.args.x c.args.y c.requires.placed (record {
       hold = c.edits_keep_columns.ensures.opened closed v c.args.x (c.args.y + 1) closed_hold
           (closed_fresh d.columns closed v hold (left v));
       places = λ w.

@@ -4,12 +4,14 @@ use Rattle.desktop_laws.specs.RowLaws.{main_kept}
 use Rattle.desktop_laws.specs.RowPartLaws.{put_in_changed}
 use Rattle.desktop_laws.specs.KeyLaws.{room_after}
 use Rattle.desk_core.specs.Kept.{kept}
+use Rattle.desktop_laws.specs.PlaceLaws.{on_top_placed}
 use Rattle.desk_core.proofs.desk.Desk.put_in.Goals as goal
 
 pub insert-requires-clause-there : goal.insert-requires-clause-there
 insert-requires-clause-there g c =
     subst (λ (n : ℕ). IsSome (numbered c.args.self.now.texts.entries n)) (sym c.main_of-number.ensures)
-    (main_kept _ (kept c.args.self.now) c.requires.built c.args.id c.requires.at.placed)
+    (main_kept _ (kept c.args.self.now) c.requires.built c.args.id
+    (on_top_placed c.args.self.now.tracks c.args.id c.requires.at.placed))
 
 pub show_caret-requires-clause-place : goal.show_caret-requires-clause-place
 show_caret-requires-clause-place g c =

@@ -20,7 +20,7 @@ returns-clause-answered g c =
     let outcome = settled (seen old d) (Ok (resized (seen old d) c.args.id c.args.y)) in
     subst (λ (columns : Columns). IsAnswered H old old d (record d { columns = columns }) outcome Done)
     (sym c.change.ensures.changed)
-    (resized_answered H old d c.requires.over c.args.id c.args.y (record {
+    (resized_answered H old d c.requires.over c.args.id c.args.y c.requires.placed (record {
       hold = subst IsColumns c.change.ensures.changed c.change.ensures.sound;
       places = λ w.
           let same = c.edits_place_viewers.ensures.changed d.columns c.args.id (c.args.y + 1) w
@@ -36,7 +36,7 @@ returns-clause-unread g c = λ all long.
     let answered = subst (λ (columns : Columns). IsAnswered ⊤ all all d (record d { columns = columns })
     (settled (seen all d) (Ok (resized (seen all d) c.args.id c.args.y))) Done)
     (sym c.change.ensures.changed)
-    (resized_answered ⊤ all d over c.args.id c.args.y (record {
+    (resized_answered ⊤ all d over c.args.id c.args.y c.requires.placed (record {
       hold = subst IsColumns c.change.ensures.changed c.change.ensures.sound;
       places = λ w.
           let same = c.edits_place_viewers.ensures.changed d.columns c.args.id (c.args.y + 1) w

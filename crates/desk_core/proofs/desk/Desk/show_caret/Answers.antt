@@ -1,9 +1,14 @@
 use Rattle.desk_core.specs.Kept.{kept}
+use Rattle.desktop_laws.specs.PlaceLaws.{on_top_placed}
 use Rattle.desk_core.proofs.TextLemmas.{movable, caret_put}
 use Rattle.desk_core.proofs.desk.Desk.show_caret.Goals as goal
 
+pub rows_of-rows-requires : goal.rows_of-rows-requires
+rows_of-rows-requires g c = on_top_placed c.args.self.now.tracks c.args.id c.requires.placed
+
 pub org_in-requires-clause-movable : goal.org_in-requires-clause-movable
-org_in-requires-clause-movable g c = movable _ (kept c.args.self.now) c.args.id c.requires.built c.requires.placed
+org_in-requires-clause-movable g c = movable _ (kept c.args.self.now) c.args.id c.requires.built
+    (on_top_placed c.args.self.now.tracks c.args.id c.requires.placed)
 
 pub returns-clause-changed : goal.returns-clause-changed
 returns-clause-changed g c =

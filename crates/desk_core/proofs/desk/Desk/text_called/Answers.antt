@@ -5,18 +5,21 @@ use Rattle.desktop_definitions.specs.Tables.{numbered}
 use Rattle.desktop_definitions.specs.Viewers.{text_in}
 use Rattle.desktop_definitions.specs.Call.{text_called}
 use Rattle.desk_core.specs.Kept.{kept}
+use Rattle.desktop_laws.specs.PlaceLaws.{on_top_placed}
 use Rattle.desk_core.proofs.ViewLemmas.{menu_there, main_there}
 use Rattle.desk_core.proofs.desk.Desk.text_called.Goals as goal
 
 pub text_there-requires : goal.text_there-requires
 text_there-requires c =
     subst (λ (v : Viewer). IsSome (numbered c.args.self.now.texts.entries v.menu)) (sym c.viewer_or_none-viewer.ensures)
-    (menu_there (kept c.args.self.now) c.requires.whole c.args.id c.requires.placed)
+    (menu_there (kept c.args.self.now) c.requires.whole c.args.id
+    (on_top_placed c.args.self.now.tracks c.args.id c.requires.placed))
 
 pub text_there-requires-else-in_menu : goal.text_there-requires-else-in_menu
 text_there-requires-else-in_menu c =
     subst (λ (v : Viewer). IsSome (numbered c.args.self.now.texts.entries v.main)) (sym c.viewer_or_none-viewer.ensures)
-    (main_there (kept c.args.self.now) c.requires.whole c.args.id c.requires.placed)
+    (main_there (kept c.args.self.now) c.requires.whole c.args.id
+    (on_top_placed c.args.self.now.tracks c.args.id c.requires.placed))
 
 pub returns-then-in_menu : goal.returns-then-in_menu
 returns-then-in_menu c =

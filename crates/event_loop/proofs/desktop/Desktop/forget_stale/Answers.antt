@@ -1,4 +1,4 @@
-use Rattle.std.proofs.Common.{◌≡◌, ℕ, ap, subst, sym, take, ◌∙◌}
+use Rattle.std.proofs.Common.{◌≡◌, ap, subst, sym, take, ◌∙◌}
 use Rattle.desktop_definitions.specs.Seen.{seen}
 use Rattle.desktop_definitions.specs.Step.{step_in}
 use Rattle.desktop_definitions.specs.Viewers.{text_of}

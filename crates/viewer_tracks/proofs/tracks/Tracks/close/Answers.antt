@@ -1,30 +1,24 @@
-use Rattle.std.proofs.Common.{refl, sym, subst}
-use Rattle.viewer_tracks.specs.Columns.{IsColumns, IsPlaced}
-use Rattle.viewer_tracks.proofs.ColumnLemmas.{columns, closed_user, closed_system, in_system, not_in}
+use Rattle.std.proofs.Common.{sym}
+use Rattle.viewer_tracks.specs.declared.display.Track.TheVariants.{User, System}
+use Rattle.viewer_tracks.proofs.ColumnLemmas.{columns, closes}
 use Rattle.viewer_tracks.proofs.tracks.Tracks.close.Goals as goal
 
 pub invariant_of-self : goal.invariant_of-self
 invariant_of-self c =
-    subst (λ t. IsColumns (columns t c.self.inside.system)) (sym c.close.ensures.track)
-    (closed_user _ _ _ c.self.invariant (c.if-contains.ensures.0 refl))
+    closes (columns c.self.inside.user c.self.inside.system) _ User _ _ _ c.self.invariant c.self.view_is
+    (sym c.in-User.is) c.column_of.ensures.shown c.close.ensures
 
-pub returns-then-contains-clause-sound : goal.returns-then-contains-clause-sound
-returns-then-contains-clause-sound c =
-    subst (λ t. IsColumns (columns t c.self.inside.system)) (sym c.close.ensures.track)
-    (closed_user _ _ _ c.self.invariant (c.if-contains.ensures.0 refl))
+pub returns-in-User-clause-sound : goal.returns-in-User-clause-sound
+returns-in-User-clause-sound c =
+    closes (columns c.self.inside.user c.self.inside.system) _ User _ _ _ c.self.invariant c.self.view_is
+    (sym c.in-User.is) c.column_of.ensures.shown c.close.ensures
 
-pub invariant_of-self-else-contains : goal.invariant_of-self-else-contains
-invariant_of-self-else-contains c =
-    let placed = subst (IsPlaced c.args.viewer.0) (sym c.self.view_is) c.requires in
-    let none = not_in c.args.viewer.0 c.self.inside.user c.if-contains.ensures.1 in
-    subst (λ t. IsColumns (columns c.self.inside.user t)) (sym c.close-else-contains.ensures.track)
-    (closed_system _ _ _ c.self.invariant
-    (in_system c.self.inside.user c.self.inside.system c.args.viewer.0 placed none))
+pub invariant_of-self-in-System : goal.invariant_of-self-in-System
+invariant_of-self-in-System c =
+    closes (columns c.self.inside.user c.self.inside.system) _ System _ _ _ c.self.invariant c.self.view_is
+    (sym c.in-System.is) c.column_of.ensures.shown c.close-in-System.ensures
 
-pub returns-else-contains-clause-sound : goal.returns-else-contains-clause-sound
-returns-else-contains-clause-sound c =
-    let placed = subst (IsPlaced c.args.viewer.0) (sym c.self.view_is) c.requires in
-    let none = not_in c.args.viewer.0 c.self.inside.user c.if-contains.ensures.1 in
-    subst (λ t. IsColumns (columns c.self.inside.user t)) (sym c.close-else-contains.ensures.track)
-    (closed_system _ _ _ c.self.invariant
-    (in_system c.self.inside.user c.self.inside.system c.args.viewer.0 placed none))
+pub returns-in-System-clause-sound : goal.returns-in-System-clause-sound
+returns-in-System-clause-sound c =
+    closes (columns c.self.inside.user c.self.inside.system) _ System _ _ _ c.self.invariant c.self.view_is
+    (sym c.in-System.is) c.column_of.ensures.shown c.close-in-System.ensures

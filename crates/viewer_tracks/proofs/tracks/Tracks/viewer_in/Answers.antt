@@ -1,13 +1,11 @@
-use Rattle.viewer_tracks.specs.declared.display.Track.TheVariants.{User, System}
-use Rattle.viewer_tracks.proofs.PlacedLemmas.{nth_placed}
+use Rattle.std.proofs.Common.{List, ap, ◌∙◌}
+use Rattle.viewer_tracks.specs.Viewers.{Entry, entry_viewer}
+use Rattle.viewer_tracks.specs.Columns.{topmost}
+use Rattle.viewer_tracks.proofs.PlacedLemmas.{nth_shown}
 use Rattle.viewer_tracks.proofs.tracks.Tracks.viewer_in.Goals as goal
 
-pub returns-in-User-clause-placed : goal.returns-in-User-clause-placed
-returns-in-User-clause-placed c =
-    nth_placed c.self.inside.user c.self.inside.system User _ c.nth.result c.args.index c.self.view_is
-    c.nth.ensures
-
-pub returns-in-System-clause-placed : goal.returns-in-System-clause-placed
-returns-in-System-clause-placed c =
-    nth_placed c.self.inside.user c.self.inside.system System _ c.nth-in-System.result c.args.index c.self.view_is
-    c.nth-in-System.ensures
+pub returns-clause-shown : goal.returns-clause-shown
+returns-clause-shown c =
+    nth_shown c.args.self.now c.args.track c.nth.result c.args.index
+    (c.nth.ensures
+    ∙ ap (λ (t : List Entry). entry_viewer t c.args.index) (c.shown.ensures ∙ ap topmost c.stack.ensures))

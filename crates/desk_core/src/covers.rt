@@ -1,0 +1,56 @@
+//! Tracks are covered by new ones.
+ghost use Rattle.std.specs.Prelude.{◌≡◌, ◌<◌, length, nat_lt};
+ghost use Rattle.viewer_tracks.specs.declared.display.TheConstants.{DEPTH};
+ghost use Rattle.viewer_tracks.specs.Columns.{IsPlaced, shown, stack_of};
+ghost use Rattle.viewer_tracks.specs.Viewers.{times_in};
+ghost use Rattle.desktop_definitions.specs.Viewers.{caret_outside, selections_outside, is_shown_in, unmarked};
+ghost use Rattle.desktop_definitions.specs.Viewers.{covered_by};
+ghost use Rattle.desk_core.specs.Kept.{kept};
+
+use crate::desk::Desk;
+use desktop_definitions::{Caret, Selection};
+use std::vec::Vec;
+use viewer_tracks::{Track, Tracks, ViewerId};
+
+/// The caret, unless it stands in the track that a column shows.
+fn caret_outside(tracks: &Tracks, track: Track, caret: Option<Caret>) -> Option<Caret>
+    ensures { result ≡ caret_outside (λ v. nat_lt 0 (times_in v (shown tracks.now track))) caret }
+{
+    match caret {
+        Some(there) => if tracks.is_shown_in(track, ViewerId(there.viewer)) {
+            None
+        } else {
+            caret
+        },
+        None => None,
+    }
+}
+
+/// The selections go that stand in the track that a column shows.
+fn unselect(tracks: &Tracks, track: Track, selections: &mut Vec<Selection>)
+    ensures { selections.new.items
+        ≡ selections_outside (λ v. nat_lt 0 (times_in v (shown tracks.now track))) selections.old.items }
+{
+    selections.retain(|selection| !tracks.is_shown_in(track, ViewerId(selection.viewer)));
+}
+
+impl Desk {
+    /// Nothing is marked any more in the track that a column shows.
+    fn unmark_shown(&mut self, track: Track)
+        ensures { kept self.new ≡ unmarked (is_shown_in (kept self.old) track) (kept self.old) }
+    {
+        self.caret = caret_outside(&self.tracks, track, self.caret);
+        unselect(&self.tracks, track, &mut self.selections);
+    }
+
+    /// A viewer that stands nowhere has a new track whole, over the one that the column shows, in which nothing is
+    /// marked any more.
+    pub fn cover(&mut self, id: u16, track: Track)
+        requires fresh { ¬ IsPlaced id (kept self.old).columns }
+        requires room { length (stack_of (kept self.old).columns track) < DEPTH }
+        ensures { kept self.new ≡ covered_by (kept self.old) id track }
+    {
+        self.unmark_shown(track);
+        self.tracks.open_track(ViewerId(id), track.left());
+    }
+}
