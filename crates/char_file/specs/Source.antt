@@ -1,9 +1,17 @@
 -- What calls leave of a source of characters.
-use Rattle.std.specs.Prelude.{◌≡◌, ◌↔◌, ℕ, ◌≤◌, List, length}
+use Rattle.std.specs.Prelude.{◌≡◌, ◌↔◌, ℕ, ◌+◌, ◌<◌, ◌≤◌, ◌==◌, List, length, count_by, slice_range}
 
 -- the most characters that a source holds
 abbrev pub most_characters : ℕ
 most_characters = 4194304
+
+-- Of the characters from an offset on so many were looked at, one at least, of which so many are the wanted byte.
+pub record IsCountedFrom (honest : Type 0) (characters : List ℕ) (offset limit wanted : ℕ) (counts : ℕ × ℕ) : Type 0 where
+  pub some : 0 < counts.0
+  pub most : counts.0 ≤ limit
+  pub exact : honest → counts.1
+      ≡ count_by (λ b. b == wanted) (slice_range characters offset (offset + counts.0))
+  pub few : counts.1 ≤ counts.0
 
 -- A call that only reads leaves the source as it was.
 pub record OnlyReads {S : Type 0} (characters : S → List ℕ) (failures : S → ℕ) (honest : S → Type 0) (same_ground : S

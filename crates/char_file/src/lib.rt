@@ -4,9 +4,11 @@
 //! until all are exchanged, so texts share characters, and an edit copies none (the book's chapter on texts).
 #![tactic(auto)]
 
+mod counting;
 mod file;
 mod source;
 
+pub use counting::count_range;
 pub use file::CharFile;
 pub use sector_disk::Fault;
 pub use source::{CharSource, MOST_CHARACTERS};

@@ -1,11 +1,12 @@
 -- Characters of which the first stand on a disk: where each is found, writes to other sectors, and more of them on the
 -- disk than before.
 use Rattle.std.proofs.Common.{◌≡◌, ℕ, ◌+◌, ◌-◌, ◌/◌, ◌%◌, ◌<◌, ◌≤◌, List, ◌++◌, length, get_or, take, drop}
-use Rattle.std.proofs.Common.{sym, ◌∙◌, ap, arith, length-append}
-use Rattle.std.proofs.lemmas.List.{get_or-append_right, get_or_append_left, take-append-drop}
+use Rattle.std.proofs.Common.{Result, Ok, Err, sym, ◌∙◌, ap, arith, length-append, slice_range}
+use Rattle.std.proofs.lemmas.List.{get_or-append_right, get_or_append_left, take-append-drop, get_or-take, get_or-drop}
+use Rattle.std.proofs.lemmas.List.{ext_get_or, length-drop, length-take-le}
 use Rattle.std.proofs.Math.Seq.{drop-append-add}
 use Rattle.sector_disk.specs.declared.disk.TheConstants.{SECTOR_BYTES}
-use Rattle.sector_disk.specs.Trail.{Content}
+use Rattle.sector_disk.specs.Trail.{Content, CountsFault}
 use Rattle.sector_disk.specs.Stored.{stored, stored_at, stored_same, length-stored}
 
 module _ (c : Content) (base saved : ℕ) (rest : List ℕ) where
@@ -22,6 +23,51 @@ module _ (c : Content) (base saved : ℕ) (rest : List ℕ) where
   -- one in memory
   pub paged_behind : (i : ℕ) → saved ≤ i → get_or (stored c base saved ++ rest) i 0 ≡ get_or rest (i - saved) 0
   paged_behind i past = get_or-append_right (stored c base saved) rest saved i 0 (length-stored c base saved) past
+
+-- element j of those from a on
+in_range : (l : List ℕ) (a n j : ℕ) → j < n → get_or (slice_range l a (a + n)) j 0 ≡ get_or l (a + j) 0
+in_range l a n j low = get_or-take (a + n - a) (drop a l) j 0 (omega (arith, low)) ∙ get_or-drop a l j 0
+
+pub long_range : (l : List ℕ) (a n : ℕ) → a + n ≤ length l → length (slice_range l a (a + n)) ≡ n
+long_range l a n within = length-take-le (a + n - a) (drop a l) (let long = length-drop a l in omega (arith, long, within))
+    ∙ omega arith
+
+-- those from i on that stand in one sector, and some in memory
+module _ (c : Content) (base saved : ℕ) (rest : List ℕ) (i n : ℕ) where
+  pub range_in_area : saved % SECTOR_BYTES ≡ 0 → i < saved → i % SECTOR_BYTES + n ≤ SECTOR_BYTES
+      → length (c (base + i / SECTOR_BYTES)) ≡ SECTOR_BYTES
+      → slice_range (stored c base saved ++ rest) i (i + n)
+      ≡ slice_range (c (base + i / SECTOR_BYTES)) (i % SECTOR_BYTES) (i % SECTOR_BYTES + n)
+  range_in_area whole low within wide = ext_get_or 0 _ _ (long_here ∙ sym long_there) (λ j less.
+      in_range (stored c base saved ++ rest) i n j (omega (arith, less, long_here))
+      ∙ paged_in_area c base saved rest (i + j) (omega (arith, less, long_here, within, whole, low))
+      ∙ (λ k. get_or (c (base + same_sector j (omega (arith, less, long_here)) k))
+      (further j (omega (arith, less, long_here)) k) 0)
+      ∙ sym (in_range (c (base + i / SECTOR_BYTES)) (i % SECTOR_BYTES) n j (omega (arith, less, long_here))))
+    where
+      long_here : length (slice_range (stored c base saved ++ rest) i (i + n)) ≡ n
+      long_here = long_range (stored c base saved ++ rest) i n
+          (omega (arith, length-paged c base saved rest, low, within, whole))
+
+      long_there : length (slice_range (c (base + i / SECTOR_BYTES)) (i % SECTOR_BYTES) (i % SECTOR_BYTES + n)) ≡ n
+      long_there = long_range (c (base + i / SECTOR_BYTES)) (i % SECTOR_BYTES) n (omega (arith, wide, within))
+
+      same_sector : (j : ℕ) → j < n → (i + j) / SECTOR_BYTES ≡ i / SECTOR_BYTES
+      same_sector j less = omega (arith, less, within)
+
+      further : (j : ℕ) → j < n → (i + j) % SECTOR_BYTES ≡ i % SECTOR_BYTES + j
+      further j less = omega (arith, less, within)
+
+  pub range_behind : saved ≤ i → slice_range (stored c base saved ++ rest) i (i + n)
+      ≡ slice_range rest (i - saved) (i - saved + n)
+  range_behind past = ap (λ k. take k (drop i (stored c base saved ++ rest))) lengths ∙ ap (take (i - saved + n - (i - saved)))
+      (ap (λ k. drop k (stored c base saved ++ rest)) (sym at) ∙ drop-append-add (stored c base saved) rest (i - saved))
+    where
+      lengths : i + n - i ≡ i - saved + n - (i - saved)
+      lengths = omega arith
+
+      at : length (stored c base saved) + (i - saved) ≡ i
+      at = omega (arith, past, length-stored c base saved)
 
 -- the same characters where their sectors read the same
 pub paged_on : (c c' : Content) (base saved : ℕ) (rest : List ℕ) → saved % SECTOR_BYTES ≡ 0
@@ -56,6 +102,11 @@ pub paged_as_long : (c c' : Content) (base base' saved saved' : ℕ) (rest rest'
     → length (stored c' base' saved' ++ rest') ≡ length (stored c base saved ++ rest)
 paged_as_long c c' base base' saved saved' rest rest' same_saved same_rest = length-paged c' base' saved' rest'
     ∙ (λ i. same_saved i + length (same_rest i)) ∙ sym (length-paged c base saved rest)
+
+-- a call that counts its fault has failed no fewer times
+pub no_fewer_by : {T E : Type 0} {old new : ℕ} (result : Result T E) → CountsFault result old new → old ≤ new
+no_fewer_by (Ok t) same = omega (arith, same)
+no_fewer_by (Err e) rose = omega (arith, rose)
 
 -- where none stands on the disk, they are those in memory
 pub paged_in_memory : (c : Content) (base saved : ℕ) (rest made : List ℕ) → saved ≡ 0 → rest ≡ made

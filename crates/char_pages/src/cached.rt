@@ -1,5 +1,6 @@
 //! Bytes of sectors, which a cache keeps for a while.
-ghost use Rattle.std.specs.Prelude.{◌≡◌, ◌<◌, get_or, IfOk, IfSome};
+ghost use Rattle.std.specs.Prelude.{◌≡◌, ◌<◌, get_or, length, IfOk, IfSome};
+ghost use Rattle.sector_disk.specs.declared.disk.TheConstants.{SECTOR_BYTES};
 ghost use Rattle.sector_disk.specs.Trail.{Content, CountsFault, Nowhere, now};
 ghost use Rattle.sector_disk.specs.Confined.{IsConfined};
 ghost use Rattle.char_pages.specs.Cached.{AreTrue, AddsSector};
@@ -23,9 +24,40 @@ fn newest(cache: &Cache, n: u32, at: usize) -> Option<u8>
     None
 }
 
-/// Byte `at` of sector n, which mostly isn't the one that was asked for last. A sector that the cache doesn't hold is
-/// read from the disk and put into it. Where there is no memory to put it there, the byte is returned all the same.
-/// It is compiled apart, so that a byte of the newest sector takes no room for a sector on the stack.
+/// The bytes of a sector, copied.
+fn copied(sector: &Sector) -> Sector
+    ensures same { result ≡ sector.now }
+    ensures whole { length result ≡ SECTOR_BYTES }
+{
+    *sector
+}
+
+/// The bytes of sector n. A sector that the cache doesn't hold is read from the disk and put into it. Where there is no
+/// memory to put it there, it is returned all the same.
+pub(crate) fn sector_of<D: Disk>(disk: &mut D, cache: &mut Cache, n: u32) -> Result<Sector, Fault>
+    requires { n < D.size disk.old }
+    ensures value { IfOk result (λ sector. D.honest disk.old → AreTrue (now (D.trail disk.old)).reads cache.old.entries
+        → sector ≡ (now (D.trail disk.old)).reads n) }
+    ensures whole { IfOk result (λ sector. length sector ≡ SECTOR_BYTES) }
+    ensures cached { AddsSector (D.honest disk.old) (now (D.trail disk.old)).reads n cache.old.entries
+        cache.new.entries }
+    ensures capacity { cache.new.cap ≡ cache.old.cap }
+    ensures kept { IsConfined D.size D.honest D.trail Nowhere disk.old disk.new }
+    ensures cause { CountsFault result (D.failures disk.old) (D.failures disk.new) }
+{
+    if let Some(sector) = cache.peek(&n) {
+        let sector = copied(sector);
+        cache.promote(&n);
+        return Ok(sector);
+    }
+    let mut sector = [0; SECTOR_BYTES as usize];
+    disk.read(n, &mut sector)?;
+    let _ = cache.put(n, sector);
+    Ok(sector)
+}
+
+/// Byte `at` of sector n, which mostly isn't the one that was asked for last. It is compiled apart, so that a byte of the
+/// newest sector takes no room for a sector on the stack.
 #[inline(never)]
 fn looked_up<D: Disk>(disk: &mut D, cache: &mut Cache, n: u32, at: usize) -> Result<u8, Fault>
     requires there { n < D.size disk.old }
@@ -38,14 +70,7 @@ fn looked_up<D: Disk>(disk: &mut D, cache: &mut Cache, n: u32, at: usize) -> Res
     ensures kept { IsConfined D.size D.honest D.trail Nowhere disk.old disk.new }
     ensures cause { CountsFault result (D.failures disk.old) (D.failures disk.new) }
 {
-    if let Some(sector) = cache.peek(&n) {
-        let byte = sector[at];
-        cache.promote(&n);
-        return Ok(byte);
-    }
-    let mut sector = [0; SECTOR_BYTES as usize];
-    disk.read(n, &mut sector)?;
-    let _ = cache.put(n, sector);
+    let sector = sector_of(disk, cache, n)?;
     Ok(sector[at])
 }
 

@@ -68,6 +68,10 @@ impl<'a, D: Disk> CharSource for Paged<'a, D> {
         self.pages.char_over(self.disk, offset)
     }
 
+    fn count_from(&mut self, offset: u32, most: u32, wanted: u8) -> Result<(u32, u32), Fault> {
+        self.pages.count_over(self.disk, offset, most, wanted)
+    }
+
     fn len(&self) -> u32 {
         self.pages.len()
     }

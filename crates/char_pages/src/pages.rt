@@ -6,8 +6,8 @@ ghost use Rattle.char_file.specs.declared.source.TheConstants.{MOST_CHARACTERS};
 ghost use Rattle.char_pages.specs.declared.pages.TheConstants.{CACHED_SECTORS};
 ghost use Rattle.char_pages.specs.Cached.{AreBelow};
 
-use crate::cached::{Cache, byte_of};
-use char_file::{MOST_CHARACTERS, NoMemory};
+use crate::cached::{Cache, byte_of, sector_of};
+use char_file::{MOST_CHARACTERS, NoMemory, count_range};
 use lru::LruCache;
 use sector_disk::{Disk, Fault, SECTOR_BYTES};
 use std::alloc::Global;
@@ -69,6 +69,7 @@ impl Pages {
     ghost use Rattle.char_pages.specs.Pages.{base_of, saved_of, saved_sectors, rest_of, many_of, cached_of, held_in};
     ghost use Rattle.char_pages.specs.Pages.{renewed_of};
     ghost use Rattle.char_pages.specs.Pages.{paged_characters};
+    ghost use Rattle.char_file.specs.Source.{IsCountedFrom};
 
     /// The first `saved` characters stand on a disk from sector `base` on, and `tail` are the others. No sector is in
     /// memory yet. `NoMemory`: an allocation was refused.
@@ -179,6 +180,43 @@ impl Pages {
             let at = (offset - self.saved) as usize;
             Ok(self.rest[at])
         }
+    }
+
+    /// Of the characters from an offset on, `most` at most, with the disk on which the first ones stand: how many were
+    /// looked at, which stand in one sector or in memory, and how many of these are the wanted byte. `Fault`: the disk
+    /// failed.
+    pub(crate) fn count_over<D: Disk>(
+        &mut self,
+        disk: &mut D,
+        offset: u32,
+        most: u32,
+        wanted: u8,
+    ) -> Result<(u32, u32), Fault>
+        requires on_disk { base_of self.old + saved_sectors self.old ≤ D.size disk.old }
+        requires some { 0 < most }
+        requires within { offset + most ≤ many_of self.old }
+        ensures looked { IfOk result (IsCountedFrom
+            (D.honest disk.old × AreTrue (now (D.trail disk.old)).reads (cached_of self.old))
+            (paged_characters (now (D.trail disk.old)).reads self.old) offset most wanted) }
+        ensures cached { D.honest disk.old → AreTrue (now (D.trail disk.old)).reads (cached_of self.old)
+            → AreTrue (now (D.trail disk.new)).reads (cached_of self.new) }
+        ensures base { base_of self.new ≡ base_of self.old }
+        ensures counted { saved_of self.new ≡ saved_of self.old }
+        ensures rest { rest_of self.new ≡ rest_of self.old }
+        ensures renewed { renewed_of self.new ≡ renewed_of self.old }
+        ensures kept { IsConfined D.size D.honest D.trail Nowhere disk.old disk.new }
+        ensures cause { CountsFault result (D.failures disk.old) (D.failures disk.new) }
+    {
+        if offset >= self.saved {
+            let at = (offset - self.saved) as usize;
+            return Ok((most, count_range(&self.rest, at, most, wanted)));
+        }
+        let _ = disk.sectors(); // it is below 2 ^ 32, and so is each sector's number
+        let at = offset % SECTOR_BYTES;
+        let few = most.min(SECTOR_BYTES - at);
+        let sector = sector_of(disk, &mut self.cache, self.base + offset / SECTOR_BYTES)?;
+        let found = count_range(&sector, at as usize, few, wanted);
+        Ok((few, found))
     }
 
     /// Adds characters at the end, in memory, and returns the offset of the first of them. `NoMemory`: none was added.

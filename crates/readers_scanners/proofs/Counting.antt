@@ -1,17 +1,17 @@
 -- Bytes that are counted among characters that stand together in the source.
-use Rattle.std.specs.Prelude.{ℕ, zero, suc, ◌≡◌, ◌+◌, ◌-◌, ◌<◌, ◌≤◌, Bool, true, false, cond, ◌==◌, List, ◌∷◌}
+use Rattle.std.specs.Prelude.{ℕ, zero, suc, ◌≡◌, ◌+◌, ◌-◌, ◌<◌, ◌≤◌, ◌==◌, List, ◌∷◌}
 use Rattle.std.specs.Prelude.{◌++◌, length, take, drop, map, count_by, slice_index, slice_range}
 use Rattle.std.proofs.Common.{refl, sym, ap, ◌∙◌, arith, subst}
 use Rattle.std.proofs.lemmas.List.{take-map, drop-map, map-append, take-append-le}
 use Rattle.std.proofs.lemmas.List.Elements.{All-drop}
-use Rattle.std.proofs.lemmas.List.Sums.{sum_by-append}
+use Rattle.std.proofs.Math.Seq.{drop-cons}
+use Rattle.char_file.specs.Source.{IsCountedFrom}
 use Rattle.piece_ring.specs.declared.piece.Look.{Look}
 use Rattle.piece_ring.specs.declared.piece.Piece.{Piece}
 use Rattle.piece_ring.specs.Flat.{run, characters_of}
 use Rattle.piece_ring.specs.Lengths.{length-run}
 use Rattle.piece_ring.specs.Text.{Text}
 use Rattle.piece_ring.specs.Offsets.{AreWithin}
-use Rattle.piece_ring.proofs.Runs.{run-append}
 use Rattle.readers_scanners.specs.Reading.{bytes, contents, IsCounted, IsReading}
 use Rattle.readers_scanners.proofs.Upcoming.{enough, point}
 
@@ -20,32 +20,17 @@ pub bytes-append : (characters : List ℕ) (a b : Text ℕ)
 bytes-append characters a b = ap (map (λ c. c.0)) (map-append _ a b) ∙ map-append (λ c. c.0) (contents characters a)
     (contents characters b)
 
--- a character more
-pub counted_on : (test : ℕ → Bool) (characters : List ℕ) (off n : ℕ) (look : Look) (byte count : ℕ)
-    → byte ≡ slice_index characters (off + n)
-    → count ≡ count_by test (bytes characters (run off n look))
-    → cond (test byte) (count + 1) count ≡ count_by test (bytes characters (run off (n + 1) look))
-counted_on test characters off n look byte count value so_far =
-    sym (ap (λ r. count_by test (bytes characters r)) (run-append off n 1 look)
-    ∙ ap (count_by test) (bytes-append characters (run off n look) (run (off + n) 1 look))
-    ∙ sum_by-append (λ x. cond (test x) 1 0) (bytes characters (run off n look))
-    (bytes characters (run (off + n) 1 look))
-    ∙ (λ k. sym so_far k + (0 + cond (test (sym value k)) 1 0)) ∙ by (test byte))
-  where
-    by : (b : Bool) → count + (0 + cond b 1 0) ≡ cond b (count + 1) count
-    by true = (let e : count + (0 + 1) ≡ count + 1 = omega arith in e)
-    by false = (let e : count + (0 + 0) ≡ count = omega arith in e)
-
-pub counted_at : (test : ℕ → Bool) (characters : List ℕ) (off at : ℕ) (look : Look) (byte count new : ℕ) → off ≤ at
-    → byte ≡ slice_index characters at
-    → count ≡ count_by test (bytes characters (run off (at - off) look))
-    → new ≡ cond (test byte) (count + 1) count
-    → new ≡ count_by test (bytes characters (run off (at + 1 - off) look))
-counted_at test characters off at look byte count new from value so_far is =
-    is ∙ counted_on test characters off (at - off) look byte count
-    (value ∙ ap (slice_index characters) (let e : at ≡ off + (at - off) = omega (arith, from) in e)) so_far
-    ∙ ap (λ k. count_by test (bytes characters (run off k look)))
-    (let e : at - off + 1 ≡ at + 1 - off = omega (arith, from) in e)
+-- those that stand together read as they stand in the source
+run_bytes : (characters : List ℕ) (off n : ℕ) (look : Look) → off + n ≤ length characters
+    → bytes characters (run off n look) ≡ slice_range characters off (off + n)
+run_bytes characters off zero look within =
+    ap (λ k. take k (drop off characters)) (let none : 0 ≡ off + 0 - off = omega arith in none)
+run_bytes characters off (suc n) look within =
+    ap (λ l. slice_index characters off ∷ l) (run_bytes characters (suc off) n look (omega (arith, within)))
+    ∙ ap (λ k. slice_index characters off ∷ take k (drop (suc off) characters))
+    (let fewer : suc off + n - suc off ≡ n = omega arith in fewer)
+    ∙ ap (take (suc n)) (sym (drop-cons characters off 0 (omega (arith, within))))
+    ∙ ap (λ k. take k (drop off characters)) (let all : suc n ≡ off + suc n - off = omega arith in all)
 
 -- the first n of those that stand together
 pub run_front : (off n k : ℕ) (look : Look) → n ≤ k → take n (run off k look) ≡ run off n look
@@ -89,15 +74,18 @@ module _ (text : Text ℕ) (position left : ℕ) (here : Piece) (behind : Text �
   few_end n m all few some = let end = end_within n all (omega (arith, few, some)) in omega (arith, end, few)
 
   -- what a call found that passed n of them
-  pub counted_here : (honest : Type 0) (characters : List ℕ) (wanted most n count : ℕ) → 0 < n → n ≤ most
-      → n ≤ here.len
-      → (honest → count ≡ count_by (λ b. b == wanted) (bytes characters (run here.off n here.look))) → count ≤ n
-      → IsCounted honest characters (point text position) wanted most (n, count)
-  counted_here honest characters wanted most n count some few within exact less = record {
-    some = some;
-    most = few;
+  pub counted_here : (honest : Type 0) (characters : List ℕ) (wanted most limit : ℕ) (counts : ℕ × ℕ)
+      → AreWithin (length characters) text → limit ≤ most → limit ≤ here.len
+      → IsCountedFrom honest characters here.off limit wanted counts
+      → IsCounted honest characters (point text position) wanted most counts
+  counted_here honest characters wanted most limit counts all few within found = record {
+    some = found.some;
+    most = omega (arith, found.most, few);
     within = (let high = enough text position left here behind is in let counted = is.counted in
-        omega (arith, high, counted, within));
-    exact = λ h. exact h ∙ sym (ap (count_by (λ b. b == wanted)) (front_read characters n within));
-    few = less;
+        omega (arith, high, counted, within, found.most));
+    exact = λ h. found.exact h ∙ ap (count_by (λ b. b == wanted))
+        (sym (front_read characters counts.0 (omega (arith, found.most, within))
+        ∙ run_bytes characters here.off counts.0 here.look
+        (few_end (length characters) counts.0 all (omega (arith, found.most, within)) found.some)));
+    few = found.few;
   }

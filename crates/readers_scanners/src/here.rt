@@ -1,10 +1,8 @@
 //! Characters that stand together in the source.
-ghost use Rattle.std.specs.Prelude.{◌≡◌, ◌+◌, ◌-◌, ◌^◌, ◌<◌, ◌≤◌, [], ◌++◌, length, drop, count_by, ◌==◌, IfOk};
-ghost use Rattle.std.specs.Prelude.{if◌then◌else◌};
-ghost use Rattle.readers_scanners.specs.Words.{CountsFault, OnlyReads, flat, bytes};
+ghost use Rattle.std.specs.Prelude.{◌≡◌, ◌+◌, ◌^◌, ◌<◌, ◌≤◌, [], ◌++◌, drop};
+ghost use Rattle.readers_scanners.specs.Words.{flat};
 ghost use Rattle.piece_ring.specs.Flat.{characters_of};
 
-use crate::{CharSource, Fault};
 use piece_ring::{Cursor, DEFAULT_LOOK, Piece};
 
 /// The rest of the piece in which a cursor stands, which it then passes. No character at the end.
@@ -41,37 +39,4 @@ pub(crate) fn passed(here: Piece, n: u32, cursor: &mut Cursor<'_>) -> Piece
         };
     }
     next_stretch(cursor)
-}
-
-/// How many of the characters of a piece are that byte. `Fault`: the source failed in this call.
-pub(crate) fn count_in<S: CharSource>(
-    wanted: u8,
-    piece: Piece,
-    source: &mut S,
-) -> Result<u32, Fault>
-    requires within { piece.off + piece.len ≤ length (S.characters source.old) }
-    requires fits { piece.off + piece.len < 2 ^ 32 }
-    ensures count { IfOk result (λ n. S.honest source.old
-        → n ≡ count_by (λ b. b == wanted) (bytes (S.characters source.old) (characters_of piece))) }
-    ensures few { IfOk result (λ n. n ≤ piece.len) }
-    ensures reads { OnlyReads S.characters S.failures S.honest S.same_ground source.old source.new }
-    ensures cause { CountsFault result (S.failures source.old) (S.failures source.new) }
-{
-    let first = piece.off;
-    let end = first + piece.len;
-    let mut found = 0;
-    for at in first..end {
-        let byte = source.char_at(at)?;
-        found = counted(found, byte, wanted);
-    }
-    Ok(found)
-}
-
-/// So many, and one more where the byte is the wanted one.
-fn counted(found: u32, byte: u8, wanted: u8) -> u32
-    requires { found < 2 ^ 32 - 1 }
-    ensures is { result ≡ (if byte == wanted then found + 1 else found) }
-    ensures few { result ≤ found + 1 }
-{
-    if byte == wanted { found + 1 } else { found }
 }

@@ -1,6 +1,7 @@
 -- What each change of the sectors' maps leaves of what they hold.
 use Rattle.std.proofs.Common.{◌≡◌, ◌≢◌, inl, inr, ℕ, List, if◌then◌else◌, true, false, refl, sym, ◌∙◌, ap}
 use Rattle.std.proofs.Common.{arith, ◌==◌}
+use Rattle.std.specs.declared.alloc.Global.{Global}
 use Rattle.std.specs.declared.option.Option.{Option}
 use Rattle.std.specs.declared.option.Option.TheVariants.{None, Some}
 use Rattle.std.specs.Option.{is_some, unwrap_or}
@@ -63,123 +64,14 @@ all_before old new reads rest = record {
 
 -- no memory for the bytes, or for what was settled
 pub no_room : (old : Sectors) (latest : Map) → IsUnchanged old.latest latest
-    → IsAsBefore old (record { latest = latest; settled = old.settled })
-no_room old latest same = all_before old (record { latest = latest; settled = old.settled })
+    → IsAsBefore old (record { alloc = old.alloc; latest = latest; settled = old.settled })
+no_room old latest same = all_before old (record { alloc = old.alloc; latest = latest; settled = old.settled })
     (λ k. ap (λ o. unwrap_or o zeros) (same_in old.latest latest same k)) (λ k. refl)
 
-module _ (old : Sectors) (latest : Map) (n : ℕ) (bytes : List ℕ) (are : bytes ≡ (seen old).reads n)
-    (put : Updates nat_cmp old.latest latest n (Some bytes)) where
-  reads_on : (k : ℕ) → bytes_in latest k ≡ bytes_in old.latest k
-  unfolding seen
-  reads_on = same_bytes old.latest latest n bytes are put
-
-  pub no_room_settled : (kept : Map) → IsUnchanged old.settled kept
-      → IsAsBefore old (record { latest = latest; settled = kept })
-  no_room_settled kept same = all_before old (record { latest = latest; settled = kept }) reads_on
-      (same_in old.settled kept same)
-
-  pub open_already : (seen old).pending n ≡ true → IsOpened old (record { latest = latest; settled = old.settled }) n
-  unfolding seen held
-  open_already pends = record {
-    reads = reads_on;
-    pending = λ k. elim (cases_eq k n) [
-      | inl same ↦ ap (λ k. (seen old).pending k) same ∙ pends
-          ∙ sym (ap (λ b. if b then true else (seen old).pending k) (tests_same k n same))
-      | inr other ↦ sym (ap (λ b. if b then true else (seen old).pending k) (tests_other k n other))
-    ];
-    settled = λ i k. unwrap_or (get nat_cmp old.settled k) (reads_on k i);
-    room = ap is_some put.1;
-  }
-
-  pub opened : (kept : Map) → (seen old).pending n ≡ false → Updates nat_cmp old.settled kept n (Some bytes)
-      → IsOpened old (record { latest = latest; settled = kept }) n
-  unfolding seen held
-  opened kept quiet settles = record {
-    reads = reads_on;
-    pending = λ k. ap is_some (put_in old.settled kept n bytes settles k) ∙ moved (k == n) k;
-    settled = λ i k. held_on k i;
-    room = ap is_some put.1;
-  }
-    where
-      moved : (b : _) (k : ℕ) → is_some (if b then Some bytes else get nat_cmp old.settled k)
-          ≡ (if b then true else is_some (get nat_cmp old.settled k))
-      moved true k = refl
-      moved false k = refl
-
-      missing : (o : Option (List ℕ)) (d : List ℕ) → is_some o ≡ false → d ≡ unwrap_or o d
-      missing None d none = refl
-      missing (Some x) d some = absurd (cc)
-
-      held_on : (k : ℕ) → unwrap_or (get nat_cmp kept k) (bytes_in latest k)
-          ≡ unwrap_or (get nat_cmp old.settled k) (bytes_in old.latest k)
-      held_on k = elim (cases_eq k n) [
-        | inl same ↦ ap (λ o. unwrap_or o (bytes_in latest k)) (ap (get nat_cmp kept) same ∙ settles.1)
-            ∙ are ∙ missing (get nat_cmp old.settled n) (bytes_in old.latest n) quiet
-            ∙ ap (λ k. unwrap_or (get nat_cmp old.settled k) (bytes_in old.latest k)) (sym same)
-        | inr other ↦ ap (λ o. unwrap_or o (bytes_in latest k)) (settles.2 k (elsewhere k n other))
-            ∙ ap (unwrap_or (get nat_cmp old.settled k)) (reads_on k)
-      ]
-
--- the write of a sector that is open
-module _ (old mid : Sectors) (latest : Map) (n : ℕ) (bytes : List ℕ) (is : IsOpened old mid n)
-    (put : Updates nat_cmp mid.latest latest n (Some bytes)) where
-  pub wrote : seen (record { latest = latest; settled = mid.settled }) ≡ written (seen old) n bytes
-  unfolding seen
-  wrote = λ i. record { reads = λ k. reads k i; pending = λ k. is.pending k i }
-    where
-      moved : (b : _) (k : ℕ) → unwrap_or (if b then Some bytes else get nat_cmp mid.latest k) zeros
-          ≡ (if b then bytes else bytes_in mid.latest k)
-      moved true k = refl
-      moved false k = refl
-
-      reads : (k : ℕ) → bytes_in latest k ≡ (if k == n then bytes else bytes_in old.latest k)
-      reads k = ap (λ o. unwrap_or o zeros) (put_in mid.latest latest n bytes put k) ∙ moved (k == n) k
-          ∙ ap (λ l. if k == n then bytes else l) (is.reads k)
-
-  pub still_held : held (record { latest = latest; settled = mid.settled }) ≡ held old
-  unfolding seen held
-  still_held = (λ i k. same k i) ∙ is.settled
-    where
-      there : (o : Option (List ℕ)) (d e : List ℕ) → is_some o ≡ true → unwrap_or o d ≡ unwrap_or o e
-      there None d e none = absurd (cc)
-      there (Some x) d e some = refl
-
-      same : (k : ℕ) → unwrap_or (get nat_cmp mid.settled k) (bytes_in latest k)
-          ≡ unwrap_or (get nat_cmp mid.settled k) (bytes_in mid.latest k)
-      same k = elim (cases_eq k n) [
-        | inl here ↦ there (get nat_cmp mid.settled k) _ _
-            (is.pending k ∙ ap (λ b. if b then true else (seen old).pending k) (tests_same k n here))
-        | inr other ↦ ap (unwrap_or (get nat_cmp mid.settled k))
-            (ap (λ o. unwrap_or o zeros) (put.2 k (elsewhere k n other)))
-      ]
-
--- after a sync, where nothing is kept beside what is read
-pub all_settled : (old : Sectors) (kept : Map) → IsEmpty kept
-    → seen (record { latest = old.latest; settled = kept }) ≡ settled (seen old)
-unfolding seen
-all_settled old kept empty = λ i. record {
-  reads = bytes_in old.latest;
-  pending = λ k. is_some (none_in kept empty k i);
-}
-
-pub settled_reads : (old : Sectors) (kept : Map) → IsEmpty kept
-    → held (record { latest = old.latest; settled = kept }) ≡ (seen old).reads
-unfolding seen held
-settled_reads old kept empty = λ i k. unwrap_or (none_in kept empty k i) (bytes_in old.latest k)
-
--- before the first call
-pub none_seen : (latest kept : Map) → IsEmpty latest → IsEmpty kept
-    → seen (record { latest = latest; settled = kept }) ≡ blank
-unfolding seen
-none_seen latest kept empty none = λ i. record {
-  reads = λ k. unwrap_or (none_in latest empty k i) zeros;
-  pending = λ k. is_some (none_in kept none k i);
-}
-
-pub none_held : (latest kept : Map) → IsEmpty latest → IsEmpty kept
-    → held (record { latest = latest; settled = kept }) ≡ blank.reads
-unfolding held
-none_held latest kept empty none = λ i k. unwrap_or (none_in kept none k i) (unwrap_or (none_in latest empty k i) zeros)
+pub no_room_settled : (old : Sectors) (kept : Map) → IsUnchanged old.settled kept
+    → IsAsBefore old (record { alloc = old.alloc; latest = old.latest; settled = kept })
+no_room_settled old kept same = all_before old (record { alloc = old.alloc; latest = old.latest; settled = kept })
+    (λ k. refl) (same_in old.settled kept same)
 
 -- a sector that has no bytes here reads as zeros
 pub unwritten : (s : Sectors) (n : ℕ) → is_some (get nat_cmp s.latest n) ≡ false → (seen s).reads n ≡ zeros
@@ -189,3 +81,115 @@ unwritten s n missing = none (get nat_cmp s.latest n) missing
     none : (o : Option (List ℕ)) → is_some o ≡ false → unwrap_or o zeros ≡ zeros
     none None is = refl
     none (Some x) is = absurd (cc)
+
+-- zeros put where no bytes were
+pub made_room : (old : Sectors) (latest : Map) (n : ℕ) (bytes : List ℕ) → bytes ≡ zeros
+    → is_some (get nat_cmp old.latest n) ≡ false → Updates nat_cmp old.latest latest n (Some bytes)
+    → IsAsBefore old (record { alloc = old.alloc; latest = latest; settled = old.settled })
+unfolding seen
+made_room old latest n bytes are missing put =
+    all_before old (record { alloc = old.alloc; latest = latest; settled = old.settled })
+    (same_bytes old.latest latest n bytes (are ∙ sym (unwritten old n missing)) put) (λ k. refl)
+
+pub open_already : (old : Sectors) (n : ℕ) → (seen old).pending n ≡ true → IsOpened old old n
+open_already old n pends = record {
+  reads = λ k. refl;
+  pending = λ k. elim (cases_eq k n) [
+    | inl same ↦ ap (λ k. (seen old).pending k) same ∙ pends
+        ∙ sym (ap (λ b. if b then true else (seen old).pending k) (tests_same k n same))
+    | inr other ↦ sym (ap (λ b. if b then true else (seen old).pending k) (tests_other k n other))
+  ];
+  settled = refl;
+}
+
+pub opened : (old : Sectors) (kept : Map) (n : ℕ) (bytes : List ℕ) → bytes ≡ (seen old).reads n
+    → (seen old).pending n ≡ false → Updates nat_cmp old.settled kept n (Some bytes)
+    → IsOpened old (record { alloc = old.alloc; latest = old.latest; settled = kept }) n
+unfolding seen held
+opened old kept n bytes are quiet settles = record {
+  reads = λ k. refl;
+  pending = λ k. ap is_some (put_in old.settled kept n bytes settles k) ∙ moved (k == n) k;
+  settled = λ i k. held_on k i;
+}
+  where
+    moved : (b : _) (k : ℕ) → is_some (if b then Some bytes else get nat_cmp old.settled k)
+        ≡ (if b then true else is_some (get nat_cmp old.settled k))
+    moved true k = refl
+    moved false k = refl
+
+    missing : (o : Option (List ℕ)) (d : List ℕ) → is_some o ≡ false → d ≡ unwrap_or o d
+    missing None d none = refl
+    missing (Some x) d some = absurd (cc)
+
+    held_on : (k : ℕ) → unwrap_or (get nat_cmp kept k) (bytes_in old.latest k)
+        ≡ unwrap_or (get nat_cmp old.settled k) (bytes_in old.latest k)
+    held_on k = elim (cases_eq k n) [
+      | inl same ↦ ap (λ o. unwrap_or o (bytes_in old.latest k)) (ap (get nat_cmp kept) same ∙ settles.1)
+          ∙ are ∙ missing (get nat_cmp old.settled n) (bytes_in old.latest n) quiet
+          ∙ ap (λ k. unwrap_or (get nat_cmp old.settled k) (bytes_in old.latest k)) (sym same)
+      | inr other ↦ ap (λ o. unwrap_or o (bytes_in old.latest k)) (settles.2 k (elsewhere k n other))
+    ]
+
+-- the write of a sector that is open
+module _ (old mid new : Sectors) (n : ℕ) (bytes : List ℕ) (is : IsOpened old mid n)
+    (put : Updates nat_cmp mid.latest new.latest n (Some bytes)) (kept : new.settled ≡ mid.settled) where
+  pub wrote : seen new ≡ written (seen old) n bytes
+  unfolding seen
+  wrote = λ i. record { reads = λ k. reads k i; pending = λ k. pending k i }
+    where
+      moved : (b : _) (k : ℕ) → unwrap_or (if b then Some bytes else get nat_cmp mid.latest k) zeros
+          ≡ (if b then bytes else bytes_in mid.latest k)
+      moved true k = refl
+      moved false k = refl
+
+      reads : (k : ℕ) → bytes_in new.latest k ≡ (if k == n then bytes else bytes_in old.latest k)
+      reads k = ap (λ o. unwrap_or o zeros) (put_in mid.latest new.latest n bytes put k) ∙ moved (k == n) k
+          ∙ ap (λ l. if k == n then bytes else l) (is.reads k)
+
+      pending : (k : ℕ) → is_some (get nat_cmp new.settled k) ≡ (if k == n then true else (seen old).pending k)
+      pending k = ap (λ m. is_some (get nat_cmp m k)) kept ∙ is.pending k
+
+  pub still_held : held new ≡ held old
+  unfolding seen held
+  still_held = (λ i k. same k i) ∙ is.settled
+    where
+      there : (o : Option (List ℕ)) (d e : List ℕ) → is_some o ≡ true → unwrap_or o d ≡ unwrap_or o e
+      there None d e none = absurd (cc)
+      there (Some x) d e some = refl
+
+      same : (k : ℕ) → unwrap_or (get nat_cmp new.settled k) (bytes_in new.latest k)
+          ≡ unwrap_or (get nat_cmp mid.settled k) (bytes_in mid.latest k)
+      same k = ap (λ m. unwrap_or (get nat_cmp m k) (bytes_in new.latest k)) kept ∙ elim (cases_eq k n) [
+        | inl here ↦ there (get nat_cmp mid.settled k) _ _
+            (is.pending k ∙ ap (λ b. if b then true else (seen old).pending k) (tests_same k n here))
+        | inr other ↦ ap (unwrap_or (get nat_cmp mid.settled k))
+            (ap (λ o. unwrap_or o zeros) (put.2 k (elsewhere k n other)))
+      ]
+
+-- after a sync, where nothing is kept beside what is read
+pub all_settled : (old : Sectors) (kept : Map) → IsEmpty kept
+    → seen (record { alloc = old.alloc; latest = old.latest; settled = kept }) ≡ settled (seen old)
+unfolding seen
+all_settled old kept empty = λ i. record {
+  reads = bytes_in old.latest;
+  pending = λ k. is_some (none_in kept empty k i);
+}
+
+pub settled_reads : (old : Sectors) (kept : Map) → IsEmpty kept
+    → held (record { alloc = old.alloc; latest = old.latest; settled = kept }) ≡ (seen old).reads
+unfolding seen held
+settled_reads old kept empty = λ i k. unwrap_or (none_in kept empty k i) (bytes_in old.latest k)
+
+-- before the first call
+pub none_seen : (alloc : Global) (latest kept : Map) → IsEmpty latest → IsEmpty kept
+    → seen (record { alloc = alloc; latest = latest; settled = kept }) ≡ blank
+unfolding seen
+none_seen alloc latest kept empty none = λ i. record {
+  reads = λ k. unwrap_or (none_in latest empty k i) zeros;
+  pending = λ k. is_some (none_in kept none k i);
+}
+
+pub none_held : (alloc : Global) (latest kept : Map) → IsEmpty latest → IsEmpty kept
+    → held (record { alloc = alloc; latest = latest; settled = kept }) ≡ blank.reads
+unfolding held
+none_held alloc latest kept empty none = λ i k. unwrap_or (none_in kept none k i) (unwrap_or (none_in latest empty k i) zeros)

@@ -25,12 +25,11 @@ pub record IsAsBefore (old new : Sectors) : Type 0 where
   pub reads : seen new ≡ seen old
   pub settled : held new ≡ held old
 
--- a sector is pending and has room for its bytes, and else all is as it was
+-- a sector is pending, and else all is as it was
 pub record IsOpened (old new : Sectors) (n : ℕ) : Type 0 where
   pub reads : (k : ℕ) → (seen new).reads k ≡ (seen old).reads k
   pub pending : (k : ℕ) → (seen new).pending k ≡ (if k == n then true else (seen old).pending k)
   pub settled : held new ≡ held old
-  pub room : is_some (get nat_cmp new.latest n) ≡ true
 
 -- what is kept is what these calls left
 pub record IsKept (calls : List DiskCall) (sectors : Sectors) : Type 0 where

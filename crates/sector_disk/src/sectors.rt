@@ -1,5 +1,7 @@
 //! What a disk in memory keeps of its sectors. A sector that was never written takes no room.
-ghost use Rattle.std.specs.Prelude.{◌≡◌, ℕ, OnOk, OnErr, IfOk, false, nat_eq};
+ghost use Rattle.std.specs.Prelude.{◌≡◌, ℕ, OnOk, OnErr, IfOk, Some, true, false, nat_eq};
+ghost use Rattle.std.specs.Option.{is_some};
+ghost use Rattle.std.specs.BTreeMap.{get, Updates};
 ghost use Rattle.std.specs.Ordering.{nat_cmp};
 ghost use Rattle.std.specs.Set.{is_member};
 ghost use Rattle.std.specs.List.Sorted.{IsStrictlySortedBy};
@@ -7,6 +9,7 @@ ghost use Rattle.sector_disk.specs.Trail.{written, settled};
 ghost use Rattle.sector_disk.specs.Memory.{blank, zeros};
 ghost use Rattle.sector_disk.specs.Sectors.{seen, held, IsOpened, IsAsBefore};
 
+use crate::heap::HeapSector;
 use crate::{NoMemory, SECTOR_BYTES, Sector};
 use std::alloc::Global;
 use std::collections::BTreeMap;
@@ -22,11 +25,13 @@ fn empty_sector() -> Sector
 /// The bytes of the sectors.
 #[derive(Drop)]
 pub(crate) struct Sectors {
+    alloc: Global,
+
     /// Of each sector that was written, the bytes that were written last.
-    pub(crate) latest: BTreeMap<u32, Sector>,
+    pub(crate) latest: BTreeMap<u32, HeapSector>,
 
     /// Of each pending sector, the bytes that it had at the last sync.
-    pub(crate) settled: BTreeMap<u32, Sector>,
+    pub(crate) settled: BTreeMap<u32, HeapSector>,
 }
 
 impl Sectors {
@@ -36,6 +41,7 @@ impl Sectors {
         ensures settled { held result ≡ blank.reads }
     {
         Sectors {
+            alloc,
             latest: BTreeMap::new(alloc),
             settled: BTreeMap::new(alloc),
         }
@@ -47,7 +53,7 @@ impl Sectors {
         ensures { result ≡ (seen self.now).reads n }
     {
         match self.latest.get(&n) {
-            Some(bytes) => *bytes,
+            Some(sector) => *sector.bytes(),
             None => empty_sector(),
         }
     }
@@ -58,7 +64,7 @@ impl Sectors {
         ensures { result ≡ held self.now n }
     {
         match self.settled.get(&n) {
-            Some(bytes) => *bytes,
+            Some(sector) => *sector.bytes(),
             None => self.latest(n),
         }
     }
@@ -71,23 +77,48 @@ impl Sectors {
         self.settled.contains_key(&n)
     }
 
-    /// Makes sector `n` pending, with room for its bytes, which stay as they are. `NoMemory`: there was no memory for
-    /// it, and nothing is changed.
-    fn open(&mut self, n: u32) -> Result<(), NoMemory>
-        ensures opened { OnOk result (IsOpened self.old self.new n) }
-        ensures refused { OnErr result (IsAsBefore self.old self.new) }
+    /// Gives sector `n` room for its bytes, which stay as they are. `NoMemory`: there was no memory for them.
+    fn make_room(&mut self, n: u32) -> Result<(), NoMemory>
+        ensures room { OnOk result (is_some (get nat_cmp self.new.latest n) ≡ true) }
+        ensures same { IsAsBefore self.old self.new }
     {
-        let bytes = self.latest(n);
+        if self.latest.contains_key(&n) {
+            return Ok(());
+        }
+        let bytes = HeapSector::new(self.alloc, &empty_sector())?;
         let Ok(_) = self.latest.insert(n, bytes) else {
             return Err(NoMemory);
         };
+        Ok(())
+    }
+
+    /// Makes sector `n` pending, which has room for its bytes. These stay as they are. `NoMemory`: there was no memory
+    /// for it, and nothing is changed.
+    fn open(&mut self, n: u32) -> Result<(), NoMemory>
+        ensures opened { OnOk result (IsOpened self.old self.new n) }
+        ensures refused { OnErr result (IsAsBefore self.old self.new) }
+        ensures latest { self.new.latest ≡ self.old.latest }
+    {
         if self.is_pending(n) {
             return Ok(());
         }
+        let bytes = HeapSector::new(self.alloc, &self.latest(n))?;
         let Ok(_) = self.settled.insert(n, bytes) else {
             return Err(NoMemory);
         };
         Ok(())
+    }
+
+    /// Writes sector `n`, which is pending and has room for its bytes.
+    fn put(&mut self, n: u32, bytes: &Sector)
+        requires room { is_some (get nat_cmp self.old.latest n) ≡ true }
+        ensures put { Updates nat_cmp self.old.latest self.new.latest n (Some bytes.now) }
+        ensures settled { self.new.settled ≡ self.old.settled }
+    {
+        match self.latest.get_mut(&n) {
+            Some(place) => place.set(bytes),
+            None => unreachable!(),
+        }
     }
 
     /// Writes sector `n`. `NoMemory`: there was no memory for it, and nothing is changed.
@@ -96,10 +127,9 @@ impl Sectors {
         ensures settled { OnOk result (held self.new ≡ held self.old) }
         ensures refused { OnErr result (IsAsBefore self.old self.new) }
     {
+        self.make_room(n)?;
         self.open(n)?;
-        let Ok(_) = self.latest.insert(n, *bytes) else {
-            unreachable!();
-        };
+        self.put(n, bytes);
         Ok(())
     }
 

@@ -1,13 +1,9 @@
-use Rattle.std.proofs.Common.{◌≤◌, ℕ, Result, Ok, Err, refl, sym, ◌∙◌, arith}
-use Rattle.sector_disk.specs.Trail.{now, CountsFault}
+use Rattle.std.proofs.Common.{refl, sym, ◌∙◌, arith}
+use Rattle.sector_disk.specs.Trail.{now}
 use Rattle.sector_disk.proofs.Touching.{still_all}
 use Rattle.char_pages.specs.Ground.{none_more}
-use Rattle.char_pages.proofs.Paging.{length-paged, paged_same, paged_as_long}
+use Rattle.char_pages.proofs.Paging.{length-paged, paged_same, paged_as_long, no_fewer_by}
 use Rattle.char_pages.proofs.paged.PagedCharSource.char_at.Goals as goal
-
-no_fewer_by : {T E : Type 0} {old new : ℕ} (result : Result T E) → CountsFault result old new → old ≤ new
-no_fewer_by (Ok t) same = omega (arith, same)
-no_fewer_by (Err e) rose = omega (arith, rose)
 
 pub char_over-requires-clause-within : goal.char_over-requires-clause-within
 char_over-requires-clause-within g c =

@@ -1,10 +1,9 @@
-use Rattle.std.proofs.Common.{ap, get_or, sym}
+use Rattle.std.proofs.Common.{sym, ◌∙◌}
 use Rattle.char_pages.proofs.Caching.{found_is_true, promoting_adds, putting_adds}
-use Rattle.char_pages.proofs.cached.looked_up.Goals as goal
+use Rattle.char_pages.proofs.cached.sector_of.Goals as goal
 
 pub returns-in-Some-clause-value : goal.returns-in-Some-clause-value
-returns-in-Some-clause-value g c = λ h true_of. ap (λ bytes. get_or bytes c.args.at 0)
-    (found_is_true true_of (sym c.in-Some.ensures))
+returns-in-Some-clause-value g c = λ h true_of. c.copied-sector.ensures.same ∙ found_is_true true_of (sym c.in-Some.ensures)
 
 pub returns-in-Some-clause-cached : goal.returns-in-Some-clause-cached
 returns-in-Some-clause-cached g c = promoting_adds c.promote.ensures.entries

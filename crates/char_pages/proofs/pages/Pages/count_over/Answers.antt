@@ -1,0 +1,65 @@
+use Rattle.std.proofs.Common.{◌≡◌, ◌≤◌, ◌<◌, ◌+◌, ◌-◌, ◌/◌, ◌%◌, ◌==◌, count_by, length, slice_range, sym, ◌∙◌, ap, subst, arith}
+use Rattle.sector_disk.specs.Trail.{Content, now}
+use Rattle.sector_disk.specs.declared.disk.TheConstants.{SECTOR_BYTES}
+use Rattle.sector_disk.proofs.Touching.{still_all}
+use Rattle.char_pages.specs.Cached.{AreTrue}
+use Rattle.char_pages.proofs.Caching.{true_with, below_with}
+use Rattle.char_pages.proofs.Paging.{range_in_area, range_behind}
+use Rattle.char_pages.proofs.pages.Pages.count_over.Goals as goal
+
+pub returns-then-offset-self-clause-looked : goal.returns-then-offset-self-clause-looked
+returns-then-offset-self-clause-looked g c =
+    let p = c.args.self.now in
+    let reads = (now (g.D.Disk.trail c.args.disk.now)).reads in
+    let past : p.saved ≤ c.args.offset = c.if-offset-self.true in
+    let at = c.args.offset - p.saved in
+    record {
+      some = c.requires.some;
+      most = omega arith;
+      exact = λ h. c.count_range.ensures.count
+          ∙ ap (λ l. count_by (λ b. b == c.args.wanted) (slice_range l at (at + c.args.most))) c.deref.ensures.value
+          ∙ ap (count_by (λ b. b == c.args.wanted)) (sym (range_behind reads p.base p.saved p.rest.items c.args.offset c.args.most past));
+      few = c.count_range.ensures.few;
+    }
+
+pub invariant_of-self-clause-below : goal.invariant_of-self-clause-below
+invariant_of-self-clause-below g c =
+    let p = c.args.self.now in
+    let before = c.if-offset-self.false in
+    let whole : p.saved % SECTOR_BYTES ≡ 0 = p.whole in
+    below_with c.sector_of.ensures.cached (omega arith) (omega (arith, before, whole)) p.below
+
+pub returns-in_err-sector-clause-cached : goal.returns-in_err-sector-clause-cached
+returns-in_err-sector-clause-cached g c = λ h true_of.
+    subst (λ (content : Content). AreTrue content c.sector_of.new.cache.entries)
+    (sym (still_all _ _ (c.sector_of.ensures.kept.moments h)))
+    (true_with c.sector_of.ensures.cached h true_of)
+
+pub returns-clause-cached : goal.returns-clause-cached
+returns-clause-cached g c = λ h true_of.
+    subst (λ (content : Content). AreTrue content c.sector_of.new.cache.entries)
+    (sym (still_all _ _ (c.sector_of.ensures.kept.moments h)))
+    (true_with c.sector_of.ensures.cached h true_of)
+
+pub returns-clause-looked : goal.returns-clause-looked
+returns-clause-looked g c =
+    let p = c.args.self.now in
+    let reads = (now (g.D.Disk.trail c.args.disk.now)).reads in
+    let low : c.args.offset < p.saved = omega (arith, c.if-offset-self.false) in
+    let whole : p.saved % SECTOR_BYTES ≡ 0 = p.whole in
+    let least = c.min-few.ensures in
+    let some = c.requires.some in
+    let within : c.args.offset % SECTOR_BYTES + c.min-few.result ≤ SECTOR_BYTES = omega (arith, least) in
+    record {
+      some = omega (arith, least, some);
+      most = omega (arith, least);
+      exact = λ h.
+          let is = c.in_ok-sector.ensures.value h.0 h.1 in
+          let at = c.args.offset % SECTOR_BYTES in
+          c.count_range-found.ensures.count
+          ∙ ap (λ l. count_by (λ b. b == c.args.wanted) (slice_range l at (at + c.min-few.result))) is
+          ∙ ap (count_by (λ b. b == c.args.wanted))
+          (sym (range_in_area reads p.base p.saved p.rest.items c.args.offset c.min-few.result whole low within
+          (ap length (sym is) ∙ c.in_ok-sector.ensures.whole)));
+      few = c.count_range-found.ensures.few;
+    }
