@@ -2,8 +2,8 @@
 by which `rattle` proves it.
 
 A library here is one of statements: what other crates can cite of the crate, without the proofs, which were checked when
-it was made. It is a tenth of the size of what `rt` makes in out/rlib, so that a crate above loads it in a tenth of the
-time. It stands in crates/NAME/out/library, beside its key: a sum over all that it was made from.
+it was made. It is a quarter to a third of what `rt` makes in out/rlib, and each crate above loads so much less. It stands
+in crates/NAME/out/library, beside its key: a sum over all that it was made from.
 """
 import functools
 import hashlib
@@ -81,7 +81,12 @@ def is_program(name):
 
 def out(name):
     """Where what is made of the crate goes."""
-    return f'{TOP}/bench/out' if folder(name) != f'{TOP}/crates/{name}' else f'{folder(name)}/out'
+    return f'{folder(name)}/out'
+
+
+def program(name):
+    """Where a program goes: a bench beside the others."""
+    return f'{out(name)}/{name}' if folder(name) == f'{TOP}/crates/{name}' else f'{TOP}/bench/out/{name}'
 
 
 def library(name):
