@@ -1,6 +1,5 @@
 pub mod Values
 pub mod Trimming
-pub mod Taking
 pub mod Rows
 pub mod Printing
 pub mod Painting

@@ -8,7 +8,7 @@ use Rattle.std.proofs.lemmas.List.FromFn.{map-range_with_len_more}
 use Rattle.std.specs.Io.KnownBytes.{Appends}
 use Rattle.screen_cells.specs.Sent.{AppendsFront}
 use Rattle.screen_pictures.specs.Printed.{down_from}
-use Rattle.screen_cells.proofs.Taking.{HasTaken, taken_part, front_part}
+use Rattle.output_bytes.proofs.Taking.{HasTaken, taken_part, front_part}
 
 down_none : down_from 0 ≡ []
 unfolding down_from

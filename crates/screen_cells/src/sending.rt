@@ -1,8 +1,9 @@
-//! Writing all of some bytes.
-ghost use Rattle.std.specs.Prelude.{◌≡◌, ◌<◌, ◌≤◌, length, take, OnOk, OnErr, IfOk};
+//! Writing all of some bytes, with the fault that a screen's calls return.
+ghost use Rattle.std.specs.Prelude.{OnOk, OnErr};
 ghost use Rattle.std.specs.Io.KnownBytes.{Appends, Keeps};
 ghost use Rattle.screen_cells.specs.Sent.{AppendsFront};
 
+use output_bytes::OutputFault;
 use sector_disk::Fault;
 use std::io::Write;
 
@@ -11,24 +12,9 @@ pub(crate) fn send<W: Write>(writer: &mut W, bytes: &[u8]) -> Result<(), Fault>
     ensures sent { OnOk result (Appends (W.contents writer.old) (W.contents writer.new) bytes.now) }
     ensures front { OnErr result (AppendsFront (W.contents writer.old) (W.contents writer.new) bytes.now) }
 {
-    let mut rest = bytes;
-    while !rest.is_empty() {
-        let taken = take_some(writer, rest)?;
-        rest = &rest[taken..];
-    }
-    Ok(())
-}
-
-/// One write, which takes at least one of the bytes. It returns how many it took.
-fn take_some<W: Write>(writer: &mut W, bytes: &[u8]) -> Result<usize, Fault>
-    ensures some { IfOk result (λ n. 0 < n) }
-    ensures within { IfOk result (λ n. n ≤ length bytes.now) }
-    ensures taken { IfOk result (λ n. Appends (W.contents writer.old) (W.contents writer.new) (take n bytes.now)) }
-    ensures kept { OnErr result (Keeps (W.contents writer.old) (W.contents writer.new)) }
-{
-    match writer.write(bytes) {
-        Ok(0) | Err(_) => Err(Fault),
-        Ok(taken) => Ok(taken),
+    match output_bytes::send(writer, bytes) {
+        Ok(()) => Ok(()),
+        Err(OutputFault) => Err(Fault),
     }
 }
 
@@ -36,8 +22,8 @@ fn take_some<W: Write>(writer: &mut W, bytes: &[u8]) -> Result<usize, Fault>
 pub(crate) fn flush<W: Write>(writer: &mut W) -> Result<(), Fault>
     ensures { Keeps (W.contents writer.old) (W.contents writer.new) }
 {
-    match writer.flush() {
+    match output_bytes::flush(writer) {
         Ok(()) => Ok(()),
-        Err(_) => Err(Fault),
+        Err(OutputFault) => Err(Fault),
     }
 }

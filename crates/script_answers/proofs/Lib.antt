@@ -1,2 +1,1 @@
 pub mod Stretches
-pub mod Taking

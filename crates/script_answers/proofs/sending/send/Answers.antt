@@ -1,5 +1,5 @@
 use Rattle.std.proofs.Common.{◌∙◌}
-use Rattle.script_answers.proofs.Taking.{taken_more}
+use Rattle.output_bytes.proofs.Taking.{taken_more}
 use Rattle.script_answers.proofs.sending.send.Goals as goal
 
 pub loop-rest-preserved : goal.loop-rest-preserved

@@ -1,5 +1,5 @@
 use Rattle.std.proofs.Common.{◌≡◌, length}
-use Rattle.script_answers.proofs.Taking.{HasTaken}
+use Rattle.output_bytes.proofs.Taking.{HasTaken}
 use Rattle.script_answers.proofs.sending.send.Given as goal
 
 abbrev pub invariant-loop-rest : goal.invariant-loop-rest

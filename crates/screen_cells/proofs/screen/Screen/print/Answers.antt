@@ -1,5 +1,5 @@
 use Rattle.std.proofs.Common.{refl, []}
-use Rattle.screen_cells.proofs.Taking.{taken_all, taken_part, front_part, front_taken, on_ok, on_err}
+use Rattle.output_bytes.proofs.Taking.{taken_all, taken_part, front_part, front_taken, on_ok, on_err}
 use Rattle.screen_cells.proofs.Printing.{nothing_taken, characters_taken, word_taken, marks_taken}
 use Rattle.screen_cells.proofs.screen.Screen.print.Goals as goal
 

@@ -3,7 +3,7 @@ use Rattle.std.specs.List.{flat_map}
 use Rattle.std.proofs.KnownBytes.{Keeps-refl}
 use Rattle.screen_pictures.specs.Screen.{row_at}
 use Rattle.screen_pictures.specs.Printed.{character_line}
-use Rattle.screen_cells.proofs.Taking.{taken_all, on_err}
+use Rattle.output_bytes.proofs.Taking.{taken_all, on_err}
 use Rattle.screen_cells.proofs.Rows.{line_taken, line_front, no_rows}
 use Rattle.screen_cells.proofs.screen.Screen.print_characters.Goals as goal
 

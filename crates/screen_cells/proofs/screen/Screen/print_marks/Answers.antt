@@ -4,7 +4,7 @@ use Rattle.std.specs.List.{flat_map}
 use Rattle.std.proofs.KnownBytes.{Keeps-refl}
 use Rattle.screen_pictures.specs.Screen.{row_at}
 use Rattle.screen_pictures.specs.Printed.{mark_line, has_mark_line}
-use Rattle.screen_cells.proofs.Taking.{taken_all, on_err}
+use Rattle.output_bytes.proofs.Taking.{taken_all, on_err}
 use Rattle.screen_cells.proofs.Rows.{passing_taken, passing_front, no_line, no_rows}
 use Rattle.screen_cells.proofs.screen.Screen.print_marks.Goals as goal
 
