@@ -9,7 +9,6 @@ use Rattle.event_bytes.specs.Parts.{Reader, byte, word, byte_at, pair_at, Takes,
 use Rattle.event_bytes.proofs.EventParts.{name_part}
 use Rattle.event_bytes.proofs.PartLaws.{given, some_is, bind_some, test_some, Nothing, whole, field, last, only, recast}
 use Rattle.event_bytes.proofs.PartLaws.{byte_part, word_part}
-use Rattle.piece_ring.specs.declared.piece.Look.{Look}
 use Rattle.piece_ring.specs.declared.piece.Piece.{Piece}
 use Rattle.viewer_tracks.specs.declared.display.Track.{Track}
 use Rattle.viewer_tracks.specs.declared.display.Track.TheVariants.{User, System}
@@ -18,12 +17,12 @@ use Rattle.viewer_tracks.specs.Display.{left_of}
 use Rattle.viewer_tracks.specs.Viewers.{Entry}
 use Rattle.desktop_definitions.specs.declared.viewer.Kept.{Kept}
 use Rattle.desktop_definitions.specs.Limits.{most_files, most_held}
-use Rattle.desktop_definitions.specs.Tables.{Texts, Files}
+use Rattle.desktop_definitions.specs.Tables.{Files}
 use Rattle.desk_image.specs.declared.picture.Ranked.{Ranked}
 use Rattle.desk_image.specs.declared.picture.ViewerPicture.{ViewerPicture}
 use Rattle.desk_image.specs.declared.limits.TheConstants.{MOST_VIEWERS}
-use Rattle.desk_image.specs.Image.{Image, listed, pieces_bytes, text_bytes, file_bytes, ranked_bytes, has_overlays}
-use Rattle.desk_image.specs.Image.{id_bytes, viewer_bytes, viewers_bytes, entry_bytes, track_bytes, depth_bytes}
+use Rattle.desk_image.specs.Image.{Image, image_with, listed, pieces_bytes, text_bytes, file_bytes, ranked_bytes}
+use Rattle.desk_image.specs.Image.{has_overlays, id_bytes, viewer_bytes, viewers_bytes, entry_bytes, track_bytes, depth_bytes}
 use Rattle.desk_image.specs.Image.{stack_bytes, kept_bytes, image_bytes, InByte, InLong, InId}
 use Rattle.desk_image.specs.Fitting.{Chain, FitsPieces, less, total, totals, FitsText, after_text, FitsTexts, follows}
 use Rattle.desk_image.specs.Fitting.{FitsFile, after_file, FitsFiles, FitsRanked, FitsViewer, after_viewer, FitsViewers}
@@ -304,7 +303,8 @@ image_part version written small = whole (
     field _ (λ (i : Image). i.viewers) (viewers_part version) (λ viewers _.
     field _ (λ (i : Image). i.user) (stack_part version) (λ user _.
     field _ (λ (i : Image). i.system) (stack_part version) (λ system _.
-    last (λ (i : Image). i.kept) (image look pattern marker texts files copied deleted viewers user system)
+    last (λ (i : Image). i.kept) (λ kept. image_with (look, pattern, marker)
+    (texts, files, copied, deleted) viewers (user, system, kept))
     (optional_part (kept_part version))
     (λ kept. ((((((((((tt, refl), refl), refl), refl), refl), refl), refl), refl), refl), refl)) (λ kept. refl)
     (λ i known. rw (
@@ -319,22 +319,6 @@ image_part version written small = whole (
       ← known.0.1,
       ← known.1,
     ) refl))))))))))))
-  where
-    image : Look → List ℕ → Option (ℕ × ℕ) → Texts (List Piece) → Files (List Piece) → List Piece → List Piece
-        → List ViewerPicture → List (List Entry) → List (List Entry) → Option Kept → Image
-    image look pattern marker texts files copied deleted viewers user system kept = record {
-      look = look;
-      pattern = pattern;
-      marker = marker;
-      texts = texts;
-      files = files;
-      copied = copied;
-      deleted = deleted;
-      viewers = viewers;
-      user = user;
-      system = system;
-      kept = kept;
-    }
 
 -- ---- an image, and no byte after it
 

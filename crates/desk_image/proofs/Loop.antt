@@ -1,6 +1,7 @@
 -- Reading one item after another, as a loop does.
 use Rattle.std.proofs.Common.{◌≡◌, ℕ, suc, ◌-◌, ◌+◌, ◌≤◌, ◌<◌, List, [], ◌∷◌, ◌++◌, length, Option, Some, None, Result}
-use Rattle.std.proofs.Common.{Ok, Err, inr, refl, sym, ap, subst, ◌∙◌, append_assoc, append-nil, length-append, arith}
+use Rattle.std.proofs.Common.{Ok, Err, IsErrAnd, inr, refl, sym, ap, subst, ◌∙◌, append_assoc, append-nil}
+use Rattle.std.proofs.Common.{length-append, arith}
 use Rattle.event_bytes.specs.Parts.{Reader, ◌>>=◌}
 use Rattle.desk_image.specs.declared.fault.ImageFault.{ImageFault}
 use Rattle.desk_image.specs.declared.fault.ImageFault.TheVariants.{Damaged, Fault, NoMemory}
@@ -8,6 +9,7 @@ use Rattle.desk_image.specs.declared.source.ByteSource.{Ghosts as SourceGhosts}
 use Rattle.desk_image.specs.Fitting.{Chain}
 use Rattle.desk_image.specs.Passing.{OnlyGets}
 use Rattle.desk_image.specs.Reading.{times}
+use Rattle.desk_image.specs.Steps.{ReadsItems}
 use Rattle.desk_image.specs.Streams.{Reads, Gives}
 
 -- what was read before, and what is still read
@@ -22,6 +24,7 @@ pub record IsAt {S T A : Type 0} (s : SourceGhosts S) (item : T → Reader A) (F
         ≡ times item next count first (s.remaining old)
     pub fits : (rest : List A) → Chain Fits next now rest → Chain Fits next first (front ++ rest)
     pub many : length front ≡ i
+    pub within : i ≤ count
     pub only : OnlyGets s.honest s.same_ground old new
     pub calm : s.failures new ≡ s.failures old
 
@@ -75,6 +78,7 @@ module _ {S T A : Type 0} {s : SourceGhosts S} {item : T → Reader A} {Fits : T
             ∙ no_front (times item next count first (s.remaining old));
         fits = λ rest fits. fits;
         many = refl;
+        within = omega arith;
         only = record { still = λ h. h; stands = ground_self old };
         calm = refl;
       })
@@ -100,12 +104,13 @@ module _ {S T A : Type 0} {s : SourceGhosts S} {item : T → Reader A} {Fits : T
         fits = λ rest others. subst (Chain Fits next first) (sym (append_assoc front (view x ∷ []) rest))
             (at.fits (view x ∷ rest) (fits, others));
         many = length-append front (view x ∷ []) ∙ ap (λ n. n + 1) at.many;
+        within = omega (arith, lt);
         only = both reads.only;
         calm = reads.faults.calm (λ is. absurd cc) ∙ at.calm;
       }
 
       -- an item that could not be read
-      pub ends : {X Y : Type 0} (view : X → A) (all : Y → List A) (e : ImageFault) → i < count
+      ends : {X Y : Type 0} (view : X → A) (all : Y → List A) (e : ImageFault) → i < count
           → Reads s view (Err e) (item now) mid new → Reads s all (Err e) (times item next count first) old new
       ends {X} {Y} view all e lt reads = record {
         gives = λ h. ended item next count i now front e view all (s.remaining mid) (s.remaining new)
@@ -119,6 +124,14 @@ module _ {S T A : Type 0} {s : SourceGhosts S} {item : T → Reader A} {Fits : T
         };
       }
 
+      pub stops : {X Y : Type 0} {view : X → A} {all : Y → List A} {e : ImageFault} {result : Result Y ImageFault}
+          → IsErrAnd result (λ f. f ≡ e) → i < count → Reads s view (Err e) (item now) mid new
+          → ReadsItems s all result item Fits next count first old new
+      stops {view} {all} {e} {result = Ok y} is lt reads = absurd is
+      stops {view} {all} {e} {result = Err f} is lt reads = subst
+          (λ x. ReadsItems s all (Err x) item Fits next count first old new) (sym is)
+          (record { reads = ends view all e lt reads; fits = tt; many = tt })
+
     module _ {old new : S} (at : IsAt s item Fits next count i first now front old new) where
       -- no memory for the items
       pub refused : {Y Z : Type 0} (all : Y → Z) (read : Reader Z) → Reads s all (Err NoMemory) read old new
@@ -128,11 +141,15 @@ module _ {S T A : Type 0} {s : SourceGhosts S} {item : T → Reader A} {Fits : T
         faults = record { rose = λ is. absurd cc; calm = λ not. at.calm; errors = inr (inr refl) };
       }
 
+      -- all that was read fits
+      all_fit : Chain Fits next first front
+      all_fit = subst (Chain Fits next first) (append-nil front) (at.fits [] tt)
+
       -- after the last item
-      pub is_done : {Y : Type 0} (all : Y → List A) (y : Y) → count ≤ i → all y ≡ front
+      was_read : {Y : Type 0} (all : Y → List A) (y : Y) → count ≤ i → all y ≡ front
           → Reads s all (Ok y) (times item next count first) old new
       unfolding times
-      is_done all y le is = record {
+      was_read all y le is = record {
         gives = λ h. let none : count - i ≡ 0 = omega (arith, le) in sym (at.so_far h)
             ∙ ap (λ n. with_front front (times item next n now (s.remaining new))) none
             ∙ ap (λ (xs : List A). Some (xs, s.remaining new)) (append-nil front ∙ sym is);
@@ -140,6 +157,10 @@ module _ {S T A : Type 0} {s : SourceGhosts S} {item : T → Reader A} {Fits : T
         faults = record { rose = λ is. absurd cc; calm = λ not. at.calm; errors = tt };
       }
 
-      -- all that was read fits
-      pub all_fit : Chain Fits next first front
-      all_fit = subst (Chain Fits next first) (append-nil front) (at.fits [] tt)
+      pub is_done : {Y : Type 0} {all : Y → List A} {y : Y} → count ≤ i → all y ≡ front
+          → ReadsItems s all (Ok y) item Fits next count first old new
+      is_done {all} {y} le is = record {
+        reads = was_read all y le is;
+        fits = subst (Chain Fits next first) (sym is) all_fit;
+        many = omega (arith, ap length is, at.many, at.within, le);
+      }

@@ -6,10 +6,10 @@ use Rattle.desk_image.specs.declared.fault.ImageFault.{ImageFault}
 use Rattle.desk_image.specs.declared.picture.ViewerPicture.{ViewerPicture}
 use Rattle.desk_image.specs.declared.source.ByteSource.{Ghosts as SourceGhosts}
 use Rattle.desk_image.specs.Fitting.{total, totals}
-use Rattle.desk_image.specs.Image.{Image}
+use Rattle.desk_image.specs.Image.{Image, Front, Held, Shown, image_with}
 use Rattle.desk_image.specs.Reading.{optional_at, look_at, pattern_at, cell_at, texts_at, files_at, pieces_at}
 use Rattle.desk_image.specs.Reading.{viewers_at, stack_at, kept_at, image_at}
-use Rattle.desk_image.specs.Steps.{Front, front_at, Held, held_at, Shown, shown_at, sections_at}
+use Rattle.desk_image.specs.Steps.{front_at, held_at, shown_at, sections_at}
 use Rattle.desk_image.specs.Streams.{Reads}
 use Rattle.desk_image.proofs.Parts.{follows_on, fails, makes}
 
@@ -70,22 +70,7 @@ module _ {E : Type 0} where
 
 -- what follows each section
 abbrev pub with_shown : Front → Held → List ViewerPicture → Shown × List ℕ → Option (Image × List ℕ)
-with_shown front held viewers shown = Some (
-  record {
-    look = front.0;
-    pattern = front.1;
-    marker = front.2;
-    texts = held.0;
-    files = held.1;
-    copied = held.2;
-    deleted = held.3;
-    viewers = viewers;
-    user = shown.0.0;
-    system = shown.0.1;
-    kept = shown.0.2;
-  },
-  shown.1,
-)
+with_shown front held viewers shown = Some (image_with front held viewers shown.0, shown.1)
 
 abbrev pub with_held : ℕ → Front → Held × List ℕ → Option (Image × List ℕ)
 with_held version front held = viewers_at version held.1 >>= λ viewers.

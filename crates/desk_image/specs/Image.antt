@@ -29,7 +29,7 @@ use Rattle.desk_image.specs.declared.forms.TheConstants.{FIRST_WITH_OVERLAYS}
 use Rattle.desk_image.specs.declared.picture.Ranked.{Ranked}
 use Rattle.desk_image.specs.declared.picture.ViewerPicture.{ViewerPicture}
 
--- ---- what an image says of a desktop
+-- ---- images
 
 pub record Image : Type 0 where
   pub look : Look
@@ -45,6 +45,37 @@ pub record Image : Type 0 where
   pub user : List (List Entry)
   pub system : List (List Entry)
   pub kept : Option Kept
+
+-- ---- its sections
+
+-- the look, the pattern and the marker
+abbrev pub Front : Type 0
+Front = Look × List ℕ × Option (ℕ × ℕ)
+
+-- the texts, the files, and what the two buffers have
+abbrev pub Held : Type 0
+Held = Texts (List Piece) × Files (List Piece) × List Piece × List Piece
+
+-- the tracks of both columns, and the viewer that was closed last
+abbrev pub Shown : Type 0
+Shown = List (List Entry) × List (List Entry) × Option Kept
+
+abbrev pub image_with : Front → Held → List ViewerPicture → Shown → Image
+image_with front held viewers shown = record {
+  look = front.0;
+  pattern = front.1;
+  marker = front.2;
+  texts = held.0;
+  files = held.1;
+  copied = held.2;
+  deleted = held.3;
+  viewers = viewers;
+  user = shown.0;
+  system = shown.1;
+  kept = shown.2;
+}
+
+-- ---- what an image says of a desktop
 
 -- where the caret stands in viewer v
 abbrev pub caret_in : Option Caret → ℕ → Option ℕ

@@ -17,7 +17,7 @@ use Rattle.desktop_definitions.specs.Tables.{Texts, Files}
 use Rattle.desk_image.specs.declared.picture.Ranked.{Ranked}
 use Rattle.desk_image.specs.declared.picture.ViewerPicture.{ViewerPicture}
 use Rattle.desk_image.specs.declared.limits.TheConstants.{MOST_VIEWERS}
-use Rattle.desk_image.specs.Image.{Image, has_overlays, below_zero, offsets}
+use Rattle.desk_image.specs.Image.{Image, image_with, has_overlays, below_zero, offsets}
 use Rattle.desk_image.specs.Fitting.{less, after_text, follows, after_file, total, totals, after_viewer, above}
 use Rattle.desk_image.specs.Fitting.{overlaid}
 
@@ -233,19 +233,8 @@ image_at version written bytes = do
   system ← stack_at version user.1
   kept ← optional_at (kept_at version) system.1
   Some (
-    record {
-      look = look.0;
-      pattern = pattern.0;
-      marker = marker.0;
-      texts = texts.0;
-      files = files.0;
-      copied = copied.0;
-      deleted = deleted.0;
-      viewers = viewers.0;
-      user = user.0;
-      system = system.0;
-      kept = kept.0;
-    },
+    image_with (look.0, pattern.0, marker.0) (texts.0, files.0, copied.0, deleted.0) viewers.0
+        (user.0, system.0, kept.0),
     kept.1,
   )
 

@@ -1,16 +1,17 @@
 -- Reading an image in the steps of the code: what `specs/Reading.antt` says at once, said in smaller parts.
-use Rattle.std.specs.Prelude.{ℕ, ◌-◌, nat_le, if◌then◌else◌, List, [], ◌∷◌, Option, Some, None}
+use Rattle.std.specs.Prelude.{◌≡◌, ℕ, ◌-◌, nat_le, if◌then◌else◌, List, [], ◌∷◌, length, Option, Some, None}
+use Rattle.std.specs.Prelude.{Result, IfOk}
 use Rattle.event_bytes.specs.Parts.{Reader, ◌>>=◌, byte_at, bytes_at}
-use Rattle.piece_ring.specs.declared.piece.Look.{Look}
 use Rattle.piece_ring.specs.declared.piece.Piece.{Piece}
-use Rattle.viewer_tracks.specs.Viewers.{Entry}
-use Rattle.desktop_definitions.specs.declared.viewer.Kept.{Kept}
 use Rattle.desktop_definitions.specs.Limits.{most_held, most_pattern}
 use Rattle.desktop_definitions.specs.Tables.{Texts, Files}
-use Rattle.desk_image.specs.Fitting.{total, totals, FitsTexts, FitsFiles, FitsPieces}
-use Rattle.desk_image.specs.Image.{Image}
-use Rattle.desk_image.specs.Reading.{optional_at, look_at, pattern_at, cell_at, texts_at, files_at, pieces_at}
+use Rattle.desk_image.specs.declared.fault.ImageFault.{ImageFault}
+use Rattle.desk_image.specs.declared.source.ByteSource.{Ghosts as SourceGhosts}
+use Rattle.desk_image.specs.Fitting.{Chain, total, totals, FitsTexts, FitsFiles, FitsPieces}
+use Rattle.desk_image.specs.Image.{Image, Front, Held, Shown, image_with}
+use Rattle.desk_image.specs.Reading.{times, optional_at, look_at, pattern_at, cell_at, texts_at, files_at, pieces_at}
 use Rattle.desk_image.specs.Reading.{viewers_at, stack_at, kept_at}
+use Rattle.desk_image.specs.Streams.{Reads}
 
 -- ---- bytes
 
@@ -36,11 +37,17 @@ last_key [] = None
 last_key (e ∷ []) = Some e.0
 last_key (e ∷ (f ∷ es)) = last_key (f ∷ es)
 
--- ---- the sections of an image
+-- ---- items
 
--- the look, the pattern and the marker
-abbrev pub Front : Type 0
-Front = Look × List ℕ × Option (ℕ × ℕ)
+-- A call that reads so many items, each of which fits what those before it leave.
+pub record ReadsItems {S T X A : Type 0} (s : SourceGhosts S) (view : X → List A) (result : Result X ImageFault)
+    (item : T → Reader A) (Fits : T → A → Type 0) (next : T → A → T) (count : ℕ) (first : T) (old new : S) : Type 0
+  where
+    pub reads : Reads s view result (times item next count first) old new
+    pub fits : IfOk result (λ x. Chain Fits next first (view x))
+    pub many : IfOk result (λ x. length (view x) ≡ count)
+
+-- ---- the sections of an image
 
 unfoldable pub front_at : Reader Front
 front_at bytes = do
@@ -48,10 +55,6 @@ front_at bytes = do
   pattern ← pattern_at look.1
   marker ← optional_at cell_at pattern.1
   Some ((look.0, pattern.0, marker.0), marker.1)
-
--- the texts, the files, and what the two buffers have
-abbrev pub Held : Type 0
-Held = Texts (List Piece) × Files (List Piece) × List Piece × List Piece
 
 unfoldable pub held_at : ℕ → Reader Held
 held_at written bytes = do
@@ -68,10 +71,6 @@ FitHeld written texts files copied deleted = FitsTexts written most_held texts
     × (FitsPieces written (most_held - totals texts - totals files) copied
     × FitsPieces written (most_held - totals texts - totals files - total copied) deleted))
 
--- the tracks of both columns, and the viewer that was closed last
-abbrev pub Shown : Type 0
-Shown = List (List Entry) × List (List Entry) × Option Kept
-
 unfoldable pub shown_at : ℕ → Reader Shown
 shown_at version bytes = do
   user ← stack_at version bytes
@@ -86,19 +85,4 @@ sections_at version written bytes = do
   held ← held_at written front.1
   viewers ← viewers_at version held.1
   shown ← shown_at version viewers.1
-  Some (
-    record {
-      look = front.0.0;
-      pattern = front.0.1;
-      marker = front.0.2;
-      texts = held.0.0;
-      files = held.0.1;
-      copied = held.0.2;
-      deleted = held.0.3;
-      viewers = viewers.0;
-      user = shown.0.0;
-      system = shown.0.1;
-      kept = shown.0.2;
-    },
-    shown.1,
-  )
+  Some (image_with front.0 held.0 viewers.0 shown.0, shown.1)

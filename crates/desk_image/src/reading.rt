@@ -11,18 +11,19 @@ ghost use Rattle.event_bytes.specs.Parts.{byte_at, pair_at, bytes_at};
 ghost use Rattle.event_bytes.specs.Reading.{name_at};
 ghost use Rattle.desktop_definitions.specs.Limits.{least_offset, greatest_offset};
 ghost use Rattle.desktop_definitions.specs.Looks.{IsLook};
-ghost use Rattle.desk_image.specs.Fitting.{Chain, FitsPiece, less, total, totals, FitsPieces, FitsText, after_text};
+ghost use Rattle.desk_image.specs.Fitting.{FitsPiece, less, total, totals, FitsPieces, FitsText, after_text};
 ghost use Rattle.desk_image.specs.Fitting.{FitsTexts, FitsFile, after_file, FitsFiles, follows, FitsRanked};
 ghost use Rattle.desk_image.specs.Fitting.{FitsViewer, after_viewer, FitsViewers, FitsEntry, above, FitsTrack};
 ghost use Rattle.desk_image.specs.Fitting.{FitsLevel, overlaid, FitsStack, FitsPattern, FitsCell, FitsKept, FitsImage};
 ghost use Rattle.desk_image.specs.Pictures.{entry_of, track_of, stack_of, pictured};
-ghost use Rattle.desk_image.specs.Reading.{times, optional_at, long_at, offset_at, raw_look_at, look_at};
+ghost use Rattle.desk_image.specs.Reading.{optional_at, long_at, offset_at, raw_look_at, look_at};
 ghost use Rattle.desk_image.specs.Reading.{raw_piece_at, piece_at, pieces_at, text_at, texts_at, file_at, files_at};
 ghost use Rattle.desk_image.specs.Reading.{ranked_at, id_at, viewer_at, viewers_at, raw_entry_at, entry_at};
 ghost use Rattle.desk_image.specs.Reading.{track_at, level_at, depth_at, stack_at};
 ghost use Rattle.desk_image.specs.Reading.{pattern_at, raw_cell_at, cell_at, side_at, raw_kept_at, kept_at};
 ghost use Rattle.desk_image.specs.Reading.{image_at, whole_image_at, is_piece as pieces};
-ghost use Rattle.desk_image.specs.Steps.{any_at, end_at, short_at, last_key, front_at, held_at, FitHeld, shown_at};
+ghost use Rattle.desk_image.specs.Steps.{ReadsItems, any_at, end_at, short_at, last_key, front_at, held_at, FitHeld};
+ghost use Rattle.desk_image.specs.Steps.{shown_at};
 ghost use Rattle.desk_image.specs.Streams.{Reads};
 ghost use Rattle.desk_image.specs.Image.{InId, has_overlays};
 
@@ -186,10 +187,8 @@ fn counted_pieces<S: ByteSource, H: Holder>(
     room: &mut u32,
     count: u32,
 ) -> Result<H, ImageFault>
-    ensures reads { Reads S.ByteSource H.held result (times (piece_at written) less count room.old)
+    ensures items { ReadsItems S.ByteSource H.held result (piece_at written) (FitsPiece written) less count room.old
         source.old source.new }
-    ensures fits { IfOk result (λ holder. Chain (FitsPiece written) less room.old (H.held holder)) }
-    ensures many { IfOk result (λ holder. length (H.held holder) ≡ count) }
     ensures left { IfOk result (λ holder. room.new ≡ room.old - total (H.held holder)) }
 {
     let mut pieces = H::empty(alloc)?;
@@ -249,10 +248,8 @@ fn counted_texts<S: ByteSource>(
     room: &mut u32,
     count: u16,
 ) -> Result<BTreeMap<u16, Text>, ImageFault>
-    ensures reads { Reads S.ByteSource (λ texts. texts.entries) result
-        (times (text_at written) after_text count (0, room.old)) source.old source.new }
-    ensures fits { IfOk result (λ texts. Chain (FitsText written) after_text (0, room.old) texts.entries) }
-    ensures many { IfOk result (λ texts. length texts.entries ≡ count) }
+    ensures items { ReadsItems S.ByteSource (λ texts. texts.entries) result (text_at written) (FitsText written)
+        after_text count (0, room.old) source.old source.new }
     ensures left { IfOk result (λ texts. room.new ≡ room.old - totals texts.entries) }
 {
     let mut texts = BTreeMap::new(alloc);
@@ -372,10 +369,8 @@ fn counted_files<S: ByteSource>(
     room: &mut u32,
     count: u16,
 ) -> Result<BTreeMap<Name, Text>, ImageFault>
-    ensures reads { Reads S.ByteSource (λ files. files.entries) result
-        (times (file_at written) after_file count (None, room.old)) source.old source.new }
-    ensures fits { IfOk result (λ files. Chain (FitsFile written) after_file (None, room.old) files.entries) }
-    ensures many { IfOk result (λ files. length files.entries ≡ count) }
+    ensures items { ReadsItems S.ByteSource (λ files. files.entries) result (file_at written) (FitsFile written)
+        after_file count (None, room.old) source.old source.new }
     ensures left { IfOk result (λ files. room.new ≡ room.old - totals files.entries) }
 {
     let mut files = BTreeMap::new(alloc);
@@ -479,11 +474,8 @@ fn counted_viewers<S: ByteSource>(
     version: Version,
     count: u16,
 ) -> Result<Vec<ViewerPicture>, ImageFault>
-    ensures reads { Reads S.ByteSource (λ viewers. viewers.items) result
-        (times (viewer_at (version_number version)) after_viewer count 0) source.old source.new }
-    ensures fits { IfOk result
-        (λ viewers. Chain (FitsViewer (version_number version)) after_viewer 0 viewers.items) }
-    ensures many { IfOk result (λ viewers. length viewers.items ≡ count) }
+    ensures { ReadsItems S.ByteSource (λ viewers. viewers.items) result (viewer_at (version_number version))
+        (FitsViewer (version_number version)) after_viewer count 0 source.old source.new }
 {
     let mut viewers = Vec::new(alloc);
     let mut least = 0;
@@ -551,9 +543,8 @@ fn counted_track<S: ByteSource>(
     version: Version,
     count: u8,
 ) -> Result<Stretches, ImageFault>
-    ensures reads { Reads S.ByteSource track_of result (times (entry_at (version_number version)) above count rows)
-        source.old source.new }
-    ensures fits { IfOk result (λ track. FitsTrack (version_number version) (track_of track)) }
+    ensures { ReadsItems S.ByteSource track_of result (entry_at (version_number version))
+        (FitsEntry (version_number version)) above count rows source.old source.new }
 {
     let mut track = Stretches::new();
     let mut room = ROWS;
@@ -600,11 +591,9 @@ fn counted_stack<S: ByteSource>(
     version: Version,
     depth: u8,
 ) -> Result<Levels, ImageFault>
-    ensures reads { Reads S.ByteSource (λ stack. stack_of stack.items) result
-        (times (level_at (version_number version)) overlaid depth 0) source.old source.new }
-    ensures fits { IfOk result
-        (λ stack. Chain (FitsLevel (version_number version)) overlaid 0 (stack_of stack.items)) }
-    ensures many { IfOk result (λ stack. length stack.items ≡ depth) }
+    ensures { ReadsItems S.ByteSource (λ stack. stack_of stack.items) result
+        (level_at (version_number version)) (FitsLevel (version_number version)) overlaid depth 0
+        source.old source.new }
 {
     let mut stack = Vec::new(alloc);
     let mut least = 0;

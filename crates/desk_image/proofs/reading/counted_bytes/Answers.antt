@@ -1,7 +1,6 @@
 use Rattle.std.proofs.Common.{refl}
-use Rattle.std.proofs.lemmas.Result.{err_from_is_err_and}
 use Rattle.desk_image.proofs.Bytes.{read_as_bytes}
-use Rattle.desk_image.proofs.Loop.{begins, goes_on, ends, is_done}
+use Rattle.desk_image.proofs.Loop.{begins, goes_on, stops, is_done}
 use Rattle.desk_image.proofs.reading.counted_bytes.Goals as goal
 
 pub loop-init : goal.loop-init
@@ -12,10 +11,8 @@ loop-preserved g c = rw c.push.ensures.items (goes_on g.met.S.ByteSource.ground_
     c.loop-test.true c.in_ok-next_from.ensures.reads tt)
 
 pub returns-in_err-next_from-clause-reads : goal.returns-in_err-next_from-clause-reads
-returns-in_err-next_from-clause-reads g c =
-    let p = err_from_is_err_and c.from_residual.result c.from_residual.ensures.1 in
-    rw (p.1, p.2) (read_as_bytes _ 0 (ends g.met.S.ByteSource.ground_through c.loop.invariant _ _
-    c.in_err-next_from.field-0.0 c.loop-test.true c.in_err-next_from.ensures.reads))
+returns-in_err-next_from-clause-reads g c = read_as_bytes _ 0 (stops g.met.S.ByteSource.ground_through
+    c.loop.invariant c.from_residual.ensures.1 c.loop-test.true c.in_err-next_from.ensures.reads).reads
 
 pub returns-clause-reads : goal.returns-clause-reads
-returns-clause-reads g c = read_as_bytes _ 0 (is_done c.loop.invariant _ _ c.loop-test.false refl)
+returns-clause-reads g c = read_as_bytes _ 0 (is_done c.loop.invariant c.loop-test.false refl).reads

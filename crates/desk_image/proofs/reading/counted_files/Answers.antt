@@ -1,7 +1,6 @@
 use Rattle.std.proofs.Common.{◌≡◌, ◌∷◌, [], ◌++◌, refl, ◌∙◌, arith}
-use Rattle.std.proofs.lemmas.Result.{err_from_is_err_and}
 use Rattle.desk_image.specs.Steps.{last_key}
-use Rattle.desk_image.proofs.Loop.{goes_on, ends, is_done, all_fit}
+use Rattle.desk_image.proofs.Loop.{goes_on, stops, is_done}
 use Rattle.desk_image.proofs.Totals.{totals_push}
 use Rattle.desk_image.proofs.Rising.{name_put, names_wait_on, last_key_push}
 use Rattle.desk_image.proofs.reading.counted_files.Goals as goal
@@ -27,14 +26,9 @@ loop-preserved g c =
       wait = names_wait_on all (last_key all) name text passed c.loop.invariant.wait;
     })
 
-pub returns-in_err-name-clause-reads : goal.returns-in_err-name-clause-reads
-returns-in_err-name-clause-reads g c =
-    let p = err_from_is_err_and c.from_residual.result c.from_residual.ensures.1 in
-    rw (p.1, p.2) (ends g.met.S.ByteSource.ground_through c.loop.invariant.at _ _ c.in_err-name.field-0.0
-    c.loop-test.true c.in_err-name.ensures.reads)
+pub returns-in_err-name-clause-items : goal.returns-in_err-name-clause-items
+returns-in_err-name-clause-items g c = stops g.met.S.ByteSource.ground_through c.loop.invariant.at c.from_residual.ensures.1
+    c.loop-test.true c.in_err-name.ensures.reads
 
-pub returns-clause-reads : goal.returns-clause-reads
-returns-clause-reads g c = is_done c.loop.invariant.at _ _ c.loop-test.false refl
-
-pub returns-clause-fits : goal.returns-clause-fits
-returns-clause-fits g c = all_fit c.loop.invariant.at
+pub returns-clause-items : goal.returns-clause-items
+returns-clause-items g c = is_done c.loop.invariant.at c.loop-test.false refl

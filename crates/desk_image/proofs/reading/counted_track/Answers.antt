@@ -1,8 +1,7 @@
 use Rattle.std.proofs.Common.{map, refl, ap, arith}
-use Rattle.std.proofs.lemmas.Result.{err_from_is_err_and}
 use Rattle.std.proofs.lemmas.List.{map_push}
 use Rattle.desk_image.specs.Pictures.{entry_of}
-use Rattle.desk_image.proofs.Loop.{begins, goes_on, ends, is_done, all_fit}
+use Rattle.desk_image.proofs.Loop.{begins, goes_on, stops, is_done}
 use Rattle.desk_image.proofs.reading.counted_track.Goals as goal
 
 pub loop-init : goal.loop-init
@@ -25,14 +24,9 @@ loop-preserved g c = record {
   );
 }
 
-pub returns-in_err-stretch-clause-reads : goal.returns-in_err-stretch-clause-reads
-returns-in_err-stretch-clause-reads g c =
-    let p = err_from_is_err_and c.from_residual.result c.from_residual.ensures.1 in
-    rw (p.1, p.2) (ends g.met.S.ByteSource.ground_through c.loop.invariant.at _ _ c.in_err-stretch.field-0.0
-    c.loop-test.true c.in_err-stretch.ensures.reads)
+pub returns-in_err-stretch : goal.returns-in_err-stretch
+returns-in_err-stretch g c = stops g.met.S.ByteSource.ground_through c.loop.invariant.at c.from_residual.ensures.1
+    c.loop-test.true c.in_err-stretch.ensures.reads
 
-pub returns-clause-reads : goal.returns-clause-reads
-returns-clause-reads g c = is_done c.loop.invariant.at _ _ c.loop-test.false refl
-
-pub returns-clause-fits : goal.returns-clause-fits
-returns-clause-fits g c = all_fit c.loop.invariant.at
+pub returns : goal.returns
+returns g c = is_done c.loop.invariant.at c.loop-test.false refl
