@@ -12,13 +12,13 @@ use Rattle.viewer_tracks.specs.declared.display.Track.TheVariants.{User, System}
 use Rattle.viewer_tracks.specs.declared.display.TheConstants.{ROWS, DEPTH}
 use Rattle.viewer_tracks.specs.Display.{track_at, left_of}
 use Rattle.viewer_tracks.specs.Viewers.{Entry, IsTrack, bottom_of, times_in}
-use Rattle.viewer_tracks.specs.Columns.{Columns, IsColumns, IsPlaced, IsOnTop, IsStack, shown, with_shown, stack_of}
-use Rattle.viewer_tracks.specs.Columns.{topmost, with_topmost, with_stack, times_on, times_placed, after_open_track, after_change}
+use Rattle.viewer_tracks.specs.Columns.{Columns, IsColumns, IsPlaced, IsOnTop, shown, with_shown, stack_of}
+use Rattle.viewer_tracks.specs.Columns.{topmost, with_topmost, with_stack, times_placed, after_open_track, after_change}
 use Rattle.viewer_tracks.proofs.ColumnLemmas.{change_lowers, times-with_stack}
 use Rattle.desk_image.specs.declared.picture.Stretch.{Stretch}
 use Rattle.desk_image.specs.Pictures.{entry_of, track_of, stack_of as levels_of}
 use Rattle.desk_image.proofs.Lists.{all_reversed}
-use Rattle.desk_imaging.specs.Images.{Levels}
+use Rattle.desk_imaging.specs.Images.{Levels, CanBuild}
 use Rattle.desk_imaging.proofs.Stacks.{times_reversed}
 
 -- ---- a viewer in a track of its own
@@ -134,14 +134,13 @@ module _ (c : Columns) (k : Track) (levels : Levels) where
       on_side User = refl
       on_side System = refl
 
-  module _ (empty : stack_of c k ≡ [] ∷ []) (stack : IsStack (reverse levels))
-      (once : (v : ℕ) → times_placed v c + times_on v levels ≤ 1) where
+  module _ (can : CanBuild c k levels) where
     pub some_levels : 0 < length levels
-    some_levels = let same = length-reverse levels in let some = stack.some in omega (arith, same, some)
+    some_levels = let same = length-reverse levels in let some = can.stack.some in omega (arith, same, some)
 
     pub room : (n : ℕ) → n < length levels → length (stack_of (built n) k) < DEPTH
     room n low =
-        let few = stack.few in
+        let few = can.stack.few in
         let same = length-reverse levels in
         let here = ap length (stack_built n) in
         let turned = length-reverse (take n levels) in
@@ -151,7 +150,7 @@ module _ (c : Columns) (k : Track) (levels : Levels) where
     pub track_there : (n : ℕ) → n < length levels → IsTrack (get_or levels n [])
     track_there n low =
         All-get_or IsTrack levels n [] low
-        (subst (All IsTrack) (reverse-reverse levels) (all_reversed IsTrack (reverse levels) [] stack.tracks))
+        (subst (All IsTrack) (reverse-reverse levels) (all_reversed IsTrack (reverse levels) [] can.stack.tracks))
 
     pub some_there : (n : ℕ) → 0 < n → n < length levels → 0 < length (get_or levels n [])
     some_there n above low =
@@ -159,7 +158,7 @@ module _ (c : Columns) (k : Track) (levels : Levels) where
         let place : n + 1 - 1 ≡ n = omega arith in
         subst (λ (m : ℕ). 0 < length (get_or levels m [])) place
         (subst (λ (s : Levels). 0 < length (get_or s (n + 1 - 1) [])) (reverse-reverse levels)
-        (stack.overlays (n + 1) (omega (arith, above)) (omega (arith, low, same))))
+        (can.stack.overlays (n + 1) (omega (arith, above)) (omega (arith, low, same))))
 
     pub once_more : (n : ℕ) → n < length levels → (v : ℕ)
         → times_placed v (built n) + times_in v (get_or levels n []) ≤ 1
@@ -167,12 +166,12 @@ module _ (c : Columns) (k : Track) (levels : Levels) where
         let placed = times-with_stack v c k (reverse (take n levels)) in
         let turned = times_reversed v (take n levels) in
         let part = sum_by_more_le (times_in v) levels n [] low in
-        let one = once v in
+        let one = can.once v in
         omega (arith, placed, turned, part, one)
 
     -- the lowest one, in the track that is all filler
     nothing_shown : shown c k ≡ []
-    nothing_shown = on_side k empty
+    nothing_shown = on_side k can.empty
       where
         on_side : (j : Track) → stack_of c j ≡ [] ∷ [] → shown c j ≡ []
         on_side User is = ap topmost is
@@ -188,11 +187,11 @@ module _ (c : Columns) (k : Track) (levels : Levels) where
     pub lowest_once : (v : ℕ) → times_placed v c + times_in v (get_or levels 0 []) ≤ 1
     lowest_once v =
         let part = get_or-le-sum_by (times_in v) levels 0 [] some_levels in
-        let one = once v in
+        let one = can.once v in
         omega (arith, part, one)
 
     pub lowest_built : with_shown c k (shown c k ++ get_or levels 0 []) ≡ built 1
-    lowest_built = ap (λ (t : List Entry). with_shown c k (t ++ get_or levels 0 [])) nothing_shown ∙ on_side k empty
+    lowest_built = ap (λ (t : List Entry). with_shown c k (t ++ get_or levels 0 [])) nothing_shown ∙ on_side k can.empty
         ∙ ap (with_stack c k) (reversed_more 0 some_levels)
       where
         on_side : (j : Track) → stack_of c j ≡ [] ∷ [] → with_shown c j (get_or levels 0 [])

@@ -8,24 +8,23 @@ use Rattle.viewer_tracks.specs.declared.display.Track.{Track}
 use Rattle.viewer_tracks.specs.declared.display.Track.TheVariants.{User, System}
 use Rattle.viewer_tracks.specs.Viewers.{Entry}
 use Rattle.viewer_tracks.specs.Columns.{stack_of, track_on}
-use Rattle.std.specs.Prelude.{slice_get, All, reverse}
-use Rattle.std.specs.Map.{values_of}
+use Rattle.std.specs.Prelude.{slice_get, reverse}
 use Rattle.std.proofs.Math.Seq.{drop-cons}
 use Rattle.std.proofs.lemmas.Option.{slice_get_within, get_or_from_slice_get}
 use Rattle.desktop_definitions.specs.Limits.{newest_version}
-use Rattle.desktop_definitions.specs.Looks.{IsLook, AreLooks}
 use Rattle.desktop_definitions.specs.Desktop.{KeptDesktop}
 use Rattle.desktop_definitions.specs.Seen.{seen, seen_text, seen_table}
-use Rattle.desktop_definitions.specs.Sound.{IsKeptWhole, HasLooks}
+use Rattle.desktop_definitions.specs.Sound.{IsKeptWhole}
 use Rattle.desktop_laws.specs.FewLaws.{few_texts}
 use Rattle.desktop_laws.specs.OpeningDone.{kept_viewers}
 use Rattle.desktop_laws.specs.TableLaws.{length_seen}
+use Rattle.desk_core.proofs.ViewLemmas.{few}
 use Rattle.desk_image.specs.declared.limits.TheConstants.{IMAGE_BYTES}
 use Rattle.desk_image.specs.Image.{look_bytes, cell_bytes, optional, listed, text_bytes, file_bytes, pieces_bytes}
 use Rattle.desk_image.specs.Image.{viewers_bytes, stack_bytes, kept_bytes, picture_of, image_of, image_bytes, deepest}
 use Rattle.desk_image.specs.Image.{IsSpellable}
 use Rattle.desk_image.specs.Laws.{RoomLaw}
-use Rattle.desk_imaging.specs.Images.{settings_long, tables_long, display_long}
+use Rattle.desk_imaging.specs.Images.{AreReady, settings_long, tables_long, display_long}
 use Rattle.desk_image.proofs.Counting.{long_image}
 
 -- ---- one element after another
@@ -51,43 +50,11 @@ level_from s below low =
 -- ---- what of a desktop's parts their writers ask for
 
 module _ (d : KeptDesktop) (whole : IsKeptWhole d) where
-  looked : HasLooks (seen [] d)
-  looked = (whole.sound []).shaped.looks
-
-  pub own_look : IsLook d.look
-  unfolding seen
-  own_look = looked.look
-
-  pub texts_look : All AreLooks (values_of (seen_table [] d.texts))
-  unfolding seen
-  texts_look = looked.texts
-
-  pub files_look : All AreLooks (values_of (seen_table [] d.files))
-  unfolding seen
-  files_look = looked.files
-
-  pub copied_look : AreLooks (seen_text [] d.copied)
-  unfolding seen
-  copied_look = looked.copied
-
-  pub deleted_look : AreLooks (seen_text [] d.deleted)
-  unfolding seen
-  deleted_look = looked.deleted
-
   pub short_pattern : length d.pattern < 2 ^ 8
   unfolding seen
   short_pattern = let short : length d.pattern ≤ 31 = (whole.sound []).shaped.pattern in omega (arith, short)
 
-  pub some_viewers : length d.viewers < 2 ^ 16
-  some_viewers = let few = kept_viewers d whole in omega (arith, few)
-
-  -- no column has more tracks than an image can say
-  pub few_levels : (k : Track) → length (stack_of d.columns k) ≤ deepest newest_version
-  unfolding seen
-  few_levels User = (whole.sound []).shaped.places.columns_hold.user.few
-  few_levels System = (whole.sound []).shaped.places.columns_hold.system.few
-
-  pub some_texts : length d.texts < 2 ^ 16
+  some_texts : length d.texts < 2 ^ 16
   unfolding seen
   some_texts =
       let few = few_texts (seen [] d) (whole.sound []).shaped.viewers.numbers (whole.sound []).shown in
@@ -95,12 +62,36 @@ module _ (d : KeptDesktop) (whole : IsKeptWhole d) where
       let viewers = kept_viewers d whole in
       omega (arith, few, same, viewers)
 
-  pub some_files : length d.files < 2 ^ 16
+  some_files : length d.files < 2 ^ 16
   unfolding seen
   some_files =
       let few : length (seen_table [] d.files) ≤ 256 = (whole.sound []).shaped.files.few in
       let same = length_seen (seen_text []) d.files in
       omega (arith, few, same)
+
+  few_levels : (k : Track) → length (stack_of d.columns k) ≤ deepest newest_version
+  unfolding seen
+  few_levels User = (whole.sound []).shaped.places.columns_hold.user.few
+  few_levels System = (whole.sound []).shaped.places.columns_hold.system.few
+
+  pub are_ready : AreReady d
+  unfolding seen
+  are_ready =
+      let shaped = (whole.sound []).shaped in
+      let viewers_few = kept_viewers d whole in
+      record {
+        look = shaped.looks.look;
+        pattern = short_pattern;
+        texts = some_texts;
+        texts_look = shaped.looks.texts;
+        files = some_files;
+        files_look = shaped.looks.files;
+        copied = shaped.looks.copied;
+        deleted = shaped.looks.deleted;
+        viewers = omega (arith, viewers_few);
+        selections = few d whole;
+        levels = few_levels;
+      }
 
 -- ---- the whole image, in three groups
 

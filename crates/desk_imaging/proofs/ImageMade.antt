@@ -1,6 +1,6 @@
 -- The desktop that is drafted of parts that fit and make one holds together, and has these parts.
 use Rattle.std.proofs.Common.{◌≡◌, ℕ, ◌+◌, ◌-◌, ◌<◌, ◌≤◌, ◌∙◌, ◌==◌, ◌||◌, not, Bool, true, false, cond, length}
-use Rattle.std.proofs.Common.{List, [], ◌∷◌, refl, sym, ap, subst, arith, Option, Some, None}
+use Rattle.std.proofs.Common.{◌&&◌, List, [], ◌∷◌, refl, sym, ap, subst, arith, Option, Some, None}
 use Rattle.std.proofs.lemmas.List.Elements.{All-nil, All-cons, All-tail}
 use Rattle.std.specs.Prelude.{All, slice_index, IsTrue, is_some, IfSome, nat_le, option_map, reverse, if◌then◌else◌}
 use Rattle.std.specs.Option.{ForSome}
@@ -195,6 +195,14 @@ module _ (version written : ℕ) (i : Image) (fits : FitsImage version written i
 
 -- ---- the tests
 
+three_parts : (p q r rest : Bool) → (p && (q && (r && rest))) ≡ true
+    → (p ≡ true) × (q ≡ true) × (r ≡ true) × (rest ≡ true)
+three_parts p q r rest is =
+    let first = and_parts p _ is in
+    let second = and_parts q _ first.1 in
+    let third = and_parts r rest second.1 in
+    (first.0, second.0, third.0, third.1)
+
 -- What is_desktop tests.
 record ArePassed (written : ℕ) (i : Image) : Type 0 where
   low : nat_le written most_written ≡ true
@@ -207,12 +215,10 @@ record ArePassed (written : ℕ) (i : Image) : Type 0 where
 passed : (written : ℕ) (i : Image) → is_desktop written i ≡ true → ArePassed written i
 unfolding is_desktop
 passed written i is =
-    let a = and_parts _ _ is in
-    let b = and_parts _ _ a.1 in
+    let a = three_parts _ _ _ _ is in
+    let b = and_parts _ _ a.3 in
     let c = and_parts _ _ b.1 in
-    let d = and_parts _ _ c.1 in
-    let e = and_parts _ _ d.1 in
-    record { low = a.0; placed = b.0; texts = c.0; caret = d.0; selections = e.0; pictured = e.1 }
+    record { low = a.0; placed = a.1; texts = a.2; caret = b.0; selections = c.0; pictured = c.1 }
 
 -- ---- texts
 
@@ -243,19 +249,17 @@ module _ (characters : List ℕ) (texts : Texts (List Piece)) (viewers : List (�
       → IsViewer (seen_table characters texts) viewers v viewer
   unfolding is_framed
   viewer_holds v viewer is =
-      let a = and_parts _ _ is in
-      let b = and_parts _ _ a.1 in
-      let c = and_parts _ _ b.1 in
-      let d = and_parts _ _ c.1 in
+      let texts_are = three_parts _ _ _ _ is in
+      let menus = and_parts _ _ texts_are.3 in
       let apart : (w : ℕ) (other : Viewer) → viewer_in viewers w ≡ Some other
       → (not (other.main == viewer.menu) ≡ true) × ((not (other.menu == viewer.menu) || (w == v)) ≡ true) =
-      λ w other found. and_parts _ _ (found_passes (leaves_menu (v, viewer)) viewers w other d.1 found) in
+      λ w other found. and_parts _ _ (found_passes (leaves_menu (v, viewer)) viewers w other menus.1 found) in
       record {
-        menu = there_seen characters texts viewer.menu a.0;
-        main = there_seen characters texts viewer.main b.0;
-        org = (let low = leb-true viewer.org _ c.0 in let same = long_seen characters texts viewer.main in
+        menu = there_seen characters texts viewer.menu texts_are.0;
+        main = there_seen characters texts viewer.main texts_are.1;
+        org = (let low = leb-true viewer.org _ texts_are.2 in let same = long_seen characters texts viewer.main in
             omega (arith, low, same));
-        not_log = λ log. (let other = eqb-false viewer.menu 0 (is_not _ d.0) in other log);
+        not_log = λ log. (let other = eqb-false viewer.menu 0 (is_not _ menus.0) in other log);
         no_main = λ w other found. eqb-false other.main viewer.menu (is_not _ (apart w other found).0);
         own = λ w other found same. eqb-true w v (own_menu (other.menu == viewer.menu) (w == v)
             (apart w other found).1 (eq-eqb other.menu viewer.menu same));

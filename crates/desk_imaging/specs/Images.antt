@@ -1,20 +1,24 @@
 -- Which desktop has the parts that an image says, and when these make one: what a part has to do with the others.
-use Rattle.std.specs.Prelude.{◌≡◌, ℕ, ◌+◌, ◌==◌, ◌&&◌, ◌||◌, not, Bool, true, false, if◌then◌else◌, nat_lt, nat_le}
-use Rattle.std.specs.Prelude.{List, [], ◌∷◌, length, map, min, reverse, Option, Some, None, is_some, option_map}
+use Rattle.std.specs.Prelude.{◌≡◌, ℕ, ◌+◌, ◌^◌, ◌<◌, ◌≤◌, ◌==◌, ◌&&◌, ◌||◌, not, Bool, true, false, if◌then◌else◌}
+use Rattle.std.specs.Prelude.{nat_lt, nat_le, List, [], ◌∷◌, All, length, map, min, reverse, Option, Some, None, is_some}
+use Rattle.std.specs.Prelude.{option_map}
 use Rattle.std.specs.Option.{option_or}
 use Rattle.std.specs.List.{list_all, list_any, filter_map, range_with_len}
-use Rattle.std.specs.Map.{keys_of}
+use Rattle.std.specs.Map.{keys_of, values_of}
 use Rattle.piece_ring.specs.declared.piece.Piece.{Piece}
 use Rattle.piece_ring.specs.Flat.{flat}
 use Rattle.event_bytes.specs.Parts.{byte, word, counted}
 use Rattle.viewer_tracks.specs.Viewers.{Entry, times_in}
+use Rattle.viewer_tracks.specs.declared.display.Track.{Track}
 use Rattle.viewer_tracks.specs.declared.display.Track.TheVariants.{User, System}
-use Rattle.viewer_tracks.specs.Columns.{stack_of, topmost, times_on, times_meant}
+use Rattle.viewer_tracks.specs.Columns.{Columns, IsStack, stack_of, topmost, times_on, times_placed, times_meant}
 use Rattle.desktop_definitions.specs.declared.viewer.Viewer.{Viewer}
 use Rattle.desktop_definitions.specs.declared.viewer.Caret.{Caret}
 use Rattle.desktop_definitions.specs.declared.viewer.Selection.{Selection}
 use Rattle.desktop_definitions.specs.declared.viewer.Kept.{Kept}
 use Rattle.desktop_definitions.specs.Limits.{newest_version, most_written}
+use Rattle.desktop_definitions.specs.Looks.{IsLook, AreLooks}
+use Rattle.desktop_definitions.specs.Seen.{seen_text, seen_table}
 use Rattle.desktop_definitions.specs.Tables.{Texts, numbered}
 use Rattle.desktop_definitions.specs.Desktop.{KeptDesktop}
 use Rattle.desktop_definitions.specs.Viewers.{text_in, viewer_or_none}
@@ -23,7 +27,23 @@ use Rattle.desk_image.specs.declared.picture.Ranked.{Ranked}
 use Rattle.desk_image.specs.declared.picture.ViewerPicture.{ViewerPicture}
 use Rattle.desk_image.specs.Image.{Image, caret_in, ranked_in, image_of, picture_of, listed, optional}
 use Rattle.desk_image.specs.Image.{look_bytes, cell_bytes, kept_bytes, text_bytes, file_bytes, pieces_bytes}
-use Rattle.desk_image.specs.Image.{viewers_bytes, stack_bytes}
+use Rattle.desk_image.specs.Image.{viewers_bytes, stack_bytes, deepest}
+
+-- ---- what the writers of an image ask of a desktop's parts
+
+pub record AreReady (d : KeptDesktop) : Type 0 where
+  pub look : IsLook d.look
+  pub pattern : length d.pattern < 2 ^ 8
+  pub texts : length d.texts < 2 ^ 16
+  pub texts_look : All AreLooks (values_of (seen_table [] d.texts))
+  pub files : length d.files < 2 ^ 16
+  pub files_look : All AreLooks (values_of (seen_table [] d.files))
+  pub copied : AreLooks (seen_text [] d.copied)
+  pub deleted : AreLooks (seen_text [] d.deleted)
+  pub viewers : length d.viewers < 2 ^ 16
+  pub selections : length d.selections ≤ 255
+  -- no column has more tracks than an image can say
+  pub levels : (k : Track) → length (stack_of d.columns k) ≤ deepest newest_version
 
 -- ---- how many bytes an image of the newest version has, in three groups of its parts
 
@@ -133,6 +153,12 @@ Levels = List (List Entry)
 
 abbrev pub times_tracked : Levels → Levels → ℕ → ℕ
 times_tracked user system v = times_on v user + times_on v system
+
+-- A column that has no viewer, and tracks that may be put into it, from the lowest up.
+pub record CanBuild (c : Columns) (k : Track) (levels : Levels) : Type 0 where
+  pub empty : stack_of c k ≡ [] ∷ []
+  pub stack : IsStack (reverse levels)
+  pub once : (v : ℕ) → times_placed v c + times_on v levels ≤ 1
 
 abbrev pub has_id : List (ℕ × Viewer) → ℕ → Bool
 has_id viewers v = list_any (λ e. e.0 == v) viewers

@@ -1,13 +1,14 @@
 //! From the parts of an image to what a desktop keeps of its viewers, and what is marked in them.
-ghost use Rattle.std.specs.Prelude.{◌≡◌, ◌+◌, ◌<◌, ◌≤◌, ◌∷◌, ◌++◌, ℕ, [], length, map, reverse, IfOk, OnOk};
+ghost use Rattle.std.specs.Prelude.{◌≡◌, ◌+◌, ◌<◌, ◌≤◌, ◌∷◌, ◌++◌, ℕ, [], length, get_or, map, reverse};
+ghost use Rattle.std.specs.Prelude.{IfOk, OnOk};
 ghost use Rattle.std.specs.Option.{option_to_list};
 ghost use Rattle.viewer_tracks.specs.declared.display.TheConstants.{DEPTH, ROWS};
 ghost use Rattle.viewer_tracks.specs.Viewers.{IsTrack, bottom_of, times_in};
 ghost use Rattle.viewer_tracks.specs.Columns.{IsColumns, IsPlaced, IsStack, shown, stack_of, with_shown, with_stack};
-ghost use Rattle.viewer_tracks.specs.Columns.{times_on, times_placed};
+ghost use Rattle.viewer_tracks.specs.Columns.{times_placed};
 ghost use Rattle.desk_image.specs.Pictures.{entry_of, stack_of as levels_of};
 ghost use Rattle.desk_imaging.specs.Images.{viewers_of, caret_of, selected_at, selected_as, selections_of};
-ghost use Rattle.desk_imaging.specs.Images.{most_ranks, times_tracked};
+ghost use Rattle.desk_imaging.specs.Images.{most_ranks, times_tracked, CanBuild};
 
 use desk_core::stop::NoMemory;
 use desk_core::viewers::ViewerTable;
@@ -128,8 +129,7 @@ fn lay_lowest(tracks: &mut Tracks, lowest: Stretch, track: Track)
     requires sound { IsColumns tracks.old }
     requires fresh { ¬ IsPlaced lowest.viewer tracks.old }
     requires room { length (stack_of tracks.old track) < DEPTH }
-    requires some { 0 < lowest.height }
-    requires within { lowest.height ≤ ROWS }
+    requires fits { (0 < lowest.height) × (lowest.height ≤ ROWS) }
     ensures laid { tracks.new ≡ with_stack tracks.old track ((entry_of lowest ∷ []) ∷ stack_of tracks.old track) }
     ensures sound { IsColumns tracks.new }
 {
@@ -154,18 +154,25 @@ fn lay(tracks: &mut Tracks, stretches: &[Stretch], track: Track)
     pile(tracks, above, track, lowest.height);
 }
 
+/// The viewers of the track of a level, bottom up. The lowest track has level 0.
+fn on_level(stack: &[Stretches], level: usize) -> &[Stretch]
+    requires { level < length stack.now }
+    ensures viewers { map entry_of result.now ≡ get_or (levels_of stack.now) level [] }
+    ensures within { level < length (levels_of stack.now) }
+{
+    stack[level].as_slice()
+}
+
 /// Puts the tracks of a column, from the lowest up, into one that has no viewer.
 fn build(tracks: &mut Tracks, stack: &[Stretches], track: Track)
     requires sound { IsColumns tracks.old }
-    requires empty { stack_of tracks.old track ≡ [] ∷ [] }
-    requires stack { IsStack (reverse (levels_of stack.now)) }
-    requires once { (v : ℕ) → times_placed v tracks.old + times_on v (levels_of stack.now) ≤ 1 }
+    requires can { CanBuild tracks.old track (levels_of stack.now) }
     ensures built { tracks.new ≡ with_stack tracks.old track (reverse (levels_of stack.now)) }
     ensures sound { IsColumns tracks.new }
 {
-    pile(tracks, stack[0].as_slice(), track, 0);
+    pile(tracks, on_level(stack, 0), track, 0);
     for level in 1..stack.len() {
-        lay(tracks, stack[level].as_slice(), track);
+        lay(tracks, on_level(stack, level), track);
     }
 }
 

@@ -14,6 +14,7 @@ ghost use Rattle.desk_image.specs.Image.{pieces_bytes, viewers_bytes, track_byte
 ghost use Rattle.desk_image.specs.Image.{look_bytes, cell_bytes, kept_bytes, optional};
 ghost use Rattle.desk_image.specs.Image.{InWord, AreSome, IsSpellable};
 ghost use Rattle.desk_core.specs.Kept.{kept};
+ghost use Rattle.desk_imaging.specs.Images.{AreReady};
 
 use crate::image_size::image_len;
 use char_file::Fault;
@@ -256,7 +257,7 @@ fn put_settings<K: ByteSink>(desk: &Desk, sink: &mut K) -> Result<(), Fault>
 
 /// Puts the texts, the files and both buffers. Once they were put no piece was empty.
 fn put_tables<K: ByteSink>(desk: &Desk, sink: &mut K) -> Result<(), Fault>
-    requires { IsKeptWhole (kept desk.now) }
+    requires { AreReady (kept desk.now) }
     ensures puts { Puts K.ByteSink result (listed word text_bytes (kept desk.now).texts
         ++ (listed word file_bytes (kept desk.now).files ++ (pieces_bytes (kept desk.now).copied
         ++ pieces_bytes (kept desk.now).deleted))) sink.old sink.new }
@@ -291,7 +292,7 @@ fn put_display<K: ByteSink>(desk: &Desk, sink: &mut K) -> Result<(), Fault>
 
 /// Puts the parts of the image, one after another.
 fn put_parts<K: ByteSink>(desk: &Desk, sink: &mut K) -> Result<(), Fault>
-    requires { IsKeptWhole (kept desk.now) }
+    requires { AreReady (kept desk.now) }
     ensures puts { Puts K.ByteSink result (image_bytes newest_version (image_of (kept desk.now))) sink.old sink.new }
     ensures spellable { OnOk result (IsSpellable newest_version (kept desk.now)) }
 {

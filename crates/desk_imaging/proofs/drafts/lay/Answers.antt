@@ -25,19 +25,12 @@ lay_lowest-requires-clause-fresh c =
     first_fresh t (entry_of s) (map entry_of above)
     (once_in (λ v. times_placed v t) c.args.stretches.now s above c.in-Some.ensures.cases.0 c.requires.once s.viewer)
 
-pub lay_lowest-requires-clause-some : goal.lay_lowest-requires-clause-some
-lay_lowest-requires-clause-some c =
+pub lay_lowest-requires-clause-fits : goal.lay_lowest-requires-clause-fits
+lay_lowest-requires-clause-fits c =
     let s = c.in-Some.lowest.now in
     let above = c.in-Some.above.now in
-    (first_fits (entry_of s) (map entry_of above)
-    (heights_in c.args.stretches.now s above c.in-Some.ensures.cases.0 c.requires.heights)).0
-
-pub lay_lowest-requires-clause-within : goal.lay_lowest-requires-clause-within
-lay_lowest-requires-clause-within c =
-    let s = c.in-Some.lowest.now in
-    let above = c.in-Some.above.now in
-    (first_fits (entry_of s) (map entry_of above)
-    (heights_in c.args.stretches.now s above c.in-Some.ensures.cases.0 c.requires.heights)).1
+    first_fits (entry_of s) (map entry_of above)
+    (heights_in c.args.stretches.now s above c.in-Some.ensures.cases.0 c.requires.heights)
 
 pub pile-requires-clause-heights : goal.pile-requires-clause-heights
 pile-requires-clause-heights c =

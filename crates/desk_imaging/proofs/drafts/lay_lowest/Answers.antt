@@ -17,4 +17,4 @@ returns-clause-laid c =
     let h = c.args.lowest.height in
     c.change.ensures.changed
     ∙ ap (λ x. after_change x v h) (c.open_track.ensures.opened ∙ ap (after_open_track t v) c.left.ensures)
-    ∙ lowered t c.args.track v h c.requires.sound c.requires.fresh c.requires.room c.requires.some c.requires.within
+    ∙ lowered t c.args.track v h c.requires.sound c.requires.fresh c.requires.room c.requires.fits.0 c.requires.fits.1
