@@ -1,8 +1,8 @@
 -- What an opening counts, and where its viewer comes into the table.
 use Rattle.std.proofs.Common.{◌≡◌, ℕ, suc, ◌+◌, ◌≤◌, Bool, true, false, cond, not, ◌==◌, nat_lt, List, []}
 use Rattle.std.proofs.Common.{◌∷◌}
-use Rattle.std.proofs.Common.{length, Option, Some, None, refl, ap, subst, ◌∙◌, arith, ⊎_elim, ◌||◌}
-use Rattle.std.specs.Prelude.{insert, if◌then◌else◌}
+use Rattle.std.proofs.Common.{length, Option, Some, None, refl, ap, sym, subst, ◌∙◌, arith, ⊎_elim, ◌||◌}
+use Rattle.std.specs.Prelude.{insert, if◌then◌else◌, IsSome}
 use Rattle.std.specs.List.{position_or_len}
 use Rattle.std.specs.Map.{lookup}
 use Rattle.std.specs.Ordering.{nat_cmp, match_ordering, is_eq}
@@ -12,17 +12,21 @@ use Rattle.std.proofs.lemmas.Bool.{cases_lt, ne_eqb}
 use Rattle.std.proofs.lemmas.List.Sums.{sum_by-cons}
 use Rattle.piece_ring.specs.declared.piece.Piece.{Piece}
 use Rattle.piece_ring.specs.Flat.{flat}
-use Rattle.viewer_tracks.specs.Columns.{Columns, IsPlaced, times_placed, times_meant}
+use Rattle.viewer_tracks.specs.Columns.{Columns, IsOnTop, IsPlaced, times_placed, times_meant}
 use Rattle.desktop_definitions.specs.declared.viewer.Viewer.{Viewer}
-use Rattle.desktop_definitions.specs.Tables.{Texts, lengths}
+use Rattle.desktop_definitions.specs.declared.reply.Reply.{Reply}
+use Rattle.desktop_definitions.specs.Tables.{Texts, lengths, numbered}
 use Rattle.desktop_laws.specs.TableLaws.{lengths_seen, length_seen_text}
-use Rattle.desktop_definitions.specs.Desktop.{KeptDesktop, held}
-use Rattle.desktop_definitions.specs.Opening.{new_id, with_viewer, dropped}
+use Rattle.desktop_definitions.specs.Desktop.{Desktop, KeptDesktop, held}
+use Rattle.desktop_definitions.specs.Opening.{new_id, new_number, with_new, with_viewer, opening, opening_on, dropped}
+use Rattle.desktop_definitions.specs.Outcome.{IsAnswered}
 use Rattle.desktop_definitions.specs.Seen.{seen, seen_table}
 use Rattle.desktop_definitions.specs.Sound.{IsKeptWhole}
-use Rattle.desktop_laws.specs.OpeningDone.{CanOpen}
+use Rattle.desktop_laws.specs.OpeningDone.{CanOpen, opened_desk, written_opened}
+use Rattle.desktop_laws.specs.PlaceLaws.{on_top_placed}
+use Rattle.desk_core.proofs.ViewLemmas.{menu_there}
 use Rattle.desktop_laws.specs.LeftLaws.{kept_left, still_shown, held_left, left_fewer}
-use Rattle.desktop_definitions.specs.Viewers.{without_viewer}
+use Rattle.desktop_definitions.specs.Viewers.{without_viewer, viewer_or_none}
 use Rattle.desktop_definitions.specs.Limits.{most_held}
 
 -- ---- a loop that counts
@@ -115,3 +119,31 @@ no_name name is = cc
 
 pub same_name : (name other : List ℕ) → Some name ≡ Some other → name ≡ other
 same_name name other is = cc
+
+-- ---- what an opening leaves
+
+-- what is answered of a desktop is answered of one that equals it
+pub answered_there : {H : Type 0} {old new : List ℕ} {d x y : KeptDesktop} {outcome : Desktop × Reply} {reply : Reply}
+    → y ≡ x → IsAnswered H old new d x outcome reply → IsAnswered H old new d y outcome reply
+answered_there {H = H} {old = old} {new = new} {d = d} {outcome = outcome} {reply = reply} is =
+    subst (λ (z : KeptDesktop). IsAnswered H old new d z outcome reply) (sym is)
+
+-- a new viewer on a new text, and the characters of its menu counted
+pub opened_counted : (d after : KeptDesktop) (texts : Texts (List Piece)) (number : ℕ) (menu main : List Piece)
+    (cell : ℕ × ℕ) (n : ℕ) → texts ≡ with_new d.texts main → number ≡ new_number d
+    → after ≡ dropped (opening_on (record d { texts = texts }) menu number 0 cell)
+    → record after { written = after.written + n } ≡ record (dropped (opening d menu main cell)) {
+      written = d.written + n;
+    }
+opened_counted d after texts number menu main cell n texts_is number_is is =
+    let opened = opened_desk d after texts number menu main cell texts_is number_is is in
+    let written : after.written ≡ d.written
+    = ap (λ (x : KeptDesktop). x.written) opened ∙ written_opened d menu main cell in
+    λ k. record (opened k) { written = written k + n }
+
+-- the menu of a viewer that is shown is there
+pub menu_stands : (d : KeptDesktop) → IsKeptWhole d → (v : ℕ) → IsOnTop v d.columns → {viewer : Viewer}
+    → viewer ≡ viewer_or_none d.viewers v → IsSome (numbered d.texts viewer.menu)
+menu_stands d whole v placed is =
+    subst (λ (x : Viewer). IsSome (numbered d.texts x.menu)) (sym is)
+    (menu_there d whole v (on_top_placed d.columns v placed))

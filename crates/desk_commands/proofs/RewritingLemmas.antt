@@ -210,3 +210,26 @@ module _ {K : Type 0} {e : K × List Piece} {left later : List (K × List Piece)
       reads = read_on s.characters s.failures s.honest s.same_ground through old now after were.reads one.reads;
       calm = one.calm ∙ were.calm;
     }
+
+  -- The same by what is known of that text, where it was put into the table by its key.
+  pub put_further : {S : Type 0} (s : Ghosts S) (through : (a b c : S) → s.same_ground a b → s.same_ground b c
+      → s.same_ground a c) {all new table : List (K × List Piece)} {front made made' : List ℕ} {old now after : S}
+      {cmp : K → K → Ordering} {k : K} (moved : List Piece)
+      → IsTotalOrder cmp → IsStrictlySortedBy cmp (keys_of all) → ArePut s all left new front made old now
+      → flat moved ≡ laid (length made) (flat e.1)
+      → (s.honest now → made' ≡ made ++ bytes (s.characters now) (flat e.1))
+      → length made' ≡ length made + length (flat e.1)
+      → OnlyReads s.characters s.failures s.honest s.same_ground now after → s.failures after ≡ s.failures now
+      → k ≡ e.0 → table ≡ insert_entry cmp new k moved
+      → ArePut s all later table front made' old after
+  put_further s through {all = all} {new = new} {front = front} {made = made} {made' = made'} {old = old} {now = now}
+      {after = after} {cmp = cmp} moved order sorted were moves read longer reads calm same is =
+      subst (λ (table : List (K × List Piece)). ArePut s all later table front made' old after)
+      (sym (is ∙ ap (λ (k : K). insert_entry cmp new k moved) same ∙ put_last order new moved sorted were.keys))
+      (put_on s through all new front made made' moved old now after were (record {
+        moves = moves;
+        read = read;
+        longer = longer;
+        reads = reads;
+        calm = calm;
+      }))

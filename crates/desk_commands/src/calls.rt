@@ -1,26 +1,20 @@
 //! Calls of commands: the word that is called, and what stands after it.
 ghost use Rattle.std.specs.Prelude.{◌≡◌, ◌≤◌, length, IfOk, IfErr, IfSome, MatchResult, option_map};
-ghost use Rattle.sector_disk.specs.Trail.{CountsFault};
 ghost use Rattle.sector_disk.specs.Faults.{OneOf};
-ghost use Rattle.char_file.specs.Source.{OnlyReads};
-ghost use Rattle.piece_ring.specs.Flat.{flat};
 ghost use Rattle.readers_scanners.specs.Symbol.{IsShaped};
-ghost use Rattle.viewer_tracks.specs.Columns.{IsOnTop};
 ghost use Rattle.command_table.specs.Parameters.{place_of, text_of, listed, first_names};
 ghost use Rattle.desktop_definitions.specs.Limits.{no_viewer};
 ghost use Rattle.command_table.specs.Versions.{version_number};
-ghost use Rattle.desktop_definitions.specs.Needs.{needs, given};
-ghost use Rattle.desktop_definitions.specs.Call.{text_called, seen_at_marker, meant, number_in};
-ghost use Rattle.desktop_definitions.specs.Call.{value_of, name_of, number_of, names_of};
+ghost use Rattle.desktop_definitions.specs.Needs.{given};
+ghost use Rattle.desktop_definitions.specs.Call.{text_called, seen_at_marker, meant, number_in, value_of, name_of};
+ghost use Rattle.desktop_definitions.specs.Call.{number_of, names_of};
 ghost use Rattle.desktop_laws.specs.CallLaws.{kept_place, kept_menu};
 ghost use Rattle.desktop_definitions.specs.Commands.{commanded, called};
 ghost use Rattle.desktop_definitions.specs.Effects.{files_deleted};
-ghost use Rattle.desktop_definitions.specs.Seen.{seen};
-ghost use Rattle.desktop_definitions.specs.Sound.{IsKeptWhole, IsOver};
 ghost use Rattle.desktop_definitions.specs.Outcome.{reply_codes as known_codes};
-ghost use Rattle.desk_core.specs.Kept.{kept};
-ghost use Rattle.desk_core.specs.Row.{Settles, Uses};
 ghost use Rattle.desk_commands.specs.Calls.{IsCall, done_with_name, done_with_number, done_with_viewer};
+ghost use Rattle.desk_core.specs.Words.{CountsFault, OnlyReads, flat, IsOnTop, needs, seen, IsKeptWhole, IsOver, kept};
+ghost use Rattle.desk_core.specs.Words.{Settles, Uses};
 
 use crate::closings::{close_viewer, recall_viewer};
 use crate::collecting::collect;
@@ -33,7 +27,7 @@ use arrayvec::ArrayVec;
 use char_file::{CharSource, Fault};
 use command_table::{Command, MOST_NAMES, Version, called, name_in, names, params};
 use desk_core::desk::Desk;
-use desk_core::stop::Stop;
+use desk_core::stop::Answer;
 use desk_core::viewers::viewer_or_none;
 use desk_core::views::text_there;
 use desktop_definitions::{Call, Reply, codes};
@@ -103,7 +97,7 @@ pub fn call<S: CharSource>(
     in_menu: bool,
     pos: u32,
     source: &mut S,
-) -> Result<Reply, Stop>
+) -> Answer
     requires placed { IsOnTop id (kept desk.old).columns }
     requires place { pos ≤ length (flat (text_called (kept desk.old) id in_menu)) }
     requires over { IsOver (S.characters source.old) (kept desk.old) }
@@ -131,7 +125,7 @@ fn do_command<S: CharSource>(
     command: Command,
     call: Call,
     source: &mut S,
-) -> Result<Reply, Stop>
+) -> Answer
     requires call { IsCall (kept desk.old) call }
     requires over { IsOver (S.characters source.old) (kept desk.old) }
     ensures answered { IfOk result (Settles S.CharSource (λ d. commanded d command call)
@@ -223,7 +217,7 @@ fn command_with_name<S: CharSource>(
     command: NameCommand,
     call: Call,
     source: &mut S,
-) -> Result<Reply, Stop>
+) -> Answer
     requires call { IsCall (kept desk.old) call }
     requires over { IsOver (S.characters source.old) (kept desk.old) }
     ensures answered { IfOk result (Settles S.CharSource (λ d. given (name_of d call) (done_with_name d command))
@@ -244,7 +238,7 @@ fn do_with_name<S: CharSource>(
     command: NameCommand,
     name: &Name,
     source: &mut S,
-) -> Result<Reply, Stop>
+) -> Answer
     requires over { IsOver (S.characters source.old) (kept desk.old) }
     ensures answered { IfOk result (Settles S.CharSource (λ d. done_with_name d command name.now)
         source.old source.new (kept desk.old) (kept desk.new)) }
@@ -265,7 +259,7 @@ fn command_with_number<S: CharSource>(
     command: NumberCommand,
     call: Call,
     source: &mut S,
-) -> Result<Reply, Stop>
+) -> Answer
     requires call { IsCall (kept desk.old) call }
     requires over { IsOver (S.characters source.old) (kept desk.old) }
     ensures answered { IfOk result (Settles S.CharSource
@@ -287,7 +281,7 @@ fn do_with_number<S: CharSource>(
     command: NumberCommand,
     number: i32,
     source: &mut S,
-) -> Result<Reply, Stop>
+) -> Answer
     requires over { IsOver (S.characters source.old) (kept desk.old) }
     ensures answered { IfOk result (Settles S.CharSource (λ d. done_with_number d command number)
         source.old source.new (kept desk.old) (kept desk.new)) }
@@ -308,7 +302,7 @@ fn command_with_viewer<S: CharSource>(
     command: ViewerCommand,
     call: Call,
     source: &mut S,
-) -> Result<Reply, Stop>
+) -> Answer
     requires call { IsCall (kept desk.old) call }
     requires over { IsOver (S.characters source.old) (kept desk.old) }
     ensures answered { IfOk result (Settles S.CharSource
@@ -330,7 +324,7 @@ fn do_with_viewer<S: CharSource>(
     command: ViewerCommand,
     id: u16,
     source: &mut S,
-) -> Result<Reply, Stop>
+) -> Answer
     requires placed { IsOnTop id (kept desk.old).columns }
     requires over { IsOver (S.characters source.old) (kept desk.old) }
     ensures answered { IfOk result (Settles S.CharSource (λ d. done_with_viewer d command id)
@@ -353,7 +347,7 @@ fn delete_named_files<S: CharSource>(
     alloc: Global,
     call: Call,
     source: &mut S,
-) -> Result<Reply, Stop>
+) -> Answer
     requires call { IsCall (kept desk.old) call }
     requires over { IsOver (S.characters source.old) (kept desk.old) }
     ensures answered { IfOk result (Settles S.CharSource (λ d. given (names_of d call) (files_deleted d))

@@ -1,20 +1,16 @@
 //! Viewers close, and the one that was closed last opens again.
 ghost use Rattle.std.specs.Prelude.{◌≡◌, IfOk, Ok, option_map};
 ghost use Rattle.viewer_tracks.specs.declared.display.Track.{Track as ATrack};
-ghost use Rattle.viewer_tracks.specs.Columns.{IsOnTop};
 ghost use Rattle.viewer_tracks.specs.Display.{left_of};
-ghost use Rattle.viewer_tracks.specs.Viewers.{id_number};
 ghost use Rattle.desktop_definitions.specs.Limits.{no_viewer};
-ghost use Rattle.desktop_definitions.specs.Needs.{needs};
 ghost use Rattle.desktop_definitions.specs.Effects.{put_away, brought_back};
-ghost use Rattle.desktop_definitions.specs.Sound.{IsKeptPlace, IsOver};
+ghost use Rattle.desktop_definitions.specs.Sound.{IsKeptPlace};
 ghost use Rattle.desktop_laws.specs.ClosingLaws.{place_kept};
-ghost use Rattle.desk_core.specs.Kept.{kept};
-ghost use Rattle.desk_core.specs.Row.{Settles, Uses};
+ghost use Rattle.desk_core.specs.Words.{IsOnTop, id_number, needs, IsOver, kept, Settles, Uses};
 
 use char_file::CharSource;
 use desk_core::desk::Desk;
-use desk_core::stop::Stop;
+use desk_core::stop::Answer;
 use desktop_definitions::{Kept, Reply, codes};
 use viewer_tracks::{SYSTEM_LEFT, Track, ViewerId, edits_keep_columns, edits_place_viewers};
 
@@ -38,7 +34,7 @@ fn viewer_kept(kept: Option<Kept>) -> Option<ViewerId>
 
 /// A viewer goes from the display with what is marked in it, and is kept with its place. The one that was kept
 /// before is gone, with the texts that nobody else shows.
-pub fn close_viewer<S: CharSource>(desk: &mut Desk, id: u16, source: &mut S) -> Result<Reply, Stop>
+pub fn close_viewer<S: CharSource>(desk: &mut Desk, id: u16, source: &mut S) -> Answer
     requires placed { IsOnTop id (kept desk.old).columns }
     requires over { IsOver (S.characters source.old) (kept desk.old) }
     ensures answered { IfOk result (Settles S.CharSource (λ d. Ok (put_away d id))
@@ -71,7 +67,7 @@ fn place_kept(desk: &Desk, id: u16) -> Kept
 
 /// The viewer that is kept opens in its track, up to the row where it ended. One whose whole place it takes is
 /// gone, with the texts that nobody else shows. Refused where none is kept.
-pub fn recall_viewer<S: CharSource>(desk: &mut Desk, source: &mut S) -> Result<Reply, Stop>
+pub fn recall_viewer<S: CharSource>(desk: &mut Desk, source: &mut S) -> Answer
     requires over { IsOver (S.characters source.old) (kept desk.old) }
     ensures answered { IfOk result (Settles S.CharSource
         (λ d. needs d.kept no_viewer λ k. Ok (brought_back d k))

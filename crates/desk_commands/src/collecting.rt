@@ -1,19 +1,14 @@
 //! The command that gives up the characters that no text has any more.
 ghost use Rattle.std.specs.Prelude.{IfOk, Ok};
-ghost use Rattle.sector_disk.specs.Faults.{FailsAs};
-ghost use Rattle.char_file.specs.Source.{OnlyReads};
 ghost use Rattle.desktop_definitions.specs.Effects.{collected};
-ghost use Rattle.desktop_definitions.specs.Sound.{IsOver};
 ghost use Rattle.desktop_laws.specs.Rewriting.{IsRewritten};
-ghost use Rattle.desk_core.specs.Kept.{kept};
-ghost use Rattle.desk_core.specs.Row.{Settles, Uses};
-ghost use Rattle.desk_core.specs.Stops.{IsStop};
+ghost use Rattle.desk_core.specs.Words.{FailsAs, OnlyReads, IsOver, kept, Settles, Uses, IsStop};
 
 use crate::rewriting::{put_buffer, put_files, put_texts};
 use char_file::CharSource;
 use desk_core::desk::Desk;
 use desk_core::files::Files;
-use desk_core::stop::Stop;
+use desk_core::stop::{Answer, Stop};
 use desktop_definitions::Reply;
 use std::alloc::Global;
 use std::collections::BTreeMap;
@@ -56,7 +51,7 @@ fn rewritten<S: CharSource>(desk: &Desk, alloc: Global, source: &mut S) -> Resul
 /// The characters are given up that no text, file or buffer has: all others are written anew, and are the only ones
 /// that count as written. It is never refused. NoMemory where an allocation is refused, Fault where a character could
 /// not be read.
-pub fn collect<S: CharSource>(desk: &mut Desk, alloc: Global, source: &mut S) -> Result<Reply, Stop>
+pub fn collect<S: CharSource>(desk: &mut Desk, alloc: Global, source: &mut S) -> Answer
     requires { IsOver (S.characters source.old) (kept desk.old) }
     ensures answered { IfOk result (Settles S.CharSource (λ d. Ok (collected d))
         source.old source.new (kept desk.old) (kept desk.new)) }

@@ -1,26 +1,19 @@
 //! Viewers open on files, on the log, and on the text of another viewer.
 ghost use Rattle.std.specs.Prelude.{◌≡◌, ◌<◌, ◌≤◌, ◌+◌, ℕ, List, [], length, codes, true, IfOk, Ok};
 ghost use Rattle.std.specs.Option.{unwrap_or};
-ghost use Rattle.piece_ring.specs.Flat.{flat};
-ghost use Rattle.piece_ring.specs.Offsets.{AreWithin};
-ghost use Rattle.piece_ring.specs.Text.{Text as AText};
-ghost use Rattle.viewer_tracks.specs.declared.display.TheConstants.{ROWS, COLUMNS};
-ghost use Rattle.viewer_tracks.specs.Columns.{IsOnTop, allocated};
-ghost use Rattle.desktop_definitions.specs.Limits.{most_written};
+ghost use Rattle.viewer_tracks.specs.Columns.{allocated};
 ghost use Rattle.desktop_definitions.specs.Looks.{AreLooks};
 ghost use Rattle.desktop_definitions.specs.Tables.{named};
 ghost use Rattle.desktop_definitions.specs.Desktop.{file_of};
 ghost use Rattle.desktop_definitions.specs.Change.{plain, more_written};
-ghost use Rattle.desktop_definitions.specs.Opening.{menu_line, opening, dropped};
+ghost use Rattle.desktop_definitions.specs.Opening.{menu_line, opening};
 ghost use Rattle.desktop_definitions.specs.Effects.{opened_on_copy, document_opened, file_opened, log_opened};
 ghost use Rattle.desktop_definitions.specs.Effects.{viewer_copied, viewer_grown};
 ghost use Rattle.desktop_definitions.specs.Gesture.{tool_opened};
-ghost use Rattle.desktop_definitions.specs.Seen.{seen, seen_text};
 ghost use Rattle.desktop_definitions.specs.Step.{fits};
-ghost use Rattle.desktop_definitions.specs.Sound.{IsKeptWhole, IsOver};
 ghost use Rattle.desktop_laws.specs.OpeningOnLaws.{IsPlaceOf};
-ghost use Rattle.desk_core.specs.Kept.{kept};
-ghost use Rattle.desk_core.specs.Row.{Settles, SettlesBringing, Uses};
+ghost use Rattle.desk_core.specs.Words.{flat, AreWithin, Text as AText, ROWS, COLUMNS, IsOnTop, most_written, dropped};
+ghost use Rattle.desk_core.specs.Words.{seen, seen_text, IsKeptWhole, IsOver, kept, Settles, SettlesBringing, Uses};
 
 use crate::closings::track_from;
 use crate::openings::{
@@ -30,7 +23,7 @@ use arrayvec::ArrayVec;
 use char_file::CharSource;
 use desk_core::desk::Desk;
 use desk_core::files::{Files, file_of};
-use desk_core::stop::{NoMemory, Stop};
+use desk_core::stop::{Answer, NoMemory};
 use desk_core::viewers::viewer_or_none;
 use desk_core::views::text_there;
 use desktop_definitions::{Reply, codes};
@@ -96,7 +89,7 @@ pub fn open_document<S: CharSource>(
     alloc: Global,
     name: &Name,
     source: &mut S,
-) -> Result<Reply, Stop>
+) -> Answer
     requires over { IsOver (S.characters source.old) (kept desk.old) }
     ensures answered { IfOk result (Settles S.CharSource (λ d. Ok (document_opened d name.now))
         source.old source.new (kept desk.old) (kept desk.new)) }
@@ -112,7 +105,7 @@ pub fn open_file<S: CharSource>(
     alloc: Global,
     name: &Name,
     source: &mut S,
-) -> Result<Reply, Stop>
+) -> Answer
     requires over { IsOver (S.characters source.old) (kept desk.old) }
     ensures answered { IfOk result (Settles S.CharSource (λ d. file_opened d name.now)
         source.old source.new (kept desk.old) (kept desk.new)) }
@@ -132,7 +125,7 @@ pub fn open_tool<S: CharSource>(
     x: u8,
     y: u8,
     source: &mut S,
-) -> Result<Reply, Stop>
+) -> Answer
     requires column { x < COLUMNS }
     requires row { y < ROWS }
     requires over { IsOver (S.characters source.old) (kept desk.old) }
@@ -160,7 +153,7 @@ fn open_named<S: CharSource>(
     x: u8,
     y: u8,
     source: &mut S,
-) -> Result<Reply, Stop>
+) -> Answer
     requires column { x < COLUMNS }
     requires over { IsOver (S.characters source.old) (kept desk.old) }
     ensures answered { IfOk result (Settles S.CharSource
@@ -190,7 +183,7 @@ fn open_viewer<S: CharSource>(
     x: u8,
     y: u8,
     source: &mut S,
-) -> Result<Reply, Stop>
+) -> Answer
     requires column { x < COLUMNS }
     requires within { AreWithin (kept desk.old).written (flat main) }
     requires looks { AreLooks (flat main) }
@@ -221,11 +214,7 @@ fn open_viewer<S: CharSource>(
 }
 
 /// The log opens in the system track.
-pub fn open_log<S: CharSource>(
-    desk: &mut Desk,
-    alloc: Global,
-    source: &mut S,
-) -> Result<Reply, Stop>
+pub fn open_log<S: CharSource>(desk: &mut Desk, alloc: Global, source: &mut S) -> Answer
     requires over { IsOver (S.characters source.old) (kept desk.old) }
     ensures answered { IfOk result (Settles S.CharSource (λ d. Ok (log_opened d))
         source.old source.new (kept desk.old) (kept desk.new)) }
@@ -248,12 +237,7 @@ pub fn open_log<S: CharSource>(
 
 /// A second viewer of a viewer's text opens in the lower half of its place, with a copy of its menu and the same
 /// first line. Refused where its place has one row.
-pub fn copy_viewer<S: CharSource>(
-    desk: &mut Desk,
-    alloc: Global,
-    id: u16,
-    source: &mut S,
-) -> Result<Reply, Stop>
+pub fn copy_viewer<S: CharSource>(desk: &mut Desk, alloc: Global, id: u16, source: &mut S) -> Answer
     requires placed { IsOnTop id (kept desk.old).columns }
     requires over { IsOver (S.characters source.old) (kept desk.old) }
     ensures answered { IfOk result (Settles S.CharSource (λ d. viewer_copied d id)
@@ -281,12 +265,7 @@ pub fn copy_viewer<S: CharSource>(
 /// A second viewer of a viewer's text has the column of that whole, over the track in which it stands, with a copy of
 /// its menu and the same first line; nothing is marked in the covered track any more. Refused where the column has as
 /// many tracks as it may have.
-pub fn grow_viewer<S: CharSource>(
-    desk: &mut Desk,
-    alloc: Global,
-    id: u16,
-    source: &mut S,
-) -> Result<Reply, Stop>
+pub fn grow_viewer<S: CharSource>(desk: &mut Desk, alloc: Global, id: u16, source: &mut S) -> Answer
     requires placed { IsOnTop id (kept desk.old).columns }
     requires over { IsOver (S.characters source.old) (kept desk.old) }
     ensures answered { IfOk result (Settles S.CharSource (λ d. viewer_grown d id)

@@ -1,33 +1,25 @@
 //! Lines of the log, which is text 0.
-ghost use Rattle.std.specs.Prelude.{◌≡◌, ◌+◌, ◌<◌, ◌≤◌, ◌^◌, ◌++◌, ℕ, List, [], ◌∷◌, length, map, slice_get};
-ghost use Rattle.std.specs.Prelude.{Some, Ok, IfOk, OnOk};
-ghost use Rattle.std.specs.Map.{keys_of};
+ghost use Rattle.std.specs.Prelude.{◌≡◌, ◌+◌, ◌<◌, ◌≤◌, ◌^◌, ◌++◌, ℕ, List, [], ◌∷◌, length, map, slice_get, Some, Ok};
+ghost use Rattle.std.specs.Prelude.{IfOk, OnOk};
 ghost use Rattle.std.specs.Fmt.{decimal};
-ghost use Rattle.sector_disk.specs.Faults.{FailsAs};
-ghost use Rattle.char_file.specs.Source.{OnlyReads};
 ghost use Rattle.piece_ring.specs.Look.{default_look};
-ghost use Rattle.piece_ring.specs.Flat.{flat, run};
+ghost use Rattle.piece_ring.specs.Flat.{run};
 ghost use Rattle.screen_pictures.specs.Bytes.{space};
-ghost use Rattle.desktop_definitions.specs.Limits.{most_written};
 ghost use Rattle.desktop_definitions.specs.Desktop.{held};
-ghost use Rattle.desktop_definitions.specs.Viewers.{text_in};
 ghost use Rattle.desktop_definitions.specs.Log.{line, logged, all_logged, log_shown, log_end_shown};
 ghost use Rattle.desktop_definitions.specs.Effects.{size_line, deleting_line, storing_line, log_cleared};
 ghost use Rattle.desktop_definitions.specs.Effects.{directory_logged};
-ghost use Rattle.desktop_definitions.specs.Seen.{seen, seen_table};
-ghost use Rattle.desktop_definitions.specs.Sound.{IsOver, IsBuilt};
-ghost use Rattle.desktop_definitions.specs.Changed.{IsChanged, IsExtended, IsStanding};
-ghost use Rattle.desk_core.specs.Kept.{kept};
-ghost use Rattle.desk_core.specs.Stops.{IsStop};
-ghost use Rattle.desk_core.specs.Row.{Settles, Uses};
+ghost use Rattle.desktop_definitions.specs.Changed.{IsExtended, IsStanding};
 ghost use Rattle.desk_commands.specs.Lines.{bytes_of_lines, total};
+ghost use Rattle.desk_core.specs.Words.{keys_of, FailsAs, OnlyReads, flat, most_written, text_in, seen, seen_table};
+ghost use Rattle.desk_core.specs.Words.{IsOver, IsBuilt, IsChanged, kept, IsStop, Settles, Uses};
 
 use arrayvec::ArrayVec;
 use char_file::CharSource;
 use desk_core::desk::Desk;
 use desk_core::edits::buffer_of_run;
 use desk_core::files::Files;
-use desk_core::stop::{NoMemory, Stop};
+use desk_core::stop::{Answer, NoMemory, Stop};
 use desktop_definitions::{Reply, codes};
 use event_bytes::Name;
 use piece_ring::DEFAULT_LOOK;
@@ -119,11 +111,7 @@ fn buffer_of_line(alloc: Global, first: u32, count: u32) -> Result<Buffer, NoMem
 }
 
 /// The log becomes empty. NoMemory where an allocation is refused, Fault where a character could not be read.
-pub fn clear_log<S: CharSource>(
-    desk: &mut Desk,
-    alloc: Global,
-    source: &mut S,
-) -> Result<Reply, Stop>
+pub fn clear_log<S: CharSource>(desk: &mut Desk, alloc: Global, source: &mut S) -> Answer
     requires over { IsOver (S.characters source.old) (kept desk.old) }
     ensures answered { IfOk result (Settles S.CharSource (λ d. Ok (log_cleared d))
         source.old source.new (kept desk.old) (kept desk.new)) }
@@ -139,11 +127,7 @@ pub fn clear_log<S: CharSource>(
 
 /// A line for each file goes into the log, by rising names. Refused where the limits on characters don't hold then.
 /// NoMemory where an allocation is refused, Fault where a character could not be read.
-pub fn log_directory<S: CharSource>(
-    desk: &mut Desk,
-    alloc: Global,
-    source: &mut S,
-) -> Result<Reply, Stop>
+pub fn log_directory<S: CharSource>(desk: &mut Desk, alloc: Global, source: &mut S) -> Answer
     requires over { IsOver (S.characters source.old) (kept desk.old) }
     ensures answered { IfOk result (Settles S.CharSource (λ d. Ok (directory_logged d))
         source.old source.new (kept desk.old) (kept desk.new)) }

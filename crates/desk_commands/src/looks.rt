@@ -2,16 +2,13 @@
 //! which it takes a field.
 ghost use Rattle.std.specs.Prelude.{◌≡◌, IfOk, Ok};
 ghost use Rattle.desktop_definitions.specs.Limits.{bad_value};
-ghost use Rattle.desktop_definitions.specs.Needs.{needs};
 ghost use Rattle.desktop_definitions.specs.Looks.{font_set, colour_set, offset_set, SetsLook};
 ghost use Rattle.desktop_definitions.specs.Effects.{look_set, selection_set};
-ghost use Rattle.desktop_definitions.specs.Sound.{IsOver};
-ghost use Rattle.desk_core.specs.Kept.{kept};
-ghost use Rattle.desk_core.specs.Row.{Settles, Uses};
+ghost use Rattle.desk_core.specs.Words.{needs, IsOver, kept, Settles, Uses};
 
 use char_file::CharSource;
 use desk_core::desk::Desk;
-use desk_core::stop::Stop;
+use desk_core::stop::Answer;
 use desktop_definitions::{COLOURS, FONTS, GREATEST_OFFSET, LEAST_OFFSET, Reply, codes};
 use event_bytes::Name;
 use piece_ring::{DEFAULT_LOOK, Look};
@@ -74,11 +71,7 @@ pub fn offset_set(number: i32) -> Option<(u8, Look)>
 }
 
 /// What is typed gets a look, in the fields that are set. Refused where none are.
-pub fn set_look<S: CharSource>(
-    desk: &mut Desk,
-    new: Option<(u8, Look)>,
-    source: &mut S,
-) -> Result<Reply, Stop>
+pub fn set_look<S: CharSource>(desk: &mut Desk, new: Option<(u8, Look)>, source: &mut S) -> Answer
     requires sets { SetsLook new }
     requires over { IsOver (S.characters source.old) (kept desk.old) }
     ensures answered { IfOk result (Settles S.CharSource (λ d. needs new bad_value λ set. Ok (look_set d set))
@@ -99,7 +92,7 @@ pub fn change_look<S: CharSource>(
     alloc: Global,
     new: Option<(u8, Look)>,
     source: &mut S,
-) -> Result<Reply, Stop>
+) -> Answer
     requires sets { SetsLook new }
     requires over { IsOver (S.characters source.old) (kept desk.old) }
     ensures answered { IfOk result (Settles S.CharSource (λ d. needs new bad_value (selection_set d))

@@ -2,17 +2,12 @@
 //! name them there. The old texts stay.
 ghost use Rattle.std.specs.Prelude.{◌≡◌, ◌+◌, ◌<◌, ◌≤◌, ◌^◌, ◌++◌, length, IfOk, OnOk};
 ghost use Rattle.std.specs.List.Sorted.{IsStrictlySortedBy};
-ghost use Rattle.sector_disk.specs.Faults.{FailsAs};
-ghost use Rattle.char_file.specs.Source.{OnlyReads};
-ghost use Rattle.piece_ring.specs.Flat.{flat, characters_of};
-ghost use Rattle.piece_ring.specs.Offsets.{AreWithin};
-ghost use Rattle.readers_scanners.specs.Reading.{bytes};
-ghost use Rattle.desktop_definitions.specs.Words.{nat_cmp, keys_of};
+ghost use Rattle.piece_ring.specs.Flat.{characters_of};
 ghost use Rattle.desktop_definitions.specs.Tables.{name_cmp};
 ghost use Rattle.desktop_definitions.specs.Sound.{AllWithin};
 ghost use Rattle.desktop_laws.specs.TableLaws.{kept_lengths};
 ghost use Rattle.desktop_laws.specs.Rewriting.{laid, laid_table, flats, bytes_in};
-ghost use Rattle.desk_core.specs.Stops.{IsStop};
+ghost use Rattle.desk_core.specs.Words.{FailsAs, OnlyReads, flat, AreWithin, bytes, nat_cmp, keys_of, IsStop};
 
 use char_file::CharSource;
 use desk_core::files::Files;

@@ -1,26 +1,16 @@
 //! A text is searched, and what was deleted or copied last is put in.
-ghost use Rattle.std.specs.Prelude.{◌≡◌, ◌+◌, ◌<◌, ◌≤◌, length, take, slice_range, IfOk, IfSome, Ok};
-ghost use Rattle.std.specs.Prelude.{if◌then◌else◌};
-ghost use Rattle.sector_disk.specs.Trail.{CountsFault};
-ghost use Rattle.char_file.specs.Source.{OnlyReads};
-ghost use Rattle.piece_ring.specs.Flat.{flat};
-ghost use Rattle.piece_ring.specs.Offsets.{AreWithin};
-ghost use Rattle.readers_scanners.specs.Reading.{bytes};
-ghost use Rattle.viewer_tracks.specs.Columns.{IsOnTop};
+ghost use Rattle.std.specs.Prelude.{◌≡◌, ◌+◌, ◌<◌, ◌≤◌, length, take, slice_range, IfOk, IfSome, Ok, if◌then◌else◌};
 ghost use Rattle.desktop_definitions.specs.Limits.{no_caret, most_pattern};
-ghost use Rattle.desktop_definitions.specs.Needs.{needs};
 ghost use Rattle.desktop_definitions.specs.Change.{put_at_caret};
 ghost use Rattle.desktop_definitions.specs.Effects.{found_at, pattern_after, searched};
 ghost use Rattle.desktop_laws.specs.SearchLaws.{start_in};
-ghost use Rattle.desktop_definitions.specs.Seen.{seen};
-ghost use Rattle.desktop_definitions.specs.Sound.{IsOver};
-ghost use Rattle.desk_core.specs.Kept.{kept};
-ghost use Rattle.desk_core.specs.Row.{Settles, Uses};
+ghost use Rattle.desk_core.specs.Words.{CountsFault, OnlyReads, flat, AreWithin, bytes, IsOnTop, needs, seen, IsOver};
+ghost use Rattle.desk_core.specs.Words.{kept, Settles, Uses};
 
 use arrayvec::ArrayVec;
 use char_file::{CharSource, Fault};
 use desk_core::desk::{Desk, PATTERN};
-use desk_core::stop::Stop;
+use desk_core::stop::Answer;
 use desk_core::views::position_in;
 use desktop_definitions::{Reply, codes};
 use readers_scanners::Reader;
@@ -122,7 +112,7 @@ fn pattern_after<S: CharSource>(desk: &Desk, source: &mut S) -> Result<Pattern, 
 /// The caret goes after the first place with the pattern in a viewer's main text, from where it stands there or
 /// else from the beginning, and is shown. Refused without a pattern, and where it isn't found; the old pattern then
 /// stays.
-pub fn search<S: CharSource>(desk: &mut Desk, id: u16, source: &mut S) -> Result<Reply, Stop>
+pub fn search<S: CharSource>(desk: &mut Desk, id: u16, source: &mut S) -> Answer
     requires placed { IsOnTop id (kept desk.old).columns }
     requires over { IsOver (S.characters source.old) (kept desk.old) }
     ensures answered { IfOk result (Settles S.CharSource (λ d. searched d id)
@@ -151,11 +141,7 @@ fn start_in(desk: &Desk, id: u16) -> u32
 }
 
 /// What was deleted last is put in at the caret. Refused without a caret.
-pub fn recall_deleted<S: CharSource>(
-    desk: &mut Desk,
-    alloc: Global,
-    source: &mut S,
-) -> Result<Reply, Stop>
+pub fn recall_deleted<S: CharSource>(desk: &mut Desk, alloc: Global, source: &mut S) -> Answer
     requires over { IsOver (S.characters source.old) (kept desk.old) }
     ensures answered { IfOk result (Settles S.CharSource
         (λ d. needs d.caret no_caret λ c. Ok (put_at_caret d d.deleted c))

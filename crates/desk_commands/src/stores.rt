@@ -1,22 +1,15 @@
 //! Files are stored and deleted, each with a line of the log.
 ghost use Rattle.std.specs.Prelude.{◌≡◌, ◌+◌, ◌≤◌, ℕ, List, [], length, fold, map, IsTrue, IfOk, Ok};
-ghost use Rattle.sector_disk.specs.Trail.{CountsFault};
-ghost use Rattle.char_file.specs.Source.{OnlyReads};
-ghost use Rattle.viewer_tracks.specs.Columns.{IsOnTop};
 ghost use Rattle.command_table.specs.Deciding.{is_among, can_be_deleted};
 ghost use Rattle.desktop_laws.specs.StoreLaws.{can_go};
 ghost use Rattle.desktop_definitions.specs.Effects.{menu_name, stored, stored_as, files_deleted, without_file};
 ghost use Rattle.desktop_definitions.specs.Effects.{deleting_line};
-ghost use Rattle.desktop_definitions.specs.Limits.{most_held, too_many_files};
-ghost use Rattle.desktop_definitions.specs.Needs.{unless};
-ghost use Rattle.desktop_definitions.specs.Tables.{has_room, lengths};
+ghost use Rattle.desktop_definitions.specs.Limits.{too_many_files};
+ghost use Rattle.desktop_definitions.specs.Tables.{has_room};
 ghost use Rattle.desktop_definitions.specs.Viewers.{main_of};
-ghost use Rattle.desktop_definitions.specs.Seen.{seen, seen_table};
-ghost use Rattle.desktop_definitions.specs.Sound.{IsOver};
-ghost use Rattle.std.specs.Map.{keys_of};
-ghost use Rattle.desk_core.specs.Kept.{kept};
-ghost use Rattle.desk_core.specs.Row.{Settles, Uses};
 ghost use Rattle.desk_commands.specs.Lines.{bytes_of_lines};
+ghost use Rattle.desk_core.specs.Words.{CountsFault, OnlyReads, IsOnTop, most_held, unless, lengths, seen, seen_table};
+ghost use Rattle.desk_core.specs.Words.{IsOver, keys_of, kept, Settles, Uses};
 
 use crate::log::{LogLine, deleting_line, log_line, log_lines, storing_line, total};
 use crate::openings::copy_of;
@@ -24,7 +17,7 @@ use char_file::{CharSource, Fault};
 use command_table::{name_in, symbol_at};
 use desk_core::desk::Desk;
 use desk_core::files::{Files, has_room, length_of, put, size_of};
-use desk_core::stop::{NoMemory, Stop};
+use desk_core::stop::{Answer, NoMemory};
 use desktop_definitions::{Reply, codes};
 use event_bytes::Name;
 use std::alloc::Global;
@@ -99,7 +92,7 @@ pub fn delete_files<S: CharSource>(
     alloc: Global,
     names: &[Name],
     source: &mut S,
-) -> Result<Reply, Stop>
+) -> Answer
     requires few { length names.now ≤ 257 }
     requires over { IsOver (S.characters source.old) (kept desk.old) }
     ensures answered { IfOk result (Settles S.CharSource (λ d. files_deleted d names.now)
@@ -122,12 +115,7 @@ pub fn delete_files<S: CharSource>(
 
 /// A viewer's main text becomes the file that the first symbol of its menu names, with a line of the log. Refused
 /// where that symbol is no name, and where there is no room for one more file.
-pub fn store<S: CharSource>(
-    desk: &mut Desk,
-    alloc: Global,
-    id: u16,
-    source: &mut S,
-) -> Result<Reply, Stop>
+pub fn store<S: CharSource>(desk: &mut Desk, alloc: Global, id: u16, source: &mut S) -> Answer
     requires placed { IsOnTop id (kept desk.old).columns }
     requires over { IsOver (S.characters source.old) (kept desk.old) }
     ensures answered { IfOk result (Settles S.CharSource (λ d. stored d id)
@@ -161,7 +149,7 @@ fn store_as<S: CharSource>(
     id: u16,
     name: &Name,
     source: &mut S,
-) -> Result<Reply, Stop>
+) -> Answer
     requires placed { IsOnTop id (kept desk.old).columns }
     requires over { IsOver (S.characters source.old) (kept desk.old) }
     ensures answered { IfOk result (Settles S.CharSource

@@ -4,3 +4,4 @@ pub mod Stops
 pub mod Movable
 pub mod Row
 pub mod Mouse
+pub mod Words

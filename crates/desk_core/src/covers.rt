@@ -1,11 +1,9 @@
 //! Tracks are covered by new ones.
 ghost use Rattle.std.specs.Prelude.{◌≡◌, ◌<◌, length, nat_lt};
-ghost use Rattle.viewer_tracks.specs.declared.display.TheConstants.{DEPTH};
-ghost use Rattle.viewer_tracks.specs.Columns.{IsPlaced, shown, stack_of};
+ghost use Rattle.viewer_tracks.specs.Columns.{shown};
 ghost use Rattle.viewer_tracks.specs.Viewers.{times_in};
-ghost use Rattle.desktop_definitions.specs.Viewers.{caret_outside, selections_outside, is_shown_in, unmarked};
-ghost use Rattle.desktop_definitions.specs.Viewers.{covered_by};
-ghost use Rattle.desk_core.specs.Kept.{kept};
+ghost use Rattle.desktop_definitions.specs.Viewers.{is_shown_in, covered_by};
+ghost use Rattle.desk_core.specs.Words.{DEPTH, IsPlaced, stack_of, caret_outside, selections_outside, unmarked, kept};
 
 use crate::desk::Desk;
 use desktop_definitions::{Caret, Selection};

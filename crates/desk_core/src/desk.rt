@@ -4,11 +4,8 @@
 //! memory, characters that are added, the change. Each promises the same: what is `settled` of its row, where the
 //! characters were told truly, and of the desktop, the reply and the source what holds whatever was told.
 ghost use Rattle.std.specs.Prelude.{◌≡◌, ◌+◌, ◌<◌, ◌≤◌, ℕ, List, [], IfOk};
-ghost use Rattle.desktop_definitions.specs.Limits.{most_held};
 ghost use Rattle.desktop_definitions.specs.Desktop.{empty_desktop, held};
-ghost use Rattle.desktop_definitions.specs.Seen.{seen};
-ghost use Rattle.desktop_definitions.specs.Sound.{IsOver, IsKeptWhole};
-ghost use Rattle.desk_core.specs.Kept.{kept};
+ghost use Rattle.desk_core.specs.Words.{most_held, seen, IsOver, IsKeptWhole, kept};
 
 use crate::files::Files;
 use crate::held::lengths;

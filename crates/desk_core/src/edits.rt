@@ -1,30 +1,20 @@
 //! Edits that several rows have: what is put in or taken out, with the caret where it was, and copies of stretches.
-ghost use Rattle.std.specs.Prelude.{◌≡◌, ◌+◌, ◌-◌, ◌<◌, ◌≤◌, ◌^◌, ◌&&◌, ℕ, List, length, nat_le};
-ghost use Rattle.std.specs.Prelude.{IfOk, IfSome, IsSome, OnOk, is_none, true};
-ghost use Rattle.sector_disk.specs.Faults.{FailsAs};
-ghost use Rattle.readers_scanners.specs.Words.{OnlyReads, flat};
+ghost use Rattle.std.specs.Prelude.{◌≡◌, ◌+◌, ◌-◌, ◌<◌, ◌≤◌, ◌^◌, ◌&&◌, ℕ, List, length, nat_le, IfOk, IfSome, IsSome};
+ghost use Rattle.std.specs.Prelude.{OnOk, is_none, true, Ok, if◌then◌else◌};
 ghost use Rattle.piece_ring.specs.Text.{stretch};
-ghost use Rattle.desktop_definitions.specs.Limits.{most_written, most_held};
-ghost use Rattle.desktop_definitions.specs.Tables.{numbered};
-ghost use Rattle.desktop_definitions.specs.Viewers.{viewer_or_none, newest};
+ghost use Rattle.desktop_definitions.specs.Viewers.{newest};
 ghost use Rattle.desktop_definitions.specs.Change.{put_in, put_at_caret, cut_out};
-ghost use Rattle.desktop_definitions.specs.Seen.{seen, seen_text};
-ghost use Rattle.desktop_definitions.specs.Sound.{IsKeptWhole, IsBuilt, IsOver};
-ghost use Rattle.desktop_definitions.specs.Changed.{IsChanged};
 ghost use Rattle.desktop_laws.specs.RowLaws.{has_space};
 ghost use Rattle.desktop_laws.specs.RowPartLaws.{kept_main};
-ghost use Rattle.desk_core.specs.Kept.{kept};
-ghost use Rattle.desk_core.specs.Positions.{IsPosition, CanGo};
-ghost use Rattle.desk_core.specs.Stops.{IsStop};
-ghost use Rattle.piece_ring.specs.Flat.{flat, run};
-ghost use Rattle.std.specs.Prelude.{Ok};
-ghost use Rattle.std.specs.Prelude.{if◌then◌else◌};
+ghost use Rattle.desk_core.specs.Positions.{CanGo};
+ghost use Rattle.piece_ring.specs.Flat.{run};
 ghost use Rattle.desktop_definitions.specs.Limits.{no_caret};
-ghost use Rattle.desktop_definitions.specs.Needs.{needs};
-ghost use Rattle.desk_core.specs.Row.{Settles, SettlesUnread, Uses};
+ghost use Rattle.desk_core.specs.Words.{FailsAs, OnlyReads, flat, most_written, most_held, numbered, viewer_or_none};
+ghost use Rattle.desk_core.specs.Words.{seen, seen_text, IsKeptWhole, IsBuilt, IsOver, IsChanged, kept, IsPosition};
+ghost use Rattle.desk_core.specs.Words.{IsStop, flat, needs, Settles, SettlesUnread, Uses};
 
 use crate::desk::Desk;
-use crate::stop::{NoMemory, Stop};
+use crate::stop::{Answer, NoMemory, Stop};
 use crate::viewers::viewer_of;
 use char_file::CharSource;
 use desktop_definitions::{Caret, MOST_HELD, MOST_WRITTEN, Reply, Selection, codes};
@@ -220,7 +210,7 @@ impl Desk {
         alloc: Global,
         deleted: bool,
         source: &mut S,
-    ) -> Result<Reply, Stop>
+    ) -> Answer
         requires over { IsOver (S.characters source.old) (kept self.old) }
         ensures answered { IfOk result (Settles S.CharSource (λ d. needs d.caret no_caret λ c.
             Ok (put_at_caret d (if deleted then d.deleted else d.copied) c))

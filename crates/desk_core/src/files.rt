@@ -1,12 +1,10 @@
 //! Files by name, as a desktop keeps them.
 ghost use Rattle.std.specs.Prelude.{◌≡◌, ◌+◌, ℕ, List, length, map, option_map, IsTrue, OnOk, OnErr, IfOk, IsErrOf};
-ghost use Rattle.piece_ring.specs.Text.{Text as AText};
 ghost use Rattle.event_bytes.specs.Bytes.{is_name};
-ghost use Rattle.desktop_definitions.specs.Tables.{named, put as with_file, lengths};
-ghost use Rattle.desktop_definitions.specs.Seen.{seen_table};
-ghost use Rattle.desktop_definitions.specs.Tables.{has_room as room};
+ghost use Rattle.desktop_definitions.specs.Tables.{named, put as with_file, has_room as room};
 ghost use Rattle.desktop_laws.specs.StoreLaws.{kept_size};
 ghost use Rattle.desktop_definitions.specs.Listing.{file_entry};
+ghost use Rattle.desk_core.specs.Words.{Text as AText, lengths, seen_table};
 
 use crate::stop::Stop;
 use desktop_definitions::{Entry, MOST_FILES};

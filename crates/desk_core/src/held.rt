@@ -1,8 +1,6 @@
 //! How many characters a desktop has.
 ghost use Rattle.std.specs.Prelude.{◌≡◌, ◌≤◌, ◌&&◌, ℕ, List, [], nat_le};
-ghost use Rattle.desktop_definitions.specs.Limits.{most_written, most_held};
-ghost use Rattle.desktop_definitions.specs.Tables.{lengths};
-ghost use Rattle.desktop_definitions.specs.Seen.{seen_table};
+ghost use Rattle.desk_core.specs.Words.{most_written, most_held, lengths, seen_table};
 
 use desktop_definitions::{MOST_HELD, MOST_WRITTEN};
 use std::collections::BTreeMap;

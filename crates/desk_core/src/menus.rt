@@ -1,23 +1,19 @@
 //! What the mouse does in a menu: viewers move and change their height.
 ghost use Rattle.std.specs.Prelude.{◌≡◌, ◌<◌, ◌+◌, IfOk, Ok};
-ghost use Rattle.viewer_tracks.specs.Columns.{IsOnTop, IsPlaced};
 ghost use Rattle.desktop_definitions.specs.Viewers.{opened_at};
-ghost use Rattle.desktop_definitions.specs.Opening.{dropped};
-ghost use Rattle.desktop_definitions.specs.Sound.{IsOver};
-ghost use Rattle.desk_core.specs.Kept.{kept};
-ghost use Rattle.desk_core.specs.Row.{Settles, SettlesUnread, Uses};
-ghost use Rattle.viewer_tracks.specs.declared.display.TheConstants.{ROWS, COLUMNS};
 ghost use Rattle.desktop_definitions.specs.Gesture.{resized, carried};
+ghost use Rattle.desk_core.specs.Words.{IsOnTop, IsPlaced, dropped, IsOver, kept, Settles, SettlesUnread, Uses, ROWS};
+ghost use Rattle.desk_core.specs.Words.{COLUMNS};
 
 use crate::desk::Desk;
-use crate::stop::Stop;
+use crate::stop::Answer;
 use char_file::CharSource;
 use desktop_definitions::Reply;
 use viewer_tracks::{ViewerId, edits_keep_columns, edits_place_viewers};
 
 impl Desk {
     /// The top of a viewer goes to row `y`, or as near to it as the display and the viewer above let it.
-    pub fn resize<S: CharSource>(&mut self, id: u16, y: u8, source: &mut S) -> Result<Reply, Stop>
+    pub fn resize<S: CharSource>(&mut self, id: u16, y: u8, source: &mut S) -> Answer
         requires placed { IsOnTop id (kept self.old).columns }
         requires row { y < ROWS }
         requires over { IsOver (S.characters source.old) (kept self.old) }
@@ -33,13 +29,7 @@ impl Desk {
 
     /// A viewer is closed and opened at the cell above (`x`, `y`), with what is marked in it. A viewer whose whole
     /// place it takes is gone, with the texts that nobody else shows.
-    pub fn carry<S: CharSource>(
-        &mut self,
-        id: u16,
-        x: u8,
-        y: u8,
-        source: &mut S,
-    ) -> Result<Reply, Stop>
+    pub fn carry<S: CharSource>(&mut self, id: u16, x: u8, y: u8, source: &mut S) -> Answer
         requires placed { IsOnTop id (kept self.old).columns }
         requires column { x < COLUMNS }
         requires row { y < ROWS }

@@ -4,6 +4,7 @@ ghost use Rattle.desk_core.specs.declared.stop.Stop.{Stop};
 ghost use Rattle.desk_core.specs.declared.stop.Stop.TheVariants as stops;
 
 use char_file::Fault;
+use desktop_definitions::Reply;
 use std::alloc::AllocFailed;
 
 /// An allocation was refused.
@@ -17,6 +18,9 @@ pub enum Stop {
     /// A character could not be read. It comes only where the source of characters failed in that call.
     Fault,
 }
+
+/// What an event or a command comes to: its reply, or why the call gave up.
+pub type Answer = Result<Reply, Stop>;
 
 impl From<NoMemory> for Stop {
     ghost from_gives = { λ _ stop. stop ≡ stops.NoMemory };

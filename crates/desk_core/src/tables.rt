@@ -1,13 +1,12 @@
 //! What goes where a viewer goes: its entry, what is marked in it, and the texts that nobody shows any more.
 ghost use Rattle.std.specs.Prelude.{◌≡◌, ◌==◌, ◌||◌, ◌<◌, ◌^◌, length, Some};
 ghost use Rattle.std.specs.List.{list_any, position_or_len};
-ghost use Rattle.std.specs.Map.{remove_entry, keys_of};
-ghost use Rattle.std.specs.Ordering.{nat_cmp};
+ghost use Rattle.std.specs.Map.{remove_entry};
 ghost use Rattle.std.specs.BTreeMap.{is_at};
-ghost use Rattle.viewer_tracks.specs.Viewers.{id_number};
-ghost use Rattle.desktop_definitions.specs.Viewers.{caret_outside, selections_outside, unmarked, without_viewer};
-ghost use Rattle.desktop_definitions.specs.Opening.{dropped, least_unused};
-ghost use Rattle.desk_core.specs.Kept.{kept};
+ghost use Rattle.desktop_definitions.specs.Viewers.{without_viewer};
+ghost use Rattle.desktop_definitions.specs.Opening.{least_unused};
+ghost use Rattle.desk_core.specs.Words.{keys_of, nat_cmp, id_number, caret_outside, selections_outside, unmarked};
+ghost use Rattle.desk_core.specs.Words.{dropped, kept};
 
 use crate::desk::Desk;
 use crate::viewers::ViewerTable;

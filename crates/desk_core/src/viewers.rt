@@ -1,21 +1,15 @@
 //! The table of viewers by their ids, and what a change of a text does to them.
-ghost use Rattle.std.specs.Prelude.{◌≡◌, ◌⊎◌, ◌∷◌, [], ◌++◌, ◌+◌, ◌<◌, ◌≤◌, ◌==◌, length, IfOk, OnOk};
-ghost use Rattle.std.specs.Prelude.{All, IsSome};
+ghost use Rattle.std.specs.Prelude.{◌≡◌, ◌⊎◌, ◌∷◌, [], ◌++◌, ◌+◌, ◌<◌, ◌≤◌, ◌==◌, length, IfOk, OnOk, All, IsSome};
 ghost use Rattle.std.specs.Map.{set_value};
-ghost use Rattle.std.specs.Ordering.{nat_cmp};
 ghost use Rattle.std.specs.BTreeMap.{is_at};
-ghost use Rattle.sector_disk.specs.Trail.{CountsFault};
-ghost use Rattle.char_file.specs.Source.{OnlyReads};
-ghost use Rattle.piece_ring.specs.Flat.{flat};
-ghost use Rattle.piece_ring.specs.Offsets.{AreWithin};
-ghost use Rattle.readers_scanners.specs.Reading.{bytes};
 ghost use Rattle.text_frames.specs.Rules.{changed_org, shown_org};
-ghost use Rattle.desktop_definitions.specs.Tables.{numbered, with_values};
-ghost use Rattle.desktop_definitions.specs.Viewers.{viewer_in, viewer_or_none, text_in, caret_outside};
-ghost use Rattle.desktop_definitions.specs.Viewers.{selections_outside};
+ghost use Rattle.desktop_definitions.specs.Tables.{with_values};
+ghost use Rattle.desktop_definitions.specs.Viewers.{viewer_in};
 ghost use Rattle.desktop_definitions.specs.Change.{followed};
 ghost use Rattle.desktop_laws.specs.ShapeLaws.{IsMoved, AreMoved, CanFollow};
 ghost use Rattle.desk_core.specs.Movable.{IsMovable};
+ghost use Rattle.desk_core.specs.Words.{nat_cmp, CountsFault, OnlyReads, flat, AreWithin, bytes, numbered};
+ghost use Rattle.desk_core.specs.Words.{viewer_or_none, text_in, caret_outside, selections_outside};
 
 use crate::stop::NoMemory;
 use char_file::{CharSource, Fault};

@@ -1,13 +1,8 @@
 //! The texts and frames of viewers.
 ghost use Rattle.std.specs.Prelude.{◌≡◌, IsSome};
-ghost use Rattle.viewer_tracks.specs.Columns.{IsOnTop};
-ghost use Rattle.desktop_definitions.specs.Tables.{numbered};
-ghost use Rattle.desktop_definitions.specs.Viewers.{text_in};
 ghost use Rattle.desktop_definitions.specs.Shown.{caret_position};
-ghost use Rattle.desk_core.specs.Kept.{kept};
 ghost use Rattle.desktop_definitions.specs.Call.{text_called};
-ghost use Rattle.desktop_definitions.specs.Sound.{IsKeptWhole};
-ghost use Rattle.desktop_definitions.specs.Viewers.{viewer_or_none};
+ghost use Rattle.desk_core.specs.Words.{IsOnTop, numbered, text_in, kept, IsKeptWhole, viewer_or_none};
 
 use crate::desk::Desk;
 use crate::viewers::{Texts, viewer_or_none};

@@ -6,8 +6,7 @@ use Rattle.desk_commands.proofs.CallLemmas.{refused_given}
 use Rattle.desk_commands.proofs.calls.command_with_number.Goals as goal
 
 pub returns-in-Err-clause-answered : goal.returns-in-Err-clause-answered
-returns-in-Err-clause-answered g c =
-    let read = c.in_ok-number.ensures in
-    refused_given g.S.CharSource (λ (y : Desktop). number_of y c.args.call)
-    (λ (y : Desktop). done_with_number y c.args.command) c.in-Err.code _ _
-    (kept c.args.desk.now) read.reads c.requires.over (rw c.in-Err.is at read.codes) c.in-Err.is read.exact
+returns-in-Err-clause-answered g c = refused_given g.S.CharSource (λ (y : Desktop). number_of y c.args.call)
+    (λ (y : Desktop). done_with_number y c.args.command) c.in-Err.code _ _ (kept c.args.desk.now)
+    c.in_ok-number.ensures.reads c.requires.over (rw c.in-Err.is at c.in_ok-number.ensures.codes) c.in-Err.is
+    c.in_ok-number.ensures.exact

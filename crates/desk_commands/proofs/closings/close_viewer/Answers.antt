@@ -9,12 +9,10 @@ use Rattle.desk_commands.proofs.closings.close_viewer.Goals as goal
 
 pub returns-clause-answered : goal.returns-clause-answered
 returns-clause-answered g c =
-    let s = g.S.CharSource in
-    let old = s.characters c.args.source.now in
     let d = kept c.args.desk.now in
     let v = c.args.id in
-    let hold = over_columns old d c.requires.over in
-    closed_answered (s.honest c.args.source.now) old d c.requires.over v c.requires.placed
+    let hold = over_columns _ d c.requires.over in
+    closed_answered _ _ d c.requires.over v c.requires.placed
     (c.edits_keep_columns.ensures.closed d.columns v hold c.requires.placed)
     (λ w. c.edits_place_viewers.ensures.closed d.columns v w hold c.requires.placed)
     (subst IsKeptPlace c.place_kept.ensures.value c.place_kept.ensures.place)

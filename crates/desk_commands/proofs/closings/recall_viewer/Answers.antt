@@ -10,9 +10,7 @@ use Rattle.desk_commands.proofs.closings.recall_viewer.Goals as goal
 
 pub returns-in_default-clause-answered : goal.returns-in_default-clause-answered
 returns-in_default-clause-answered g c =
-    let s = g.S.CharSource in
-    none_kept_answered (s.honest c.args.source.now) (s.characters c.args.source.now) (kept c.args.desk.now)
-    c.requires.over c.in_default.is
+    none_kept_answered _ _ (kept c.args.desk.now) c.requires.over c.in_default.is
 
 pub open_at-requires-clause-fresh : goal.open_at-requires-clause-fresh
 open_at-requires-clause-fresh g c =
@@ -22,14 +20,12 @@ open_at-requires-clause-fresh g c =
 pub returns-clause-answered : goal.returns-clause-answered
 unfolding brought_back
 returns-clause-answered g c =
-    let s = g.S.CharSource in
-    let old = s.characters c.args.source.now in
     let d = kept c.args.desk.now in
     let k = c.in-Some.viewer in
-    let hold = over_columns old d c.requires.over in
-    recalled_answered (s.honest c.args.source.now) old d c.requires.over k c.in-Some.is
+    let hold = over_columns _ d c.requires.over in
+    recalled_answered _ _ d c.requires.over k c.in-Some.is
     (c.edits_keep_columns.ensures.opened d.columns k.viewer (left_of k.track) k.top hold
-    (kept_fresh old d k c.requires.over c.in-Some.is))
+    (kept_fresh _ d k c.requires.over c.in-Some.is))
     (λ w. c.edits_place_viewers.ensures.opened d.columns k.viewer (left_of k.track) k.top w hold)
     (kept c.open_at.new.self)
     (c.open_at.ensures

@@ -1,25 +1,17 @@
-use Rattle.std.proofs.Common.{◌+◌, ◌-◌, ◌/◌, List, length, sym, ap, subst, ◌∙◌, inr}
-use Rattle.std.specs.Prelude.{IsSome}
+use Rattle.std.proofs.Common.{◌+◌, ◌-◌, ◌/◌, List, length, sym, ap, ◌∙◌, inr}
 use Rattle.piece_ring.specs.declared.piece.Piece.{Piece}
 use Rattle.piece_ring.specs.Flat.{flat}
-use Rattle.desktop_definitions.specs.declared.viewer.Viewer.{Viewer}
-use Rattle.desktop_definitions.specs.declared.reply.Reply.TheVariants.{Done}
 use Rattle.desktop_definitions.specs.Limits.{too_low}
-use Rattle.desktop_definitions.specs.Tables.{numbered}
-use Rattle.desktop_definitions.specs.Desktop.{KeptDesktop}
 use Rattle.desktop_definitions.specs.Effects.{viewer_copied}
 use Rattle.desktop_definitions.specs.Seen.{seen}
-use Rattle.desktop_definitions.specs.Step.{settled}
-use Rattle.desktop_definitions.specs.Outcome.{IsAnswered}
 use Rattle.desktop_laws.specs.KeyLaws.{refusal_answered}
 use Rattle.desktop_definitions.specs.Opening.{new_id}
 use Rattle.desktop_laws.specs.OpeningDone.{new_fresh, can_open, whole_columns}
 use Rattle.desktop_laws.specs.RowLaws.{known_too_low}
 use Rattle.desktop_laws.specs.OpeningOnLaws.{half_free, copied_low, copied_full}
 use Rattle.desktop_laws.specs.OpeningOnLaws.{copied_answered}
-use Rattle.desktop_laws.specs.PlaceLaws.{on_top_placed}
 use Rattle.desk_core.specs.Kept.{kept}
-use Rattle.desk_core.proofs.ViewLemmas.{menu_there}
+use Rattle.desk_commands.proofs.OpeningLemmas.{answered_there, menu_stands}
 use Rattle.desk_commands.proofs.documents.copy_viewer.Goals as goal
 
 pub returns-then-rows-eq1-clause-answered : goal.returns-then-rows-eq1-clause-answered
@@ -34,18 +26,15 @@ returns-then-rows-eq1-clause-answered g c =
 
 pub text_there-menu-requires : goal.text_there-menu-requires
 text_there-menu-requires g c =
-    subst (λ (v : Viewer). IsSome (numbered c.args.desk.now.texts.entries v.menu)) (sym c.viewer_or_none-viewer.ensures)
-    (menu_there (kept c.args.desk.now) c.requires.over.whole c.args.id
-    (on_top_placed c.args.desk.now.tracks c.args.id c.requires.placed))
+    menu_stands _ c.requires.over.whole c.args.id c.requires.placed c.viewer_or_none-viewer.ensures
 
 pub returns-then-not-opening_on_fits-clause-answered : goal.returns-then-not-opening_on_fits-clause-answered
 returns-then-not-opening_on_fits-clause-answered g c =
-    let old = g.S.CharSource.characters c.args.source.now in
     let d = kept c.args.desk.now in
     let place = c.place_of-place in
     let viewer = c.viewer_or_none-viewer.result in
     let more = c.if-rows-eq1.false in
-    copied_full _ old d c.args.id place.result.x place.result.bottom place.result.top c.text_there-menu.result.now
+    copied_full _ _ d c.args.id place.result.x place.result.bottom place.result.top c.text_there-menu.result.now
     viewer c.requires.over c.requires.placed place.ensures more c.viewer_or_none-viewer.ensures
     (ap (λ (pieces : List Piece). flat pieces) c.text_there-menu.ensures)
     (λ characters text long. sym (c.opening_on_fits.ensures.fits characters text viewer.main viewer.org
@@ -59,8 +48,6 @@ open_on-requires-clause-can g c = can_open (kept c.args.desk.now) c.requires.ove
 
 pub returns-clause-answered : goal.returns-clause-answered
 returns-clause-answered g c =
-    let H = g.S.CharSource.honest c.args.source.now in
-    let old = g.S.CharSource.characters c.args.source.now in
     let d = kept c.args.desk.now in
     let place = c.place_of-place in
     let x = place.result.x in
@@ -68,9 +55,8 @@ returns-clause-answered g c =
     let viewer = c.viewer_or_none-viewer.result in
     let more = c.if-rows-eq1.false in
     let hold = whole_columns d c.requires.over.whole in
-    subst (λ (after : KeptDesktop). IsAnswered H old old d after (settled (seen old d)
-    (viewer_copied (seen old d) c.args.id)) Done) (sym c.in_ok-open_on.ensures)
-    (copied_answered H old d c.args.id x place.result.bottom place.result.top c.in_ok-menu.menu
+    answered_there c.in_ok-open_on.ensures
+    (copied_answered _ _ d c.args.id x place.result.bottom place.result.top c.in_ok-menu.menu
     viewer c.requires.over c.requires.placed place.ensures more c.viewer_or_none-viewer.ensures
     (c.in_ok-menu.ensures ∙ ap (λ (pieces : List Piece). flat pieces) c.text_there-menu.ensures)
     (record {

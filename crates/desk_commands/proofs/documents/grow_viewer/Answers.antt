@@ -1,26 +1,18 @@
 use Rattle.std.proofs.Common.{◌≤◌, List, length, sym, ap, subst, ◌∙◌, arith}
-use Rattle.std.specs.Prelude.{IsSome}
 use Rattle.piece_ring.specs.declared.piece.Piece.{Piece}
 use Rattle.piece_ring.specs.Flat.{flat}
 use Rattle.viewer_tracks.specs.declared.display.Track.{Track}
 use Rattle.viewer_tracks.specs.declared.display.TheConstants.{DEPTH}
 use Rattle.viewer_tracks.specs.Columns.{track_of, stack_of}
-use Rattle.desktop_definitions.specs.declared.viewer.Viewer.{Viewer}
-use Rattle.desktop_definitions.specs.declared.reply.Reply.TheVariants.{Done}
 use Rattle.desktop_definitions.specs.Limits.{too_deep}
-use Rattle.desktop_definitions.specs.Tables.{numbered}
-use Rattle.desktop_definitions.specs.Desktop.{KeptDesktop}
 use Rattle.desktop_definitions.specs.Effects.{viewer_grown}
 use Rattle.desktop_definitions.specs.Seen.{seen}
-use Rattle.desktop_definitions.specs.Step.{settled}
-use Rattle.desktop_definitions.specs.Outcome.{IsAnswered}
 use Rattle.desktop_laws.specs.KeyLaws.{refusal_answered}
 use Rattle.desktop_laws.specs.OpeningDone.{can_open}
 use Rattle.desktop_laws.specs.RowLaws.{known_too_deep}
 use Rattle.desktop_laws.specs.GrownLaws.{grown_deep, grown_answered, grown_full}
-use Rattle.desktop_laws.specs.PlaceLaws.{on_top_placed}
 use Rattle.desk_core.specs.Kept.{kept}
-use Rattle.desk_core.proofs.ViewLemmas.{menu_there}
+use Rattle.desk_commands.proofs.OpeningLemmas.{answered_there, menu_stands}
 use Rattle.desk_commands.proofs.documents.grow_viewer.Goals as goal
 
 pub returns-then-levels-eq-DEPTH-clause-answered : goal.returns-then-levels-eq-DEPTH-clause-answered
@@ -36,18 +28,15 @@ returns-then-levels-eq-DEPTH-clause-answered g c =
 
 pub text_there-menu-requires : goal.text_there-menu-requires
 text_there-menu-requires g c =
-    subst (λ (v : Viewer). IsSome (numbered c.args.desk.now.texts.entries v.menu)) (sym c.viewer_or_none-viewer.ensures)
-    (menu_there (kept c.args.desk.now) c.requires.over.whole c.args.id
-    (on_top_placed c.args.desk.now.tracks c.args.id c.requires.placed))
+    menu_stands _ c.requires.over.whole c.args.id c.requires.placed c.viewer_or_none-viewer.ensures
 
 pub returns-then-not-opening_over_fits-clause-answered : goal.returns-then-not-opening_over_fits-clause-answered
 returns-then-not-opening_over_fits-clause-answered g c =
-    let old = g.S.CharSource.characters c.args.source.now in
     let d = kept c.args.desk.now in
     let v = c.args.id in
     let k = c.track_from-track.result in
     let viewer = c.viewer_or_none-viewer.result in
-    grown_full _ old d v k c.text_there-menu.result.now viewer c.requires.over c.requires.placed
+    grown_full _ _ d v k c.text_there-menu.result.now viewer c.requires.over c.requires.placed
     (c.track_from-track.ensures (track_of d.columns v) c.place_of.ensures.left)
     (omega (arith, c.levels.ensures.depth, c.levels.ensures.few, c.if-levels-eq-DEPTH.false))
     c.viewer_or_none-viewer.ensures (ap (λ (pieces : List Piece). flat pieces) c.text_there-menu.ensures)
@@ -60,15 +49,12 @@ open_over-requires-clause-can g c = can_open (kept c.args.desk.now) c.requires.o
 
 pub returns-clause-answered : goal.returns-clause-answered
 returns-clause-answered g c =
-    let H = g.S.CharSource.honest c.args.source.now in
-    let old = g.S.CharSource.characters c.args.source.now in
     let d = kept c.args.desk.now in
     let v = c.args.id in
     let k = c.track_from-track.result in
     let viewer = c.viewer_or_none-viewer.result in
-    subst (λ (after : KeptDesktop). IsAnswered H old old d after (settled (seen old d)
-    (viewer_grown (seen old d) v)) Done) (sym c.in_ok-open_over.ensures)
-    (grown_answered H old d v k c.in_ok-menu.menu viewer c.requires.over c.requires.placed
+    answered_there c.in_ok-open_over.ensures
+    (grown_answered _ _ d v k c.in_ok-menu.menu viewer c.requires.over c.requires.placed
     (c.track_from-track.ensures (track_of d.columns v) c.place_of.ensures.left)
     (omega (arith, c.levels.ensures.depth, c.levels.ensures.few, c.if-levels-eq-DEPTH.false))
     c.viewer_or_none-viewer.ensures

@@ -1,17 +1,12 @@
 use Rattle.std.specs.Prelude.{⊤}
-use Rattle.std.proofs.Common.{◌≡◌, ◌+◌, ◌++◌, ℕ, length, Ok, refl, sym, ap, subst, ◌∙◌, arith}
-use Rattle.desktop_definitions.specs.declared.reply.Reply.TheVariants.{Done}
+use Rattle.std.proofs.Common.{◌≡◌, ◌+◌, ◌++◌, ℕ, refl, ap, ◌∙◌, arith}
 use Rattle.desktop_definitions.specs.Desktop.{KeptDesktop}
-use Rattle.desktop_definitions.specs.Change.{plain, more_written}
-use Rattle.desktop_definitions.specs.Opening.{opening, dropped}
-use Rattle.desktop_definitions.specs.Seen.{seen, seen_text}
-use Rattle.desktop_definitions.specs.Step.{settled}
-use Rattle.desktop_definitions.specs.Outcome.{IsAnswered}
 use Rattle.desktop_definitions.specs.Opening.{new_id}
 use Rattle.desktop_laws.specs.OpeningDone.{new_fresh, can_open, can_open_more, opened_desk, written_opened}
 use Rattle.desktop_laws.specs.OpeningDone.{whole_columns, opening_answered}
 use Rattle.desk_core.specs.Kept.{kept}
 use Rattle.desk_core.proofs.UnreadLemmas.{over_all}
+use Rattle.desk_commands.proofs.OpeningLemmas.{answered_there, opened_counted}
 use Rattle.desk_commands.proofs.documents.open_viewer.Goals as goal
 
 pub add_text-requires : goal.add_text-requires
@@ -35,54 +30,28 @@ overflow_add-desk g c =
 
 pub returns-clause-answered : goal.returns-clause-answered
 returns-clause-answered g c =
-    let H = g.S.CharSource.honest c.args.source.now in
-    let old = g.S.CharSource.characters c.args.source.now in
-    let new = g.S.CharSource.characters c.append.new.self in
     let d = kept c.args.desk.now in
-    let bytes = c.args.menu.now in
-    let text = c.in_ok-text.text in
-    let main = c.args.main in
     let cell : ℕ × ℕ = (c.args.x, c.args.y) in
     let hold = whole_columns d c.requires.over.whole in
-    let opened = opened_desk d (kept c.open_on.new.desk) c.add_text.new.texts.entries c.in_ok-number.number
-    text main cell c.in_ok-number.ensures.texts c.in_ok-number.ensures.number c.in_ok-open_on.ensures in
-    let written : c.open_on.new.desk.written ≡ d.written
-    = ap (λ (x : KeptDesktop). x.written) opened ∙ written_opened d text main cell in
-    let after : record (kept c.open_on.new.desk) { written = c.open_on.new.desk.written + length bytes }
-    ≡ record (dropped (opening d text main cell)) { written = d.written + length bytes }
-    = λ k. record (opened k) { written = written k + length bytes } in
-    subst (λ (x : KeptDesktop). IsAnswered H old new d x (settled (seen old d)
-    (Ok (more_written (opening (seen old d) (plain bytes) (seen_text old main) cell) (length bytes)))) Done)
-    (sym after)
-    (opening_answered H old bytes new d text cell c.requires.over c.in_ok-append.ensures.added c.in_ok-text.ensures
+    answered_there (opened_counted d (kept c.open_on.new.desk) _ _ c.in_ok-text.text c.args.main cell _
+    c.in_ok-number.ensures.texts c.in_ok-number.ensures.number c.in_ok-open_on.ensures)
+    (opening_answered _ _ c.args.menu.now _ d _ cell c.requires.over c.in_ok-append.ensures.added c.in_ok-text.ensures
     (record {
       hold = c.edits_keep_columns.ensures.opened d.columns (new_id d) c.args.x c.args.y hold
           (new_fresh d c.requires.over.whole);
       places = λ w. c.edits_place_viewers.ensures.opened d.columns (new_id d) c.args.x c.args.y w hold;
-    }) main c.requires.within c.requires.looks c.requires.fits)
+    }) c.args.main c.requires.within c.requires.looks c.requires.fits)
 
 pub returns-clause-unread : goal.returns-clause-unread
 returns-clause-unread g c = λ all long.
     let d = kept c.args.desk.now in
-    let bytes = c.args.menu.now in
-    let text = c.in_ok-text.text in
-    let main = c.args.main in
     let cell : ℕ × ℕ = (c.args.x, c.args.y) in
     let hold = whole_columns d c.requires.over.whole in
-    let opened = opened_desk d (kept c.open_on.new.desk) c.add_text.new.texts.entries c.in_ok-number.number
-    text main cell c.in_ok-number.ensures.texts c.in_ok-number.ensures.number c.in_ok-open_on.ensures in
-    let written : c.open_on.new.desk.written ≡ d.written
-    = ap (λ (x : KeptDesktop). x.written) opened ∙ written_opened d text main cell in
-    let after : record (kept c.open_on.new.desk) { written = c.open_on.new.desk.written + length bytes }
-    ≡ record (dropped (opening d text main cell)) { written = d.written + length bytes }
-    = λ k. record (opened k) { written = written k + length bytes } in
-    let answered = subst (λ (x : KeptDesktop). IsAnswered ⊤ all (all ++ bytes) d x (settled (seen all d)
-    (Ok (more_written (opening (seen all d) (plain bytes) (seen_text all main) cell) (length bytes)))) Done)
-    (sym after)
-    (opening_answered ⊤ all bytes (all ++ bytes) d text cell (over_all c.requires.over all long) refl
-    c.in_ok-text.ensures
-    (record {
+    (answered_there (opened_counted d (kept c.open_on.new.desk) _ _ c.in_ok-text.text c.args.main cell _
+    c.in_ok-number.ensures.texts c.in_ok-number.ensures.number c.in_ok-open_on.ensures)
+    (opening_answered ⊤ all c.args.menu.now (all ++ c.args.menu.now) d _ cell (over_all c.requires.over all long) refl
+    c.in_ok-text.ensures (record {
       hold = c.edits_keep_columns.ensures.opened d.columns (new_id d) c.args.x c.args.y hold
           (new_fresh d c.requires.over.whole);
       places = λ w. c.edits_place_viewers.ensures.opened d.columns (new_id d) c.args.x c.args.y w hold;
-    }) main c.requires.within c.requires.looks c.requires.fits) in answered.exact tt
+    }) c.args.main c.requires.within c.requires.looks c.requires.fits)).exact tt

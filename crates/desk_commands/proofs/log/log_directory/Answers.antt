@@ -36,13 +36,11 @@ log_lines-requires-clause-room g c =
 
 pub returns-clause-answered : goal.returns-clause-answered
 returns-clause-answered g c =
-    let s = g.S.CharSource in
-    let old = s.characters c.args.source.now in
     let d = kept c.args.desk.now in
     let lines = c.as_slice-lines.result.now in
-    directory_answered (s.honest c.args.source.now) old d c.requires.over (bytes_of_lines lines) (total lines)
-    (ap bytes_of_lines c.as_slice-lines.ensures.value ∙ c.in_ok-made.ensures old)
-    (sym (line_bytes_map (λ (l : ArrayVec ℕ). l.items) lines)) (s.characters c.log_lines.new.source)
-    (kept c.log_lines.new.desk) c.in_ok-log_lines.ensures.logged
+    directory_answered _ _ d c.requires.over (bytes_of_lines lines) (total lines)
+    (ap bytes_of_lines c.as_slice-lines.ensures.value ∙ c.in_ok-made.ensures _)
+    (sym (line_bytes_map (λ (l : ArrayVec ℕ). l.items) lines)) _ (kept c.log_lines.new.desk)
+    c.in_ok-log_lines.ensures.logged
     (λ all. ap (λ n. has_space (seen all d) n n 0) (sym c.total-count.ensures.value) ∙ sym (c.fits_more.ensures all)
     ∙ c.if-not-fits_more.false)

@@ -12,9 +12,8 @@ use Rattle.desk_commands.proofs.stores.delete_files.Goals as goal
 pub returns-then-not-can_be_deleted-clause-answered :
     goal.returns-then-not-can_be_deleted-clause-answered
 returns-then-not-can_be_deleted-clause-answered g c =
-    let s = g.S.CharSource in
-    deleting_refused (s.honest c.args.source.now) (s.characters c.args.source.now) (kept c.args.desk.now)
-    c.requires.over c.args.names.now (sym c.if-not-can_be_deleted.true ∙ c.can_be_deleted.ensures)
+    deleting_refused _ _ (kept c.args.desk.now) c.requires.over c.args.names.now
+    (sym c.if-not-can_be_deleted.true ∙ c.can_be_deleted.ensures)
 
 pub lengths_of-requires-clause-files : goal.lengths_of-requires-clause-files
 unfolding seen
@@ -58,15 +57,12 @@ log_lines-requires-clause-short g c =
 
 pub returns-clause-answered : goal.returns-clause-answered
 returns-clause-answered g c =
-    let s = g.S.CharSource in
-    let old = s.characters c.args.source.now in
     let d = kept c.args.desk.now in
     let gone = c.lengths_of.result in
     let lines = c.as_slice-lines.result.now in
-    deleting_answered (s.honest c.args.source.now) old d c.requires.over c.args.names.now (bytes_of_lines lines)
-    (total lines) gone (sym c.if-not-can_be_deleted.false ∙ c.can_be_deleted.ensures)
+    deleting_answered _ _ d c.requires.over c.args.names.now (bytes_of_lines lines) (total lines) gone
+    (sym c.if-not-can_be_deleted.false ∙ c.can_be_deleted.ensures)
     (ap bytes_of_lines c.as_slice-lines.ensures.value ∙ c.in_ok-made.ensures) c.lengths_of.ensures.sum
-    c.remove.new.files.entries c.remove.ensures (s.characters c.log_lines.new.source) (kept c.log_lines.new.desk)
-    c.in_ok-log_lines.ensures.logged
+    c.remove.new.files.entries c.remove.ensures _ (kept c.log_lines.new.desk) c.in_ok-log_lines.ensures.logged
     (λ all. ap (λ n. has_space (seen all d) n n gone) (sym c.total-count.ensures.value) ∙ sym (c.fits_more.ensures all)
     ∙ c.if-not-fits_more.false)
