@@ -3,18 +3,15 @@ ghost use Rattle.std.specs.Prelude.{◌≡◌, ◌≤◌, length, IfOk, IfErr, I
 ghost use Rattle.sector_disk.specs.Faults.{OneOf};
 ghost use Rattle.readers_scanners.specs.Symbol.{IsShaped};
 ghost use Rattle.command_table.specs.Parameters.{place_of, text_of, listed, first_names};
-ghost use Rattle.desktop_definitions.specs.Limits.{no_viewer};
-ghost use Rattle.command_table.specs.Versions.{version_number};
-ghost use Rattle.desktop_definitions.specs.Needs.{given};
 ghost use Rattle.desktop_definitions.specs.Call.{text_called, seen_at_marker, meant, number_in, value_of, name_of};
 ghost use Rattle.desktop_definitions.specs.Call.{number_of, names_of};
 ghost use Rattle.desktop_laws.specs.CallLaws.{kept_place, kept_menu};
 ghost use Rattle.desktop_definitions.specs.Commands.{commanded, called};
-ghost use Rattle.desktop_definitions.specs.Effects.{files_deleted};
 ghost use Rattle.desktop_definitions.specs.Outcome.{reply_codes as known_codes};
 ghost use Rattle.desk_commands.specs.Calls.{IsCall, done_with_name, done_with_number, done_with_viewer};
 ghost use Rattle.desk_core.specs.Words.{CountsFault, OnlyReads, flat, IsOnTop, needs, seen, IsKeptWhole, IsOver, kept};
 ghost use Rattle.desk_core.specs.Words.{Settles, Uses};
+ghost use Rattle.desk_commands.specs.Words.{no_viewer, version_number, given, files_deleted};
 
 use crate::closings::{close_viewer, recall_viewer};
 use crate::collecting::collect;

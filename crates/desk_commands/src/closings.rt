@@ -1,12 +1,10 @@
 //! Viewers close, and the one that was closed last opens again.
 ghost use Rattle.std.specs.Prelude.{◌≡◌, IfOk, Ok, option_map};
-ghost use Rattle.viewer_tracks.specs.declared.display.Track.{Track as ATrack};
 ghost use Rattle.viewer_tracks.specs.Display.{left_of};
-ghost use Rattle.desktop_definitions.specs.Limits.{no_viewer};
 ghost use Rattle.desktop_definitions.specs.Effects.{put_away, brought_back};
-ghost use Rattle.desktop_definitions.specs.Sound.{IsKeptPlace};
 ghost use Rattle.desktop_laws.specs.ClosingLaws.{place_kept};
 ghost use Rattle.desk_core.specs.Words.{IsOnTop, id_number, needs, IsOver, kept, Settles, Uses};
+ghost use Rattle.desk_commands.specs.Words.{Track as ATrack, no_viewer, IsKeptPlace};
 
 use char_file::CharSource;
 use desk_core::desk::Desk;

@@ -2,18 +2,13 @@
 ghost use Rattle.std.specs.Prelude.{◌≡◌, ◌<◌, ◌≤◌, ◌+◌, ℕ, List, [], length, codes, true, IfOk, Ok};
 ghost use Rattle.std.specs.Option.{unwrap_or};
 ghost use Rattle.viewer_tracks.specs.Columns.{allocated};
-ghost use Rattle.desktop_definitions.specs.Looks.{AreLooks};
-ghost use Rattle.desktop_definitions.specs.Tables.{named};
-ghost use Rattle.desktop_definitions.specs.Desktop.{file_of};
-ghost use Rattle.desktop_definitions.specs.Change.{plain, more_written};
-ghost use Rattle.desktop_definitions.specs.Opening.{menu_line, opening};
 ghost use Rattle.desktop_definitions.specs.Effects.{opened_on_copy, document_opened, file_opened, log_opened};
 ghost use Rattle.desktop_definitions.specs.Effects.{viewer_copied, viewer_grown};
 ghost use Rattle.desktop_definitions.specs.Gesture.{tool_opened};
-ghost use Rattle.desktop_definitions.specs.Step.{fits};
 ghost use Rattle.desktop_laws.specs.OpeningOnLaws.{IsPlaceOf};
 ghost use Rattle.desk_core.specs.Words.{flat, AreWithin, Text as AText, ROWS, COLUMNS, IsOnTop, most_written, dropped};
 ghost use Rattle.desk_core.specs.Words.{seen, seen_text, IsKeptWhole, IsOver, kept, Settles, SettlesBringing, Uses};
+ghost use Rattle.desk_commands.specs.Words.{AreLooks, named, file_of, plain, more_written, menu_line, opening, fits};
 
 use crate::closings::track_from;
 use crate::openings::{

@@ -2,17 +2,13 @@
 ghost use Rattle.std.specs.Prelude.{◌≡◌, ◌+◌, ◌<◌, ◌≤◌, ◌^◌, ◌++◌, ℕ, List, [], ◌∷◌, length, map, slice_get, Some, Ok};
 ghost use Rattle.std.specs.Prelude.{IfOk, OnOk};
 ghost use Rattle.std.specs.Fmt.{decimal};
-ghost use Rattle.piece_ring.specs.Look.{default_look};
-ghost use Rattle.piece_ring.specs.Flat.{run};
 ghost use Rattle.screen_pictures.specs.Bytes.{space};
-ghost use Rattle.desktop_definitions.specs.Desktop.{held};
 ghost use Rattle.desktop_definitions.specs.Log.{line, logged, all_logged, log_shown, log_end_shown};
-ghost use Rattle.desktop_definitions.specs.Effects.{size_line, deleting_line, storing_line, log_cleared};
-ghost use Rattle.desktop_definitions.specs.Effects.{directory_logged};
-ghost use Rattle.desktop_definitions.specs.Changed.{IsExtended, IsStanding};
+ghost use Rattle.desktop_definitions.specs.Effects.{size_line, storing_line, log_cleared, directory_logged};
 ghost use Rattle.desk_commands.specs.Lines.{bytes_of_lines, total};
 ghost use Rattle.desk_core.specs.Words.{keys_of, FailsAs, OnlyReads, flat, most_written, text_in, seen, seen_table};
 ghost use Rattle.desk_core.specs.Words.{IsOver, IsBuilt, IsChanged, kept, IsStop, Settles, Uses};
+ghost use Rattle.desk_commands.specs.Words.{default_look, run, held, deleting_line, IsExtended, IsStanding};
 
 use arrayvec::ArrayVec;
 use char_file::CharSource;

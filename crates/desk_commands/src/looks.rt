@@ -1,10 +1,10 @@
 //! What commands set in looks: a selector (bit 0 the font, bit 1 the colour, bit 2 the vertical offset), and a look of
 //! which it takes a field.
 ghost use Rattle.std.specs.Prelude.{◌≡◌, IfOk, Ok};
-ghost use Rattle.desktop_definitions.specs.Limits.{bad_value};
 ghost use Rattle.desktop_definitions.specs.Looks.{font_set, colour_set, offset_set, SetsLook};
 ghost use Rattle.desktop_definitions.specs.Effects.{look_set, selection_set};
 ghost use Rattle.desk_core.specs.Words.{needs, IsOver, kept, Settles, Uses};
+ghost use Rattle.desk_commands.specs.Words.{bad_value};
 
 use char_file::CharSource;
 use desk_core::desk::Desk;

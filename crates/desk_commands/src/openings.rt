@@ -3,18 +3,15 @@ ghost use Rattle.std.specs.Prelude.{◌≡◌, ◌+◌, ◌<◌, ◌≤◌, ◌^
 ghost use Rattle.std.specs.Prelude.{IfOk, OnOk, IsTrue, None, nat_lt};
 ghost use Rattle.std.specs.List.{position_or_len};
 ghost use Rattle.std.specs.BTreeMap.{insert_entry};
-ghost use Rattle.viewer_tracks.specs.declared.display.Track.{Track as ATrack};
 ghost use Rattle.viewer_tracks.specs.Columns.{replaced_at, times_meant};
-ghost use Rattle.desktop_definitions.specs.Desktop.{held};
-ghost use Rattle.desktop_definitions.specs.Viewers.{viewer_in, without_viewer};
-ghost use Rattle.desktop_definitions.specs.Change.{more_written};
-ghost use Rattle.desktop_definitions.specs.Opening.{least_unused, with_new, new_id, with_viewer, opening, opening_on};
+ghost use Rattle.desktop_definitions.specs.Opening.{least_unused, with_new, new_id, with_viewer, opening_on};
 ghost use Rattle.desktop_definitions.specs.Opening.{opening_over};
-ghost use Rattle.desktop_definitions.specs.Step.{fits};
 ghost use Rattle.desktop_laws.specs.OpeningDone.{CanOpen};
 ghost use Rattle.desktop_laws.specs.LeftLaws.{is_taken, still_shown, kept_left};
 ghost use Rattle.desk_core.specs.Words.{keys_of, nat_cmp, flat, Text as AText, COLUMNS, DEPTH, id_number, stack_of};
 ghost use Rattle.desk_core.specs.Words.{most_written, most_held, lengths, dropped, seen, seen_table, IsKeptWhole, kept};
+ghost use Rattle.desk_commands.specs.Words.{Track as ATrack, held, viewer_in, without_viewer, more_written, opening};
+ghost use Rattle.desk_commands.specs.Words.{fits};
 
 use desk_core::desk::Desk;
 use desk_core::held::{lengths, within_limits};

@@ -3,11 +3,10 @@
 ghost use Rattle.std.specs.Prelude.{◌≡◌, ◌+◌, ◌<◌, ◌≤◌, ◌^◌, ◌++◌, length, IfOk, OnOk};
 ghost use Rattle.std.specs.List.Sorted.{IsStrictlySortedBy};
 ghost use Rattle.piece_ring.specs.Flat.{characters_of};
-ghost use Rattle.desktop_definitions.specs.Tables.{name_cmp};
-ghost use Rattle.desktop_definitions.specs.Sound.{AllWithin};
 ghost use Rattle.desktop_laws.specs.TableLaws.{kept_lengths};
 ghost use Rattle.desktop_laws.specs.Rewriting.{laid, laid_table, flats, bytes_in};
 ghost use Rattle.desk_core.specs.Words.{FailsAs, OnlyReads, flat, AreWithin, bytes, nat_cmp, keys_of, IsStop};
+ghost use Rattle.desk_commands.specs.Words.{name_cmp, AllWithin};
 
 use char_file::CharSource;
 use desk_core::files::Files;

@@ -1,11 +1,10 @@
 //! A text is searched, and what was deleted or copied last is put in.
 ghost use Rattle.std.specs.Prelude.{◌≡◌, ◌+◌, ◌<◌, ◌≤◌, length, take, slice_range, IfOk, IfSome, Ok, if◌then◌else◌};
-ghost use Rattle.desktop_definitions.specs.Limits.{no_caret, most_pattern};
-ghost use Rattle.desktop_definitions.specs.Change.{put_at_caret};
 ghost use Rattle.desktop_definitions.specs.Effects.{found_at, pattern_after, searched};
 ghost use Rattle.desktop_laws.specs.SearchLaws.{start_in};
 ghost use Rattle.desk_core.specs.Words.{CountsFault, OnlyReads, flat, AreWithin, bytes, IsOnTop, needs, seen, IsOver};
 ghost use Rattle.desk_core.specs.Words.{kept, Settles, Uses};
+ghost use Rattle.desk_commands.specs.Words.{no_caret, most_pattern, put_at_caret};
 
 use arrayvec::ArrayVec;
 use char_file::{CharSource, Fault};

@@ -2,14 +2,11 @@
 ghost use Rattle.std.specs.Prelude.{◌≡◌, ◌+◌, ◌≤◌, ℕ, List, [], length, fold, map, IsTrue, IfOk, Ok};
 ghost use Rattle.command_table.specs.Deciding.{is_among, can_be_deleted};
 ghost use Rattle.desktop_laws.specs.StoreLaws.{can_go};
-ghost use Rattle.desktop_definitions.specs.Effects.{menu_name, stored, stored_as, files_deleted, without_file};
-ghost use Rattle.desktop_definitions.specs.Effects.{deleting_line};
-ghost use Rattle.desktop_definitions.specs.Limits.{too_many_files};
-ghost use Rattle.desktop_definitions.specs.Tables.{has_room};
-ghost use Rattle.desktop_definitions.specs.Viewers.{main_of};
+ghost use Rattle.desktop_definitions.specs.Effects.{menu_name, stored, stored_as, without_file};
 ghost use Rattle.desk_commands.specs.Lines.{bytes_of_lines};
 ghost use Rattle.desk_core.specs.Words.{CountsFault, OnlyReads, IsOnTop, most_held, unless, lengths, seen, seen_table};
 ghost use Rattle.desk_core.specs.Words.{IsOver, keys_of, kept, Settles, Uses};
+ghost use Rattle.desk_commands.specs.Words.{files_deleted, deleting_line, too_many_files, has_room, main_of};
 
 use crate::log::{LogLine, deleting_line, log_line, log_lines, storing_line, total};
 use crate::openings::copy_of;
