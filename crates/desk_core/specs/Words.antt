@@ -1,21 +1,27 @@
 -- The words by which a call says what it does with a desktop, with its texts and with the source of their characters.
 pub use Rattle.std.specs.Map.{keys_of}
 pub use Rattle.std.specs.Ordering.{nat_cmp}
+pub use Rattle.std.specs.BTreeMap.{is_at}
 pub use Rattle.sector_disk.specs.Faults.{FailsAs}
-pub use Rattle.piece_ring.specs.Text.{Text}
+pub use Rattle.piece_ring.specs.Text.{Text, stretch}
+pub use Rattle.piece_ring.specs.Flat.{run}
 pub use Rattle.readers_scanners.specs.Words.{CountsFault, OnlyReads, flat, AreWithin, bytes}
 pub use Rattle.viewer_tracks.specs.declared.display.TheConstants.{COLUMNS, DEPTH, ROWS}
 pub use Rattle.viewer_tracks.specs.Columns.{IsOnTop, IsPlaced, stack_of}
 pub use Rattle.viewer_tracks.specs.Viewers.{id_number}
-pub use Rattle.desktop_definitions.specs.Limits.{most_written, most_held}
+pub use Rattle.desktop_definitions.specs.Limits.{most_written, most_held, no_caret}
 pub use Rattle.desktop_definitions.specs.Needs.{needs, unless}
-pub use Rattle.desktop_definitions.specs.Tables.{numbered, lengths}
+pub use Rattle.desktop_definitions.specs.Tables.{numbered, lengths, with_values}
 pub use Rattle.desktop_definitions.specs.Viewers.{text_in, viewer_or_none, unmarked, caret_outside, selections_outside}
+pub use Rattle.desktop_definitions.specs.Viewers.{newest}
+pub use Rattle.desktop_definitions.specs.Change.{followed}
 pub use Rattle.desktop_definitions.specs.Seen.{seen, seen_table, seen_text}
 pub use Rattle.desktop_definitions.specs.Sound.{IsKeptWhole, IsBuilt, IsOver}
 pub use Rattle.desktop_definitions.specs.Changed.{IsChanged}
 pub use Rattle.desktop_definitions.specs.Opening.{dropped}
+pub use Rattle.desktop_laws.specs.ShapeLaws.{AreMoved, CanFollow}
+pub use Rattle.desktop_laws.specs.RowPartLaws.{kept_main}
 pub use Rattle.desk_core.specs.Kept.{kept}
 pub use Rattle.desk_core.specs.Stops.{IsStop}
-pub use Rattle.desk_core.specs.Positions.{IsPosition}
+pub use Rattle.desk_core.specs.Positions.{IsPosition, CanGo}
 pub use Rattle.desk_core.specs.Row.{Settles, SettlesUnread, SettlesBringing, Uses}

@@ -1,17 +1,12 @@
 //! Edits that several rows have: what is put in or taken out, with the caret where it was, and copies of stretches.
 ghost use Rattle.std.specs.Prelude.{◌≡◌, ◌+◌, ◌-◌, ◌<◌, ◌≤◌, ◌^◌, ◌&&◌, ℕ, List, length, nat_le, IfOk, IfSome, IsSome};
 ghost use Rattle.std.specs.Prelude.{OnOk, is_none, true, Ok, if◌then◌else◌};
-ghost use Rattle.piece_ring.specs.Text.{stretch};
-ghost use Rattle.desktop_definitions.specs.Viewers.{newest};
 ghost use Rattle.desktop_definitions.specs.Change.{put_in, put_at_caret, cut_out};
 ghost use Rattle.desktop_laws.specs.RowLaws.{has_space};
-ghost use Rattle.desktop_laws.specs.RowPartLaws.{kept_main};
-ghost use Rattle.desk_core.specs.Positions.{CanGo};
-ghost use Rattle.piece_ring.specs.Flat.{run};
-ghost use Rattle.desktop_definitions.specs.Limits.{no_caret};
-ghost use Rattle.desk_core.specs.Words.{FailsAs, OnlyReads, flat, most_written, most_held, numbered, viewer_or_none};
-ghost use Rattle.desk_core.specs.Words.{seen, seen_text, IsKeptWhole, IsBuilt, IsOver, IsChanged, kept, IsPosition};
-ghost use Rattle.desk_core.specs.Words.{IsStop, flat, needs, Settles, SettlesUnread, Uses};
+ghost use Rattle.desk_core.specs.Words.{stretch, newest, kept_main, CanGo, run, no_caret, FailsAs, OnlyReads, flat};
+ghost use Rattle.desk_core.specs.Words.{most_written, most_held, numbered, viewer_or_none, seen, seen_text};
+ghost use Rattle.desk_core.specs.Words.{IsKeptWhole, IsBuilt, IsOver, IsChanged, kept, IsPosition, IsStop, needs};
+ghost use Rattle.desk_core.specs.Words.{Settles, SettlesUnread, Uses};
 
 use crate::desk::Desk;
 use crate::stop::{Answer, NoMemory, Stop};

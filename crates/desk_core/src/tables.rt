@@ -2,11 +2,10 @@
 ghost use Rattle.std.specs.Prelude.{◌≡◌, ◌==◌, ◌||◌, ◌<◌, ◌^◌, length, Some};
 ghost use Rattle.std.specs.List.{list_any, position_or_len};
 ghost use Rattle.std.specs.Map.{remove_entry};
-ghost use Rattle.std.specs.BTreeMap.{is_at};
 ghost use Rattle.desktop_definitions.specs.Viewers.{without_viewer};
 ghost use Rattle.desktop_definitions.specs.Opening.{least_unused};
-ghost use Rattle.desk_core.specs.Words.{keys_of, nat_cmp, id_number, caret_outside, selections_outside, unmarked};
-ghost use Rattle.desk_core.specs.Words.{dropped, kept};
+ghost use Rattle.desk_core.specs.Words.{is_at, keys_of, nat_cmp, id_number, caret_outside, selections_outside};
+ghost use Rattle.desk_core.specs.Words.{unmarked, dropped, kept};
 
 use crate::desk::Desk;
 use crate::viewers::ViewerTable;

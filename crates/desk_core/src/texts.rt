@@ -3,16 +3,14 @@
 //! Each method says in one word (`IsChanged`) what it makes of the desktop: what the definition says, where the
 //! characters were told truly, and what holds whatever was told.
 ghost use Rattle.std.specs.Prelude.{◌≡◌, ◌+◌, ◌-◌, ◌<◌, ◌≤◌, ◌^◌, ◌⊎◌, ℕ, List, length, All, IsSome, OnOk, ⊤};
-ghost use Rattle.piece_ring.specs.Text.{stretch, inserted, deleted, looks_changed};
-ghost use Rattle.desktop_definitions.specs.Tables.{with_values};
+ghost use Rattle.piece_ring.specs.Text.{inserted, deleted, looks_changed};
 ghost use Rattle.desktop_definitions.specs.Looks.{IsLook, AreLooks};
 ghost use Rattle.desktop_definitions.specs.Viewers.{shows, rows_of};
-ghost use Rattle.desktop_definitions.specs.Change.{followed, insertion, deletion, looks_set, showing, caret_shown};
-ghost use Rattle.desktop_laws.specs.ShapeLaws.{CanFollow, AreMoved};
+ghost use Rattle.desktop_definitions.specs.Change.{insertion, deletion, looks_set, showing, caret_shown};
 ghost use Rattle.desktop_laws.specs.EditLaws.{IsSet};
-ghost use Rattle.desk_core.specs.Words.{FailsAs, IsOnTop, IsPlaced, CountsFault, OnlyReads, flat, AreWithin, bytes};
-ghost use Rattle.desk_core.specs.Words.{numbered, text_in, viewer_or_none, unmarked, seen, seen_text, IsBuilt};
-ghost use Rattle.desk_core.specs.Words.{IsChanged, kept, IsStop};
+ghost use Rattle.desk_core.specs.Words.{stretch, with_values, followed, CanFollow, AreMoved, FailsAs, IsOnTop};
+ghost use Rattle.desk_core.specs.Words.{IsPlaced, CountsFault, OnlyReads, flat, AreWithin, bytes, numbered, text_in};
+ghost use Rattle.desk_core.specs.Words.{viewer_or_none, unmarked, seen, seen_text, IsBuilt, IsChanged, kept, IsStop};
 
 use crate::desk::Desk;
 use crate::stop::{NoMemory, Stop};

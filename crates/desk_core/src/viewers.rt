@@ -1,15 +1,13 @@
 //! The table of viewers by their ids, and what a change of a text does to them.
 ghost use Rattle.std.specs.Prelude.{◌≡◌, ◌⊎◌, ◌∷◌, [], ◌++◌, ◌+◌, ◌<◌, ◌≤◌, ◌==◌, length, IfOk, OnOk, All, IsSome};
 ghost use Rattle.std.specs.Map.{set_value};
-ghost use Rattle.std.specs.BTreeMap.{is_at};
 ghost use Rattle.text_frames.specs.Rules.{changed_org, shown_org};
-ghost use Rattle.desktop_definitions.specs.Tables.{with_values};
 ghost use Rattle.desktop_definitions.specs.Viewers.{viewer_in};
-ghost use Rattle.desktop_definitions.specs.Change.{followed};
-ghost use Rattle.desktop_laws.specs.ShapeLaws.{IsMoved, AreMoved, CanFollow};
+ghost use Rattle.desktop_laws.specs.ShapeLaws.{IsMoved};
 ghost use Rattle.desk_core.specs.Movable.{IsMovable};
-ghost use Rattle.desk_core.specs.Words.{nat_cmp, CountsFault, OnlyReads, flat, AreWithin, bytes, numbered};
-ghost use Rattle.desk_core.specs.Words.{viewer_or_none, text_in, caret_outside, selections_outside};
+ghost use Rattle.desk_core.specs.Words.{is_at, with_values, followed, AreMoved, CanFollow, nat_cmp, CountsFault};
+ghost use Rattle.desk_core.specs.Words.{OnlyReads, flat, AreWithin, bytes, numbered, viewer_or_none, text_in};
+ghost use Rattle.desk_core.specs.Words.{caret_outside, selections_outside};
 
 use crate::stop::NoMemory;
 use char_file::{CharSource, Fault};
