@@ -26,3 +26,9 @@ pub outcome_as : (H : Type 0) (old new : List ℕ) (d after : KeptDesktop) (resu
 outcome_as H old new d after result same answered =
     subst (λ (o : Result Desktop ℕ). IfOk result (λ reply. IsAnswered H old new d after (settled (seen old d) o) reply))
     same answered
+
+-- what is answered of a desktop is answered of one that equals it
+pub answered_there : {H : Type 0} {old new : List ℕ} {d x y : KeptDesktop} {outcome : Desktop × Reply} {reply : Reply}
+    → y ≡ x → IsAnswered H old new d x outcome reply → IsAnswered H old new d y outcome reply
+answered_there {H = H} {old = old} {new = new} {d = d} {outcome = outcome} {reply = reply} is =
+    subst (λ (z : KeptDesktop). IsAnswered H old new d z outcome reply) (sym is)

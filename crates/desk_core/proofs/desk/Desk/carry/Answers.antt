@@ -1,16 +1,12 @@
 use Rattle.std.specs.Prelude.{⊤}
-use Rattle.std.proofs.Common.{◌≡◌, ◌+◌, ℕ, Some, Ok, sym, ap, subst, ◌∙◌}
+use Rattle.std.proofs.Common.{◌≡◌, ◌+◌, ℕ, Some, sym, ap, subst, ◌∙◌}
 use Rattle.viewer_tracks.specs.Columns.{Columns, IsColumns, times_placed, times_meant, after_close}
-use Rattle.desktop_definitions.specs.declared.reply.Reply.TheVariants.{Done}
-use Rattle.desktop_definitions.specs.Desktop.{KeptDesktop}
 use Rattle.desktop_definitions.specs.Viewers.{opened_at}
 use Rattle.desktop_definitions.specs.Opening.{dropped}
 use Rattle.desktop_definitions.specs.Gesture.{carried}
-use Rattle.desktop_definitions.specs.Seen.{seen}
-use Rattle.desktop_definitions.specs.Step.{settled}
-use Rattle.desktop_definitions.specs.Outcome.{IsAnswered}
 use Rattle.desktop_laws.specs.PlacedLaws.{over_columns, closed_fresh, carried_answered}
 use Rattle.desk_core.specs.Kept.{kept}
+use Rattle.desk_core.proofs.ArmLemmas.{answered_there}
 use Rattle.desk_core.proofs.UnreadLemmas.{over_all}
 use Rattle.desk_core.proofs.desk.Desk.carry.Goals as goal
 
@@ -27,20 +23,16 @@ open_at-requires-clause-fresh g c =
 pub returns-clause-answered : goal.returns-clause-answered
 unfolding carried
 returns-clause-answered g c =
-    let H = g.S.CharSource.honest c.args.source.now in
-    let old = g.S.CharSource.characters c.args.source.now in
     let d = kept c.args.self.now in
     let v = c.args.id in
     let closed = after_close d.columns v in
-    let hold = over_columns old d c.requires.over in
-    let left = λ (w : ℕ). c.edits_place_viewers.ensures.closed d.columns v w hold c.requires.placed in
     let closed_hold = subst IsColumns c.close.ensures.closed c.close.ensures.sound in
-    let outcome = settled (seen old d) (Ok (carried (seen old d) v c.args.x c.args.y)) in
-    subst (λ (after : KeptDesktop). IsAnswered H old old d after outcome Done)
-    (sym (c.open_at.ensures
+    let hold = over_columns _ d c.requires.over in
+    let left = λ (w : ℕ). c.edits_place_viewers.ensures.closed d.columns v w hold c.requires.placed in
+    answered_there (c.open_at.ensures
     ∙ ap (λ (columns : Columns). dropped (opened_at (record d { columns = columns }) v (c.args.x, c.args.y + 1)))
-    c.close.ensures.closed))
-    (carried_answered H old d c.requires.over v c.args.x c.args.y c.requires.placed (record {
+    c.close.ensures.closed)
+    (carried_answered _ _ d c.requires.over v c.args.x c.args.y c.requires.placed (record {
       hold = c.edits_keep_columns.ensures.opened closed v c.args.x (c.args.y + 1) closed_hold
           (closed_fresh d.columns closed v hold (left v));
       places = λ w.
@@ -57,14 +49,12 @@ returns-clause-unread g c = λ all long.
     let over = over_all c.requires.over all long in
     let hold = over_columns all d over in
     let left = λ (w : ℕ). c.edits_place_viewers.ensures.closed d.columns v w hold c.requires.placed in
-    let answered = subst (λ (after : KeptDesktop). IsAnswered ⊤ all all d after
-    (settled (seen all d) (Ok (carried (seen all d) v c.args.x c.args.y))) Done)
-    (sym (c.open_at.ensures
+    (answered_there (c.open_at.ensures
     ∙ ap (λ (columns : Columns). dropped (opened_at (record d { columns = columns }) v (c.args.x, c.args.y + 1)))
-    c.close.ensures.closed))
+    c.close.ensures.closed)
     (carried_answered ⊤ all d over v c.args.x c.args.y c.requires.placed (record {
       hold = c.edits_keep_columns.ensures.opened closed v c.args.x (c.args.y + 1) closed_hold
           (closed_fresh d.columns closed v hold (left v));
       places = λ w.
           c.edits_place_viewers.ensures.opened closed v c.args.x (c.args.y + 1) w closed_hold ∙ left w;
-    })) in answered.exact tt
+    }))).exact tt
