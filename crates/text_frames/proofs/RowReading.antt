@@ -68,6 +68,64 @@ more_high r row full more = elim (leb_tells (suc row) r) [
 
 module _ {S : Type 0} (characters : S → List ℕ) (failures : S → ℕ) (honest : S → Type 0) (same_ground : S → S
     → Type 0) where
+  -- The reader stands before the character `at`, and no character from the row `next` on is passed.
+  pub record IsSkipped (start now : S) (text : Text ℕ) (reader : Reading) (org next at r column : ℕ) : Type 0 where
+    pub placed : IsPlaced characters failures honest same_ground start now text reader org at r column
+    pub from : org ≤ at
+    pub within : at ≤ length text
+    pub high : r ≤ next
+    pub passed : honest start → (p : ℕ) → org ≤ p → p < at → row_of (bytes (characters start) text) org p < next
+
+  pub skipped : (start now : S) (text : Text ℕ) (reader : Reading) (org next at r column : ℕ)
+      → IsSkipped start now text reader org next at r column
+      → IsReadTo (honest start) (characters start) text org next reader r column
+  skipped start now text reader org next at r column is =
+      let place = is.placed.way.place in let from = is.from in let within = is.within in let few = is.placed.few in
+      record {
+        same = is.placed.way.same;
+        from = omega (arith, place, from);
+        within = omega (arith, place, within);
+        few = omega (arith, place, few);
+        short = rw place is.placed.short;
+        high = is.high;
+        in_row = λ h. rw place (is.placed.in_row h);
+        in_column = λ h. rw place (is.placed.in_column h);
+        passed = λ h p low under. is.passed h p low (omega (arith, under, place));
+      }
+
+  -- a reader that has passed nothing but what was read before
+  begun : (start now : S) (text : Text ℕ) (reader : Reading) (org next at r column : ℕ)
+      → OnlyReads characters failures honest same_ground start now → failures now ≡ failures start
+      → IsReadTo (honest start) (characters start) text org next reader r column → at ≡ reader.position
+      → IsSkipped start now text reader org next at r column
+  begun start now text reader org next at r column reads calm is here =
+      let from = is.from in let within = is.within in let few = is.few in
+      record {
+        placed = record {
+          way = record { place = sym here; same = is.same; reads = reads; calm = calm };
+          few = omega (arith, few, here);
+          short = rw here is.short;
+          in_row = λ h. rw here (is.in_row h);
+          in_column = λ h. rw here (is.in_column h);
+        };
+        from = omega (arith, from, here);
+        within = omega (arith, within, here);
+        high = is.high;
+        passed = λ h p low high. is.passed h p low (omega (arith, high, here));
+      }
+
+  -- a character more that is in a row above
+  passed_on : (start : S) (text : Text ℕ) (org next at r : ℕ) → row_of (bytes (characters start) text) org at ≡ r
+      → r < next → ((p : ℕ) → org ≤ p → p < at → row_of (bytes (characters start) text) org p < next)
+      → (p : ℕ) → org ≤ p → p < at + 1 → row_of (bytes (characters start) text) org p < next
+  passed_on start text org next at r in_row high before p under over = elim (cases_eq p at) [
+    | inl same ↦
+        let at_row : row_of (bytes (characters start) text) org p ≡ r =
+        ap (row_of (bytes (characters start) text) org) same ∙ in_row in
+        omega (arith, at_row, high)
+    | inr other ↦ before p under (omega (arith, over, other))
+  ]
+
   -- The reader stands before the character `at`, and the line has the cells of those before it, as far as there are w.
   pub record IsRowSoFar (start now : S) (text : Text ℕ) (reader : Reading) (org w row at r column : ℕ)
       (line : List ShownCell) : Type 0 where
@@ -107,18 +165,8 @@ module _ {S : Type 0} (characters : S → List ℕ) (failures : S → ℕ) (hone
       → IsRowSoFar start now text reader org w row at r column line → r ≤ row + 1
       → IsReadTo (honest start) (characters start) text org (row + 1) reader r column
   read_on start now text reader org w row at r column line is high =
-      let place = is.placed.way.place in let from = is.from in let within = is.within in let few = is.placed.few in
-      record {
-        same = is.placed.way.same;
-        from = omega (arith, place, from);
-        within = omega (arith, place, within);
-        few = omega (arith, place, few);
-        short = rw place is.placed.short;
-        high = high;
-        in_row = λ h. rw place (is.placed.in_row h);
-        in_column = λ h. rw place (is.placed.in_column h);
-        passed = λ h p low under. is.passed h p low (omega (arith, under, place));
-      }
+      skipped start now text reader org (row + 1) at r column
+      (record { placed = is.placed; from = is.from; within = is.within; high = high; passed = is.passed })
 
   module _ (ground_self : (s : S) → same_ground s s) (ground_through : (a b c : S) → same_ground a b → same_ground b c
       → same_ground a c) where
@@ -128,23 +176,16 @@ module _ {S : Type 0} (characters : S → List ℕ) (failures : S → ℕ) (hone
         → IsReadTo (honest start) (characters start) text org row reader r column → at ≡ reader.position → line ≡ []
         → IsRowSoFar start now text reader org w row at r column line
     row_begun start now text reader org w row at r column line reads calm is here none =
-        let from = is.from in let within = is.within in let few = is.few in
+        let before = begun start now text reader org row at r column reads calm is here in
         record {
-          placed = record {
-            way = record { place = sym here; same = is.same; reads = reads; calm = calm };
-            few = omega (arith, few, here);
-            short = rw here is.short;
-            in_row = λ h. rw here (is.in_row h);
-            in_column = λ h. rw here (is.in_column h);
-          };
-          from = omega (arith, from, here);
-          within = omega (arith, within, here);
-          passed = λ h p low high. let lt = is.passed h p low (omega (arith, high, here)) in
+          placed = before.placed;
+          from = before.from;
+          within = before.within;
+          passed = λ h p low high. let lt = before.passed h p low high in
               let more : row_of (bytes (characters start) text) org p < row + 1 = omega (arith, lt) in more;
           most = omega (arith, ap length none);
           range = All-same (IsOfText text org) _ _ none (All-nil (IsOfText text org));
-          cells = λ h. none ∙ cells_none (contents (characters start) text) org row w at
-              (λ p low high. is.passed h p low (omega (arith, high, here)));
+          cells = λ h. none ∙ cells_none (contents (characters start) text) org row w at (before.passed h);
         }
 
     -- a character more of this row or one above it
@@ -169,7 +210,8 @@ module _ {S : Type 0} (characters : S → List ℕ) (failures : S → ℕ) (hone
               p t reads calm r' column' to_row to_column;
           from = (let le : org ≤ at + 1 = omega (arith, from) in le);
           within = (let le : at + 1 ≤ length text = omega (arith, low) in le);
-          passed = λ h. below_from h (is.passed h);
+          passed = λ h. passed_on start text org (row + 1) at r (sym (is.placed.in_row h)) (omega (arith, high))
+              (is.passed h);
           most = most_filled w _ _ filled;
           range = all_filled (IsOfText text org) w count line more (c.0, c.1, at) is.range here filled;
           cells = λ h. cells_on (contents (characters start) text) org row w at line more c count r column from
@@ -177,67 +219,14 @@ module _ {S : Type 0} (characters : S → List ℕ) (failures : S → ℕ) (hone
               at is.placed.way c there h)
               (is.placed.in_row h) (is.placed.in_column h) many (is.cells h) filled;
         }
-      where
-        below_from : honest start
-            → ((p : ℕ) → org ≤ p → p < at → row_of (bytes (characters start) text) org p < row + 1)
-            → (p : ℕ) → org ≤ p → p < at + 1 → row_of (bytes (characters start) text) org p < row + 1
-        below_from h before p under over = elim (cases_eq p at) [
-          | inl same ↦
-              let in_row = is.placed.in_row h in
-              let at_row : row_of (bytes (characters start) text) org p ≡ r =
-              ap (row_of (bytes (characters start) text) org) same ∙ sym in_row in
-              omega (arith, at_row, high)
-          | inr other ↦ before p under (omega (arith, over, other))
-        ]
 
--- The reader stands before the character `at`, and no character from the row `next` on is passed.
-module _ {S : Type 0} (characters : S → List ℕ) (failures : S → ℕ) (honest : S → Type 0) (same_ground : S → S
-    → Type 0) where
-  pub record IsSkipped (start now : S) (text : Text ℕ) (reader : Reading) (org next at r column : ℕ) : Type 0 where
-    pub placed : IsPlaced characters failures honest same_ground start now text reader org at r column
-    pub from : org ≤ at
-    pub within : at ≤ length text
-    pub high : r ≤ next
-    pub passed : honest start → (p : ℕ) → org ≤ p → p < at → row_of (bytes (characters start) text) org p < next
-
-  pub skipped : (start now : S) (text : Text ℕ) (reader : Reading) (org next at r column : ℕ)
-      → IsSkipped start now text reader org next at r column
-      → IsReadTo (honest start) (characters start) text org next reader r column
-  skipped start now text reader org next at r column is =
-      let place = is.placed.way.place in let from = is.from in let within = is.within in let few = is.placed.few in
-      record {
-        same = is.placed.way.same;
-        from = omega (arith, place, from);
-        within = omega (arith, place, within);
-        few = omega (arith, place, few);
-        short = rw place is.placed.short;
-        high = is.high;
-        in_row = λ h. rw place (is.placed.in_row h);
-        in_column = λ h. rw place (is.placed.in_column h);
-        passed = λ h p low under. is.passed h p low (omega (arith, under, place));
-      }
-
-  module _ (ground_self : (s : S) → same_ground s s) (ground_through : (a b c : S) → same_ground a b → same_ground b c
-      → same_ground a c) where
     pub skip_begun : (start : S) (text : Text ℕ) (reader : Reading) (org next at r column : ℕ)
         → IsReadTo (honest start) (characters start) text org next reader r column → at ≡ reader.position
         → IsSkipped start start text reader org next at r column
     skip_begun start text reader org next at r column is here =
-        let from = is.from in let within = is.within in let few = is.few in
-        record {
-          placed = record {
-            way = at_first characters failures honest same_ground ground_self ground_through start text reader at
-                (sym here) is.same;
-            few = omega (arith, few, here);
-            short = rw here is.short;
-            in_row = λ h. rw here (is.in_row h);
-            in_column = λ h. rw here (is.in_column h);
-          };
-          from = omega (arith, from, here);
-          within = omega (arith, within, here);
-          high = is.high;
-          passed = λ h p low high. is.passed h p low (omega (arith, high, here));
-        }
+        let way = at_first characters failures honest same_ground ground_self ground_through start text reader at
+        (sym here) is.same in
+        begun start start text reader org next at r column way.reads way.calm is here
 
     -- a character more that is in a row above
     pub skip_on : (start now later : S) (text : Text ℕ) (reader next : Reading)
@@ -257,21 +246,9 @@ module _ {S : Type 0} (characters : S → List ℕ) (failures : S → ℕ) (hone
           from = (let le : org ≤ at + 1 = omega (arith, from) in le);
           within = (let le : at + 1 ≤ length text = omega (arith, low) in le);
           high = rw to_row (by (is_return byte));
-          passed = λ h. above h (is.passed h);
+          passed = λ h. passed_on start text org row at r (sym (is.placed.in_row h)) high (is.passed h);
         }
       where
         by : (b : Bool) → cond b (r + 1) r ≤ row
         by true = (let le : r + 1 ≤ row = omega (arith, high) in le)
         by false = (let le : r ≤ row = omega (arith, high) in le)
-
-        above : honest start
-            → ((p : ℕ) → org ≤ p → p < at → row_of (bytes (characters start) text) org p < row)
-            → (p : ℕ) → org ≤ p → p < at + 1 → row_of (bytes (characters start) text) org p < row
-        above h before p under over = elim (cases_eq p at) [
-          | inl same ↦
-              let in_row = is.placed.in_row h in
-              let at_row : row_of (bytes (characters start) text) org p ≡ r =
-              ap (row_of (bytes (characters start) text) org) same ∙ sym in_row in
-              omega (arith, at_row, high)
-          | inr other ↦ before p under (omega (arith, over, other))
-        ]
