@@ -10,8 +10,8 @@ use Rattle.store_layout.specs.declared.layout.TheConstants.{JOURNAL_EVENTS, LAYO
 use Rattle.desk_slots.specs.declared.error.Error.{Error}
 use Rattle.desk_slots.specs.declared.error.Error.TheVariants.{NoMemory, Fault, MustReopen, Worn}
 use Rattle.desk_slots.specs.Device.{IsSameDevice, StaysWithin}
-use Rattle.desk_slots.specs.Errors.{OfLook, OfPost}
-use Rattle.desk_journal.specs.Checkpointing.{IsCheckpointed, IsRenewed}
+use Rattle.desk_slots.specs.Errors.{OfCheckpoint, OfLook, OfPost}
+use Rattle.desk_journal.specs.Checkpointing.{IsCheckpointed, IsRenewed, LeavesDesktop}
 use Rattle.desk_journal.specs.Migrating.{ChecksFirst}
 use Rattle.desk_journal.specs.Posting.{HasRoom, IsAcknowledged, IsBroken, IsLast, IsPosted, IsStarved, IsUnusable}
 use Rattle.desk_journal.specs.Posting.{LeavesEither, Needs, TurnsAway}
@@ -43,6 +43,23 @@ no_need store room need = elim need [
 -- a new journal has room
 pub new_room : {D : Type 0} (d : Ghosts D) (old new : StoreView D) → IsRenewed d old new → HasRoom new
 new_room d old new renewed = (omega (arith, renewed.events), renewed.layout)
+
+-- what a checkpoint says clause by clause is all that it promises
+pub checkpoints : {D : Type 0} (d : Ghosts D) (answer : Result ⊤ Error) (old new : StoreView D)
+    → LeavesDesktop d old new → OnOk answer (IsRenewed d old new) → (IsErrOf answer Fault → IsBroken new)
+    → TurnsAway (IsErrOf answer Worn) (IsLast old) old new → IsUnusable answer old new
+    → FailsAs Fault OfCheckpoint answer (d.failures old.disk) (d.failures new.disk)
+    → IsSameDevice d old.disk new.disk → StaysWithin d old.disk new.disk → IsCheckpointed d answer old new
+checkpoints d answer old new any_moment ok fault worn reopen faults device within = record {
+  any_moment = any_moment;
+  ok = ok;
+  fault = fault;
+  worn = worn;
+  reopen = reopen;
+  faults = faults;
+  device = device;
+  within = within;
+}
 
 module _ {D : Type 0} (d : Ghosts D) (event : Event) (answer : Result Reply Error) where
   -- what the rest of a post says is what a post to a store with room says

@@ -1,8 +1,7 @@
 use Rattle.std.proofs.Common.{subst}
 use Rattle.std.proofs.lemmas.Result.{err_from_is_err_and}
-use Rattle.desk_journal.specs.Checkpointing.{IsCheckpointed}
 use Rattle.desk_journal.specs.Posting.{LeavesEither, IsPosted, IsStarved, HasRoom}
-use Rattle.desk_journal.proofs.Between.{done_first, no_need, put_posts, stopped_first}
+use Rattle.desk_journal.proofs.Between.{checkpoints, done_first, no_need, put_posts, stopped_first}
 use Rattle.desk_journal.proofs.Storing.{renewed_then, renewed_starved}
 use Rattle.desk_journal.proofs.store.Store.post.Goals as goal
 use Rattle.desk_journal.proofs.store.Store.post.Goals.{then-needs+in_ok-checkpoint}
@@ -35,16 +34,9 @@ returns-clause-first g c = λ usable due. elim c.if-needs.branch [
   | then-needs+in_ok-checkpoint w ↦
       let first = w.checkpoint.ensures in
       done_first g.D.Disk c.args.event.now c.put.result c.args.self.now w.checkpoint.new.self c.put.new.self
-      w.in_ok-checkpoint.was (record {
-        any_moment = first.any_moment;
-        ok = first.ok;
-        fault = first.fault;
-        worn = first.worn;
-        reopen = first.reopen;
-        faults = first.faults;
-        device = first.device;
-        within = first.within;
-      })
+      w.in_ok-checkpoint.was
+      (checkpoints g.D.Disk w.checkpoint.result _ _ first.any_moment first.ok first.fault first.worn first.reopen
+      first.faults first.device first.within)
       (subst (λ mid. HasRoom mid → IsPosted g.D.Disk c.args.event.now c.put.result mid c.put.new.self) w.self-is
       (λ room. put_posts g.D.Disk c.args.event.now c.put.result _ c.put.new.self room c.put.ensures.any_moment
       c.put.ensures.ok c.put.ensures.memory c.put.ensures.fault c.put.ensures.reopen c.put.ensures.faults
@@ -57,13 +49,6 @@ returns-in_err-checkpoint-clause-first g c = λ usable due.
     let first = c.checkpoint.ensures in
     let p = err_from_is_err_and c.from_residual.result c.from_residual.ensures.1 in
     stopped_first g.D.Disk c.args.event.now c.from_residual.result c.args.self.now c.checkpoint.new.self
-    c.in_err-checkpoint.was (record {
-      any_moment = first.any_moment;
-      ok = first.ok;
-      fault = first.fault;
-      worn = first.worn;
-      reopen = first.reopen;
-      faults = first.faults;
-      device = first.device;
-      within = first.within;
-    }) (cc (p.1, p.2))
+    c.in_err-checkpoint.was
+    (checkpoints g.D.Disk c.checkpoint.result _ _ first.any_moment first.ok first.fault first.worn first.reopen
+    first.faults first.device first.within) (cc (p.1, p.2))

@@ -1,10 +1,6 @@
-use Rattle.command_table.specs.Versions.{version_number}
 use Rattle.desk_journal.proofs.Storing.{looked_at}
 use Rattle.desk_journal.proofs.store.Store.screen.Goals as goal
 
 pub invariant_of-self : goal.invariant_of-self
 invariant_of-self g c = λ usable.
-    let s = c.self.inside in
-    looked_at g.D.Disk s.slot (version_number s.version) s.epoch s.events s.disk c.screen.new.disk s.desktop
-    c.screen.new.self
-    c.screen.ensures.disk c.screen.ensures.same (c.self.invariant usable)
+    looked_at g.D.Disk _ _ _ _ _ _ _ _ c.screen.ensures.disk c.screen.ensures.same (c.self.invariant usable)
