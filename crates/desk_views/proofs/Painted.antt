@@ -15,11 +15,14 @@ use Rattle.screen_pictures.specs.Picture.{picture, Viewer as Painted}
 use Rattle.screen_pictures.specs.Screen.{screen_of}
 use Rattle.screen_cells.specs.Shown.{IsShowable, as_read}
 use Rattle.desktop_definitions.specs.declared.viewer.Viewer.{Viewer}
+use Rattle.desktop_definitions.specs.declared.viewer.Caret.{Caret}
 use Rattle.desktop_definitions.specs.declared.viewer.Selection.{Selection}
 use Rattle.desktop_laws.specs.TableLaws.{length_seen_text}
 use Rattle.desktop_definitions.specs.Desktop.{KeptDesktop}
 use Rattle.desktop_definitions.specs.Viewers.{text_in, text_of}
-use Rattle.screen_cells.specs.Lines.{IsNumbered}
+use Rattle.screen_cells.specs.Lines.{AreLinesOf, IsNumbered}
+use Rattle.screen_cells.specs.declared.lines.KeptLines.{KeptLines}
+use Rattle.piece_ring.specs.Text.{Text}
 use Rattle.desktop_definitions.specs.Seen.{seen, seen_table}
 use Rattle.desktop_definitions.specs.Shown.{ranked, selection_in, painted, shown_screen}
 use Rattle.desktop_definitions.specs.Sound.{AllWithin, IsViewer, IsKeptWhole}
@@ -156,6 +159,22 @@ pub handed_numbered : (characters : List ℕ) (d : KeptDesktop) (handed : List V
 handed_numbered characters d handed shown list all same is =
     subst (All (IsNumbered (text_of (seen characters d)) characters)) (sym same)
     (all_numbered characters d shown (is ∙ ap (map (kept_view d.texts)) all))
+
+-- what is handed on is a view of each viewer
+pub viewed : (caret : Option Caret) {given chosen : List Selection} {there all : List (ℕ × Viewer)}
+    {handed made : List View} → handed ≡ made → made ≡ map (view_in caret given) there → given ≡ chosen → there ≡ all
+    → handed ≡ map (view_in caret chosen) all
+viewed caret handed made chosen all = handed ∙ made ∙ (λ k. map (view_in caret (chosen k)) (all k))
+
+-- lines that painting keeps for what is handed on are lines of the desktop's texts
+pub lines_on : (characters : List ℕ) (d : KeptDesktop) {handed : List View} {shown list : List Shown}
+    {old ready new : KeptLines} → handed ≡ views d → list ≡ shown → map shown_view shown ≡ map (kept_view d.texts) handed
+    → ((texts : ℕ → Text ℕ) → AreLinesOf texts old → AreLinesOf texts ready)
+    → ((texts : ℕ → Text ℕ) → All (IsNumbered texts characters) list → AreLinesOf texts ready → AreLinesOf texts new)
+    → AreLinesOf (text_of (seen characters d)) old → AreLinesOf (text_of (seen characters d)) new
+lines_on characters d all same is prepare paint told =
+    let texts = text_of (seen characters d) in
+    paint texts (handed_numbered characters d _ _ _ all same is) (prepare texts told)
 
 -- ---- as they read
 
