@@ -16,5 +16,6 @@ pub mod Loop
 pub mod Parts
 pub mod Rising
 pub mod Sections
+pub mod Tables
 pub mod Totals
 pub mod Counting

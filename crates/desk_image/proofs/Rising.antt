@@ -42,11 +42,11 @@ abbrev pub Waits : {K X S : Type 0} → (K → K → Ordering) → (S → K → 
 Waits {K} cmp passes table s = (n : K) → passes s n ≡ true → AreBelow cmp table n
 
 -- what passes after k passes before it too, and is above k
-abbrev IsRising : {K S : Type 0} → (K → K → Ordering) → (S → K → Bool) → (S → K → S) → Type 0
+abbrev pub IsRising : {K S : Type 0} → (K → K → Ordering) → (S → K → Bool) → (S → K → S) → Type 0
 IsRising {K} {S} cmp passes after = (s : S) (k n : K) → passes s k ≡ true → passes (after s k) n ≡ true
     → (passes s n ≡ true) × (cmp k n ≡ Less)
 
-waits_on : {K X S : Type 0} (cmp : K → K → Ordering) (passes : S → K → Bool) (after : S → K → S)
+pub waits_on : {K X S : Type 0} (cmp : K → K → Ordering) (passes : S → K → Bool) (after : S → K → S)
     → IsRising cmp passes after → (table : List (K × X)) (s : S) (k : K) (x : X) → passes s k ≡ true
     → Waits cmp passes table s → Waits cmp passes (table ++ (k, x) ∷ []) (after s k)
 waits_on cmp passes after rising table s k x passed waits n later =
@@ -54,26 +54,14 @@ waits_on cmp passes after rising table s k x passed waits n later =
 
 -- ---- numbers
 
-abbrev after_number : ℕ → ℕ → ℕ
+abbrev pub after_number : ℕ → ℕ → ℕ
 after_number s n = n + 1
 
-numbers_rise : IsRising nat_cmp nat_le after_number
+pub numbers_rise : IsRising nat_cmp nat_le after_number
 numbers_rise s k n passed later =
     let below : s ≤ k = leb-true s k passed in
     let above : k + 1 ≤ n = leb-true (k + 1) n later in
     (le-leb s n (omega (arith, below, above)), sym (nat_cmp_is k n Less (omega (arith, above))))
-
-abbrev pub NumbersWait : {X : Type 0} → List (ℕ × X) → ℕ → Type 0
-NumbersWait table least = Waits nat_cmp nat_le table least
-
-pub number_put : {X : Type 0} (table : List (ℕ × X)) (least n : ℕ) (x : X) → nat_le least n ≡ true
-    → NumbersWait table least → insert_entry nat_cmp table n x ≡ table ++ (n, x) ∷ []
-number_put table least n x passed wait = insert_last nat_cmp_total table n x (wait n passed)
-
-pub numbers_wait_on : {X : Type 0} (table : List (ℕ × X)) (least n : ℕ) (x : X) → nat_le least n ≡ true
-    → NumbersWait table least → NumbersWait (table ++ (n, x) ∷ []) (n + 1)
-numbers_wait_on table least n x passed wait =
-    waits_on nat_cmp nat_le after_number numbers_rise table least n x passed wait
 
 -- ---- names
 
@@ -82,27 +70,14 @@ less_of Less is = refl
 less_of Equal is = absurd cc
 less_of Greater is = absurd cc
 
-abbrev after_name : Option (List ℕ) → List ℕ → Option (List ℕ)
+abbrev pub after_name : Option (List ℕ) → List ℕ → Option (List ℕ)
 after_name s name = Some name
 
-names_rise : IsRising name_cmp follows after_name
+pub names_rise : IsRising name_cmp follows after_name
 names_rise None k n passed later = (refl, less_of (name_cmp k n) later)
 names_rise (Some before) k n passed later =
     let above : name_cmp k n ≡ Less = less_of (name_cmp k n) later in
     (ap is_lt ((lists_total nat_cmp_total).trans before k n (less_of (name_cmp before k) passed) above), above)
-
-abbrev pub NamesWait : {X : Type 0} → List (List ℕ × X) → Option (List ℕ) → Type 0
-NamesWait table before = Waits name_cmp follows table before
-
-pub name_put : {X : Type 0} (table : List (List ℕ × X)) (before : Option (List ℕ)) (name : List ℕ) (x : X)
-    → follows before name ≡ true → NamesWait table before
-    → insert_entry name_cmp table name x ≡ table ++ (name, x) ∷ []
-name_put table before name x passed wait = insert_last (lists_total nat_cmp_total) table name x (wait name passed)
-
-pub names_wait_on : {X : Type 0} (table : List (List ℕ × X)) (before : Option (List ℕ)) (name : List ℕ) (x : X)
-    → follows before name ≡ true → NamesWait table before → NamesWait (table ++ (name, x) ∷ []) (Some name)
-names_wait_on table before name x passed wait =
-    waits_on name_cmp follows after_name names_rise table before name x passed wait
 
 -- ---- the last key
 

@@ -1,29 +1,14 @@
-use Rattle.std.proofs.Common.{◌≡◌, ◌∷◌, [], ◌++◌, refl, ◌∙◌, arith}
-use Rattle.desk_image.proofs.Loop.{goes_on, stops, is_done}
-use Rattle.desk_image.proofs.Totals.{totals_push}
-use Rattle.desk_image.proofs.Rising.{number_put, numbers_wait_on}
+use Rattle.std.proofs.Common.{refl}
+use Rattle.std.proofs.lemmas.Cmp.{nat_cmp_total}
+use Rattle.desk_image.proofs.Loop.{stops, is_done}
+use Rattle.desk_image.proofs.Rising.{numbers_rise}
+use Rattle.desk_image.proofs.Tables.{entry_on}
 use Rattle.desk_image.proofs.reading.counted_texts.Goals as goal
 
 pub loop-preserved : goal.loop-preserved
-loop-preserved g c =
-    let passed = c.in_ok-number.ensures.fits.1.0 in
-    let all = c.loop.texts.entries in
-    let number = c.in_ok-number.number in
-    let text = c.in_ok-number.text in
-    let put : c.insert.new.self.entries ≡ all ++ (number, text) ∷ [] =
-    c.in_ok-insert.ensures.entries
-    ∙ number_put all c.loop.least number text passed c.loop.invariant.wait in
-    rw (put) (record {
-      at = rw c.in_ok-number.ensures.left (goes_on g.met.S.ByteSource.ground_through c.loop.invariant.at _ _
-          c.loop-test.true c.in_ok-number.ensures.reads c.in_ok-number.ensures.fits);
-      left = omega (
-        arith,
-        totals_push all (number, text),
-        c.in_ok-number.ensures.left,
-        c.loop.invariant.left,
-      );
-      wait = numbers_wait_on all c.loop.least number text passed c.loop.invariant.wait;
-    })
+loop-preserved g c = rw c.in_ok-insert.ensures.entries (entry_on g.met.S.ByteSource.ground_through nat_cmp_total
+    numbers_rise c.loop.invariant _ _ _ c.loop-test.true c.in_ok-number.ensures.reads c.in_ok-number.ensures.fits
+    c.in_ok-number.ensures.fits.1.0 c.in_ok-number.ensures.left)
 
 pub returns-in_err-number-clause-items : goal.returns-in_err-number-clause-items
 returns-in_err-number-clause-items g c = stops g.met.S.ByteSource.ground_through c.loop.invariant.at c.from_residual.ensures.1

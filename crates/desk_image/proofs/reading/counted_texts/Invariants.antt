@@ -1,14 +1,11 @@
-use Rattle.std.proofs.Common.{◌≡◌, ◌-◌}
-use Rattle.desk_image.specs.Fitting.{FitsText, after_text, totals}
+use Rattle.std.specs.Prelude.{nat_le}
+use Rattle.std.specs.Ordering.{nat_cmp}
+use Rattle.desk_image.specs.Fitting.{FitsText}
 use Rattle.desk_image.specs.Reading.{text_at}
-use Rattle.desk_image.proofs.Loop.{IsAt}
-use Rattle.desk_image.proofs.Rising.{NumbersWait}
+use Rattle.desk_image.proofs.Rising.{after_number}
+use Rattle.desk_image.proofs.Tables.{IsTableAt}
 use Rattle.desk_image.proofs.reading.counted_texts.Given as goal
 
 abbrev pub invariant-loop : goal.invariant-loop
-invariant-loop g l = record {
-  at : IsAt g.S.ByteSource (text_at l.written) (FitsText l.written) after_text l.count l.counter (0, l.fn.room)
-      (l.least, l.room) l.texts.entries l.fn.source l.source;
-  left : l.room ≡ l.fn.room - totals l.texts.entries;
-  wait : NumbersWait l.texts.entries l.least;
-}
+invariant-loop g l = IsTableAt g.S.ByteSource (text_at l.written) (FitsText l.written) nat_cmp nat_le after_number l.count
+    l.counter (0, l.fn.room) (l.least, l.room) l.texts.entries l.fn.source l.source
