@@ -22,7 +22,8 @@ use Rattle.desk_image.specs.declared.picture.Ranked.{Ranked}
 use Rattle.desk_image.specs.declared.picture.ViewerPicture.{ViewerPicture}
 use Rattle.desk_image.specs.declared.limits.TheConstants.{MOST_VIEWERS}
 use Rattle.desk_image.specs.Image.{Image, image_with, listed, pieces_bytes, text_bytes, file_bytes, ranked_bytes}
-use Rattle.desk_image.specs.Image.{has_overlays, id_bytes, viewer_bytes, viewers_bytes, entry_bytes, track_bytes, depth_bytes}
+use Rattle.desk_image.specs.Image.{has_overlays, id_bytes, viewer_bytes, viewers_bytes, entry_bytes}
+use Rattle.desk_image.specs.Image.{track_bytes, depth_bytes}
 use Rattle.desk_image.specs.Image.{stack_bytes, kept_bytes, image_bytes, InByte, InLong, InId}
 use Rattle.desk_image.specs.Fitting.{Chain, FitsPieces, less, total, totals, FitsText, after_text, FitsTexts, follows}
 use Rattle.desk_image.specs.Fitting.{FitsFile, after_file, FitsFiles, FitsRanked, FitsViewer, after_viewer, FitsViewers}

@@ -20,8 +20,8 @@ loop-preserved g c =
     c.in_ok-name.ensures.left)
 
 pub returns-in_err-name-clause-items : goal.returns-in_err-name-clause-items
-returns-in_err-name-clause-items g c = stops g.met.S.ByteSource.ground_through c.loop.invariant.at c.from_residual.ensures.1
-    c.loop-test.true c.in_err-name.ensures.reads
+returns-in_err-name-clause-items g c = stops g.met.S.ByteSource.ground_through c.loop.invariant.at
+    c.from_residual.ensures.1 c.loop-test.true c.in_err-name.ensures.reads
 
 pub returns-clause-items : goal.returns-clause-items
 returns-clause-items g c = is_done c.loop.invariant.at c.loop-test.false refl

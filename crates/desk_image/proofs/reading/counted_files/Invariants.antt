@@ -8,5 +8,5 @@ use Rattle.desk_image.proofs.Tables.{IsTableAt}
 use Rattle.desk_image.proofs.reading.counted_files.Given as goal
 
 abbrev pub invariant-loop : goal.invariant-loop
-invariant-loop g l = IsTableAt g.S.ByteSource (file_at l.written) (FitsFile l.written) name_cmp follows after_name l.count
-    l.counter (None, l.fn.room) (last_key l.files.entries, l.room) l.files.entries l.fn.source l.source
+invariant-loop g l = IsTableAt g.S.ByteSource (file_at l.written) (FitsFile l.written) name_cmp follows after_name
+    l.count l.counter (None, l.fn.room) (last_key l.files.entries, l.room) l.files.entries l.fn.source l.source

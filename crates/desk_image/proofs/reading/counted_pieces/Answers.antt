@@ -28,8 +28,8 @@ loop-preserved g c = record {
 }
 
 pub returns-in_err-piece-clause-items : goal.returns-in_err-piece-clause-items
-returns-in_err-piece-clause-items g c = stops g.met.S.ByteSource.ground_through c.loop.invariant.at c.from_residual-in_err-piece.ensures.1
-    c.loop-test.true c.in_err-piece.ensures.reads
+returns-in_err-piece-clause-items g c = stops g.met.S.ByteSource.ground_through c.loop.invariant.at
+    c.from_residual-in_err-piece.ensures.1 c.loop-test.true c.in_err-piece.ensures.reads
 
 pub returns-clause-items : goal.returns-clause-items
 returns-clause-items g c = is_done c.loop.invariant.at c.loop-test.false refl

@@ -11,8 +11,8 @@ loop-preserved g c = rw c.in_ok-insert.ensures.entries (entry_on g.met.S.ByteSou
     c.in_ok-number.ensures.fits.1.0 c.in_ok-number.ensures.left)
 
 pub returns-in_err-number-clause-items : goal.returns-in_err-number-clause-items
-returns-in_err-number-clause-items g c = stops g.met.S.ByteSource.ground_through c.loop.invariant.at c.from_residual.ensures.1
-    c.loop-test.true c.in_err-number.ensures.reads
+returns-in_err-number-clause-items g c = stops g.met.S.ByteSource.ground_through c.loop.invariant.at
+    c.from_residual.ensures.1 c.loop-test.true c.in_err-number.ensures.reads
 
 pub returns-clause-items : goal.returns-clause-items
 returns-clause-items g c = is_done c.loop.invariant.at c.loop-test.false refl
