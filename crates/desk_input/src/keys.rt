@@ -47,6 +47,7 @@ pub fn type_bytes<S: CharSource>(
 }
 
 /// Does what a key means.
+#[tactic(auto, unfolding(desktop_definitions::specs::Unread::key_needs_no_byte))]
 pub fn press<S: CharSource>(
     desk: &mut Desk,
     alloc: Global,

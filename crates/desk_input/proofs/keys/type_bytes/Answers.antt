@@ -37,17 +37,13 @@ returns-then-not-fits_more-clause-answered g c =
 pub buffer_of_run-requires-clause-offsets : goal.buffer_of_run-requires-clause-offsets
 unfolding seen
 buffer_of_run-requires-clause-offsets g c =
-    let d = kept c.args.desk.now in
-    let low = space_written (seen [] d) (length c.as_bytes-bytes.result.now) (length c.as_bytes-bytes.result.now) 0
-    (sym (c.fits_more.ensures []) ∙ c.if-not-fits_more.false) in
+    let low = space_written _ _ _ 0 (sym (c.fits_more.ensures []) ∙ c.if-not-fits_more.false) in
     omega (arith, low)
 
 pub append-requires : goal.append-requires
 unfolding seen
 append-requires g c =
-    let d = kept c.args.desk.now in
-    let low = space_written (seen [] d) (length c.as_bytes-bytes.result.now) (length c.as_bytes-bytes.result.now) 0
-    (sym (c.fits_more.ensures []) ∙ c.if-not-fits_more.false) in
+    let low = space_written _ _ _ 0 (sym (c.fits_more.ensures []) ∙ c.if-not-fits_more.false) in
     omega (arith, low, c.requires.over.counted)
 
 pub put_at_caret-requires-clause-built : goal.put_at_caret-requires-clause-built
@@ -83,9 +79,7 @@ put_at_caret-requires-clause-goes g c =
 pub overflow_add-desk : goal.overflow_add-desk
 unfolding seen
 overflow_add-desk g c =
-    let d = kept c.args.desk.now in
-    let low = space_written (seen [] d) (length c.as_bytes-bytes.result.now) (length c.as_bytes-bytes.result.now) 0
-    (sym (c.fits_more.ensures []) ∙ c.if-not-fits_more.false) in
+    let low = space_written _ _ _ 0 (sym (c.fits_more.ensures []) ∙ c.if-not-fits_more.false) in
     omega (arith, low, c.in_ok-put_at_caret.ensures.changed.rest.written)
 
 pub returns-clause-answered : goal.returns-clause-answered
