@@ -24,7 +24,7 @@ use arrayvec::ArrayVec;
 use char_file::{CharSource, Fault};
 use command_table::{Command, MOST_NAMES, Version, called, name_in, names, params};
 use desk_core::desk::Desk;
-use desk_core::stop::Answer;
+use desk_core::stop::StepResult;
 use desk_core::viewers::viewer_or_none;
 use desk_core::views::text_there;
 use desktop_definitions::{Call, Reply, codes};
@@ -94,7 +94,7 @@ pub fn call<S: CharSource>(
     in_menu: bool,
     pos: u32,
     source: &mut S,
-) -> Answer
+) -> StepResult
     requires placed { IsOnTop id (kept desk.old).columns }
     requires place { pos ≤ length (flat (text_called (kept desk.old) id in_menu)) }
     requires over { IsOver (S.characters source.old) (kept desk.old) }
@@ -122,7 +122,7 @@ fn do_command<S: CharSource>(
     command: Command,
     call: Call,
     source: &mut S,
-) -> Answer
+) -> StepResult
     requires call { IsCall (kept desk.old) call }
     requires over { IsOver (S.characters source.old) (kept desk.old) }
     ensures answered { IfOk result (Settles S.CharSource (λ d. commanded d command call)
@@ -214,7 +214,7 @@ fn command_with_name<S: CharSource>(
     command: NameCommand,
     call: Call,
     source: &mut S,
-) -> Answer
+) -> StepResult
     requires call { IsCall (kept desk.old) call }
     requires over { IsOver (S.characters source.old) (kept desk.old) }
     ensures answered { IfOk result (Settles S.CharSource (λ d. given (name_of d call) (done_with_name d command))
@@ -235,7 +235,7 @@ fn do_with_name<S: CharSource>(
     command: NameCommand,
     name: &Name,
     source: &mut S,
-) -> Answer
+) -> StepResult
     requires over { IsOver (S.characters source.old) (kept desk.old) }
     ensures answered { IfOk result (Settles S.CharSource (λ d. done_with_name d command name.now)
         source.old source.new (kept desk.old) (kept desk.new)) }
@@ -256,7 +256,7 @@ fn command_with_number<S: CharSource>(
     command: NumberCommand,
     call: Call,
     source: &mut S,
-) -> Answer
+) -> StepResult
     requires call { IsCall (kept desk.old) call }
     requires over { IsOver (S.characters source.old) (kept desk.old) }
     ensures answered { IfOk result (Settles S.CharSource
@@ -278,7 +278,7 @@ fn do_with_number<S: CharSource>(
     command: NumberCommand,
     number: i32,
     source: &mut S,
-) -> Answer
+) -> StepResult
     requires over { IsOver (S.characters source.old) (kept desk.old) }
     ensures answered { IfOk result (Settles S.CharSource (λ d. done_with_number d command number)
         source.old source.new (kept desk.old) (kept desk.new)) }
@@ -299,7 +299,7 @@ fn command_with_viewer<S: CharSource>(
     command: ViewerCommand,
     call: Call,
     source: &mut S,
-) -> Answer
+) -> StepResult
     requires call { IsCall (kept desk.old) call }
     requires over { IsOver (S.characters source.old) (kept desk.old) }
     ensures answered { IfOk result (Settles S.CharSource
@@ -321,7 +321,7 @@ fn do_with_viewer<S: CharSource>(
     command: ViewerCommand,
     id: u16,
     source: &mut S,
-) -> Answer
+) -> StepResult
     requires placed { IsOnTop id (kept desk.old).columns }
     requires over { IsOver (S.characters source.old) (kept desk.old) }
     ensures answered { IfOk result (Settles S.CharSource (λ d. done_with_viewer d command id)
@@ -344,7 +344,7 @@ fn delete_named_files<S: CharSource>(
     alloc: Global,
     call: Call,
     source: &mut S,
-) -> Answer
+) -> StepResult
     requires call { IsCall (kept desk.old) call }
     requires over { IsOver (S.characters source.old) (kept desk.old) }
     ensures answered { IfOk result (Settles S.CharSource (λ d. given (names_of d call) (files_deleted d))

@@ -8,7 +8,7 @@ ghost use Rattle.desk_commands.specs.Words.{Track as ATrack, no_viewer, IsKeptPl
 
 use char_file::CharSource;
 use desk_core::desk::Desk;
-use desk_core::stop::Answer;
+use desk_core::stop::StepResult;
 use desktop_definitions::{Kept, Reply, codes};
 use viewer_tracks::{SYSTEM_LEFT, Track, ViewerId, edits_keep_columns, edits_place_viewers};
 
@@ -32,7 +32,7 @@ fn viewer_kept(kept: Option<Kept>) -> Option<ViewerId>
 
 /// A viewer goes from the display with what is marked in it, and is kept with its place. The one that was kept
 /// before is gone, with the texts that nobody else shows.
-pub fn close_viewer<S: CharSource>(desk: &mut Desk, id: u16, source: &mut S) -> Answer
+pub fn close_viewer<S: CharSource>(desk: &mut Desk, id: u16, source: &mut S) -> StepResult
     requires placed { IsOnTop id (kept desk.old).columns }
     requires over { IsOver (S.characters source.old) (kept desk.old) }
     ensures answered { IfOk result (Settles S.CharSource (λ d. Ok (put_away d id))
@@ -65,7 +65,7 @@ fn place_kept(desk: &Desk, id: u16) -> Kept
 
 /// The viewer that is kept opens in its track, up to the row where it ended. One whose whole place it takes is
 /// gone, with the texts that nobody else shows. Refused where none is kept.
-pub fn recall_viewer<S: CharSource>(desk: &mut Desk, source: &mut S) -> Answer
+pub fn recall_viewer<S: CharSource>(desk: &mut Desk, source: &mut S) -> StepResult
     requires over { IsOver (S.characters source.old) (kept desk.old) }
     ensures answered { IfOk result (Settles S.CharSource
         (λ d. needs d.kept no_viewer λ k. Ok (brought_back d k))

@@ -8,7 +8,7 @@ use crate::rewriting::{put_buffer, put_files, put_texts};
 use char_file::CharSource;
 use desk_core::desk::Desk;
 use desk_core::files::Files;
-use desk_core::stop::{Answer, Stop};
+use desk_core::stop::{StepResult, Stop};
 use desktop_definitions::Reply;
 use std::alloc::Global;
 use std::collections::BTreeMap;
@@ -51,7 +51,7 @@ fn rewritten<S: CharSource>(desk: &Desk, alloc: Global, source: &mut S) -> Resul
 /// The characters are given up that no text, file or buffer has: all others are written anew, and are the only ones
 /// that count as written. It is never refused. NoMemory where an allocation is refused, Fault where a character could
 /// not be read.
-pub fn collect<S: CharSource>(desk: &mut Desk, alloc: Global, source: &mut S) -> Answer
+pub fn collect<S: CharSource>(desk: &mut Desk, alloc: Global, source: &mut S) -> StepResult
     requires { IsOver (S.characters source.old) (kept desk.old) }
     ensures answered { IfOk result (Settles S.CharSource (λ d. Ok (collected d))
         source.old source.new (kept desk.old) (kept desk.new)) }

@@ -18,7 +18,7 @@ use arrayvec::ArrayVec;
 use char_file::CharSource;
 use desk_core::desk::Desk;
 use desk_core::files::{Files, file_of};
-use desk_core::stop::{Answer, NoMemory};
+use desk_core::stop::{NoMemory, StepResult};
 use desk_core::viewers::viewer_or_none;
 use desk_core::views::text_there;
 use desktop_definitions::{Reply, codes};
@@ -84,7 +84,7 @@ pub fn open_document<S: CharSource>(
     alloc: Global,
     name: &Name,
     source: &mut S,
-) -> Answer
+) -> StepResult
     requires over { IsOver (S.characters source.old) (kept desk.old) }
     ensures answered { IfOk result (Settles S.CharSource (λ d. Ok (document_opened d name.now))
         source.old source.new (kept desk.old) (kept desk.new)) }
@@ -100,7 +100,7 @@ pub fn open_file<S: CharSource>(
     alloc: Global,
     name: &Name,
     source: &mut S,
-) -> Answer
+) -> StepResult
     requires over { IsOver (S.characters source.old) (kept desk.old) }
     ensures answered { IfOk result (Settles S.CharSource (λ d. file_opened d name.now)
         source.old source.new (kept desk.old) (kept desk.new)) }
@@ -120,7 +120,7 @@ pub fn open_tool<S: CharSource>(
     x: u8,
     y: u8,
     source: &mut S,
-) -> Answer
+) -> StepResult
     requires column { x < COLUMNS }
     requires row { y < ROWS }
     requires over { IsOver (S.characters source.old) (kept desk.old) }
@@ -148,7 +148,7 @@ fn open_named<S: CharSource>(
     x: u8,
     y: u8,
     source: &mut S,
-) -> Answer
+) -> StepResult
     requires column { x < COLUMNS }
     requires over { IsOver (S.characters source.old) (kept desk.old) }
     ensures answered { IfOk result (Settles S.CharSource
@@ -178,7 +178,7 @@ fn open_viewer<S: CharSource>(
     x: u8,
     y: u8,
     source: &mut S,
-) -> Answer
+) -> StepResult
     requires column { x < COLUMNS }
     requires within { AreWithin (kept desk.old).written (flat main) }
     requires looks { AreLooks (flat main) }
@@ -209,7 +209,7 @@ fn open_viewer<S: CharSource>(
 }
 
 /// The log opens in the system track.
-pub fn open_log<S: CharSource>(desk: &mut Desk, alloc: Global, source: &mut S) -> Answer
+pub fn open_log<S: CharSource>(desk: &mut Desk, alloc: Global, source: &mut S) -> StepResult
     requires over { IsOver (S.characters source.old) (kept desk.old) }
     ensures answered { IfOk result (Settles S.CharSource (λ d. Ok (log_opened d))
         source.old source.new (kept desk.old) (kept desk.new)) }
@@ -232,7 +232,12 @@ pub fn open_log<S: CharSource>(desk: &mut Desk, alloc: Global, source: &mut S) -
 
 /// A second viewer of a viewer's text opens in the lower half of its place, with a copy of its menu and the same
 /// first line. Refused where its place has one row.
-pub fn copy_viewer<S: CharSource>(desk: &mut Desk, alloc: Global, id: u16, source: &mut S) -> Answer
+pub fn copy_viewer<S: CharSource>(
+    desk: &mut Desk,
+    alloc: Global,
+    id: u16,
+    source: &mut S,
+) -> StepResult
     requires placed { IsOnTop id (kept desk.old).columns }
     requires over { IsOver (S.characters source.old) (kept desk.old) }
     ensures answered { IfOk result (Settles S.CharSource (λ d. viewer_copied d id)
@@ -260,7 +265,12 @@ pub fn copy_viewer<S: CharSource>(desk: &mut Desk, alloc: Global, id: u16, sourc
 /// A second viewer of a viewer's text has the column of that whole, over the track in which it stands, with a copy of
 /// its menu and the same first line; nothing is marked in the covered track any more. Refused where the column has as
 /// many tracks as it may have.
-pub fn grow_viewer<S: CharSource>(desk: &mut Desk, alloc: Global, id: u16, source: &mut S) -> Answer
+pub fn grow_viewer<S: CharSource>(
+    desk: &mut Desk,
+    alloc: Global,
+    id: u16,
+    source: &mut S,
+) -> StepResult
     requires placed { IsOnTop id (kept desk.old).columns }
     requires over { IsOver (S.characters source.old) (kept desk.old) }
     ensures answered { IfOk result (Settles S.CharSource (λ d. viewer_grown d id)

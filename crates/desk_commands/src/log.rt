@@ -15,7 +15,7 @@ use char_file::CharSource;
 use desk_core::desk::Desk;
 use desk_core::edits::buffer_of_run;
 use desk_core::files::Files;
-use desk_core::stop::{Answer, NoMemory, Stop};
+use desk_core::stop::{NoMemory, StepResult, Stop};
 use desktop_definitions::{Reply, codes};
 use event_bytes::Name;
 use piece_ring::DEFAULT_LOOK;
@@ -107,7 +107,7 @@ fn buffer_of_line(alloc: Global, first: u32, count: u32) -> Result<Buffer, NoMem
 }
 
 /// The log becomes empty. NoMemory where an allocation is refused, Fault where a character could not be read.
-pub fn clear_log<S: CharSource>(desk: &mut Desk, alloc: Global, source: &mut S) -> Answer
+pub fn clear_log<S: CharSource>(desk: &mut Desk, alloc: Global, source: &mut S) -> StepResult
     requires over { IsOver (S.characters source.old) (kept desk.old) }
     ensures answered { IfOk result (Settles S.CharSource (λ d. Ok (log_cleared d))
         source.old source.new (kept desk.old) (kept desk.new)) }
@@ -123,7 +123,7 @@ pub fn clear_log<S: CharSource>(desk: &mut Desk, alloc: Global, source: &mut S) 
 
 /// A line for each file goes into the log, by rising names. Refused where the limits on characters don't hold then.
 /// NoMemory where an allocation is refused, Fault where a character could not be read.
-pub fn log_directory<S: CharSource>(desk: &mut Desk, alloc: Global, source: &mut S) -> Answer
+pub fn log_directory<S: CharSource>(desk: &mut Desk, alloc: Global, source: &mut S) -> StepResult
     requires over { IsOver (S.characters source.old) (kept desk.old) }
     ensures answered { IfOk result (Settles S.CharSource (λ d. Ok (directory_logged d))
         source.old source.new (kept desk.old) (kept desk.new)) }

@@ -8,7 +8,7 @@ ghost use Rattle.desk_commands.specs.Words.{bad_value};
 
 use char_file::CharSource;
 use desk_core::desk::Desk;
-use desk_core::stop::Answer;
+use desk_core::stop::StepResult;
 use desktop_definitions::{COLOURS, FONTS, GREATEST_OFFSET, LEAST_OFFSET, Reply, codes};
 use event_bytes::Name;
 use piece_ring::{DEFAULT_LOOK, Look};
@@ -71,7 +71,11 @@ pub fn offset_set(number: i32) -> Option<(u8, Look)>
 }
 
 /// What is typed gets a look, in the fields that are set. Refused where none are.
-pub fn set_look<S: CharSource>(desk: &mut Desk, new: Option<(u8, Look)>, source: &mut S) -> Answer
+pub fn set_look<S: CharSource>(
+    desk: &mut Desk,
+    new: Option<(u8, Look)>,
+    source: &mut S,
+) -> StepResult
     requires sets { SetsLook new }
     requires over { IsOver (S.characters source.old) (kept desk.old) }
     ensures answered { IfOk result (Settles S.CharSource (λ d. needs new bad_value λ set. Ok (look_set d set))
@@ -92,7 +96,7 @@ pub fn change_look<S: CharSource>(
     alloc: Global,
     new: Option<(u8, Look)>,
     source: &mut S,
-) -> Answer
+) -> StepResult
     requires sets { SetsLook new }
     requires over { IsOver (S.characters source.old) (kept desk.old) }
     ensures answered { IfOk result (Settles S.CharSource (λ d. needs new bad_value (selection_set d))

@@ -9,7 +9,7 @@ ghost use Rattle.desk_commands.specs.Words.{no_caret, most_pattern, put_at_caret
 use arrayvec::ArrayVec;
 use char_file::{CharSource, Fault};
 use desk_core::desk::{Desk, PATTERN};
-use desk_core::stop::Answer;
+use desk_core::stop::StepResult;
 use desk_core::views::position_in;
 use desktop_definitions::{Reply, codes};
 use readers_scanners::Reader;
@@ -111,7 +111,7 @@ fn pattern_after<S: CharSource>(desk: &Desk, source: &mut S) -> Result<Pattern, 
 /// The caret goes after the first place with the pattern in a viewer's main text, from where it stands there or
 /// else from the beginning, and is shown. Refused without a pattern, and where it isn't found; the old pattern then
 /// stays.
-pub fn search<S: CharSource>(desk: &mut Desk, id: u16, source: &mut S) -> Answer
+pub fn search<S: CharSource>(desk: &mut Desk, id: u16, source: &mut S) -> StepResult
     requires placed { IsOnTop id (kept desk.old).columns }
     requires over { IsOver (S.characters source.old) (kept desk.old) }
     ensures answered { IfOk result (Settles S.CharSource (λ d. searched d id)
@@ -140,7 +140,7 @@ fn start_in(desk: &Desk, id: u16) -> u32
 }
 
 /// What was deleted last is put in at the caret. Refused without a caret.
-pub fn recall_deleted<S: CharSource>(desk: &mut Desk, alloc: Global, source: &mut S) -> Answer
+pub fn recall_deleted<S: CharSource>(desk: &mut Desk, alloc: Global, source: &mut S) -> StepResult
     requires over { IsOver (S.characters source.old) (kept desk.old) }
     ensures answered { IfOk result (Settles S.CharSource
         (λ d. needs d.caret no_caret λ c. Ok (put_at_caret d d.deleted c))

@@ -14,7 +14,7 @@ use char_file::{CharSource, Fault};
 use command_table::{name_in, symbol_at};
 use desk_core::desk::Desk;
 use desk_core::files::{Files, has_room, length_of, put, size_of};
-use desk_core::stop::{Answer, NoMemory};
+use desk_core::stop::{NoMemory, StepResult};
 use desktop_definitions::{Reply, codes};
 use event_bytes::Name;
 use std::alloc::Global;
@@ -89,7 +89,7 @@ pub fn delete_files<S: CharSource>(
     alloc: Global,
     names: &[Name],
     source: &mut S,
-) -> Answer
+) -> StepResult
     requires few { length names.now ≤ 257 }
     requires over { IsOver (S.characters source.old) (kept desk.old) }
     ensures answered { IfOk result (Settles S.CharSource (λ d. files_deleted d names.now)
@@ -112,7 +112,7 @@ pub fn delete_files<S: CharSource>(
 
 /// A viewer's main text becomes the file that the first symbol of its menu names, with a line of the log. Refused
 /// where that symbol is no name, and where there is no room for one more file.
-pub fn store<S: CharSource>(desk: &mut Desk, alloc: Global, id: u16, source: &mut S) -> Answer
+pub fn store<S: CharSource>(desk: &mut Desk, alloc: Global, id: u16, source: &mut S) -> StepResult
     requires placed { IsOnTop id (kept desk.old).columns }
     requires over { IsOver (S.characters source.old) (kept desk.old) }
     ensures answered { IfOk result (Settles S.CharSource (λ d. stored d id)
@@ -146,7 +146,7 @@ fn store_as<S: CharSource>(
     id: u16,
     name: &Name,
     source: &mut S,
-) -> Answer
+) -> StepResult
     requires placed { IsOnTop id (kept desk.old).columns }
     requires over { IsOver (S.characters source.old) (kept desk.old) }
     ensures answered { IfOk result (Settles S.CharSource

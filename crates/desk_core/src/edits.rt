@@ -9,7 +9,7 @@ ghost use Rattle.desk_core.specs.Words.{IsKeptWhole, IsBuilt, IsOver, IsChanged,
 ghost use Rattle.desk_core.specs.Words.{Settles, SettlesUnread, Uses};
 
 use crate::desk::Desk;
-use crate::stop::{Answer, NoMemory, Stop};
+use crate::stop::{NoMemory, StepResult, Stop};
 use crate::viewers::viewer_of;
 use char_file::CharSource;
 use desktop_definitions::{Caret, MOST_HELD, MOST_WRITTEN, Reply, Selection, codes};
@@ -205,7 +205,7 @@ impl Desk {
         alloc: Global,
         deleted: bool,
         source: &mut S,
-    ) -> Answer
+    ) -> StepResult
         requires over { IsOver (S.characters source.old) (kept self.old) }
         ensures answered { IfOk result (Settles S.CharSource (λ d. needs d.caret no_caret λ c.
             Ok (put_at_caret d (if deleted then d.deleted else d.copied) c))

@@ -7,7 +7,7 @@ ghost use Rattle.desktop_definitions.specs.Gesture.{is_on_display, is_some_stret
 ghost use Rattle.desk_core.specs.Words.{IsOver, kept, IsPosition, Settles, SettlesUnread, Uses, unless};
 
 use crate::desk::Desk;
-use crate::stop::Answer;
+use crate::stop::StepResult;
 use crate::tables::unselect;
 use crate::viewers::select;
 use char_file::CharSource;
@@ -37,7 +37,7 @@ fn is_some_stretch(stretch: Selection) -> bool
 
 impl Desk {
     /// Sets the marker to a cell. Refused where that is outside the display.
-    pub fn mark<S: CharSource>(&mut self, x: u8, y: u8, source: &mut S) -> Answer
+    pub fn mark<S: CharSource>(&mut self, x: u8, y: u8, source: &mut S) -> StepResult
         requires over { IsOver (S.characters source.old) (kept self.old) }
         ensures answered { IfOk result (Settles S.CharSource (λ d.
             unless (is_on_display x y) outside (Ok (marked d x y)))
@@ -54,7 +54,7 @@ impl Desk {
     }
 
     /// The caret comes to stand at `pos` in a viewer.
-    pub fn set_caret<S: CharSource>(&mut self, id: u16, pos: u32, source: &mut S) -> Answer
+    pub fn set_caret<S: CharSource>(&mut self, id: u16, pos: u32, source: &mut S) -> StepResult
         requires at { IsPosition (kept self.old) id pos }
         requires over { IsOver (S.characters source.old) (kept self.old) }
         ensures answered { IfOk result (Settles S.CharSource (λ d. Ok (with_caret d id pos))
@@ -69,7 +69,7 @@ impl Desk {
     }
 
     /// A stretch is selected; where it is empty, nothing of its viewer is.
-    pub fn select<S: CharSource>(&mut self, drawn: Selection, source: &mut S) -> Answer
+    pub fn select<S: CharSource>(&mut self, drawn: Selection, source: &mut S) -> StepResult
         requires at { IsPosition (kept self.old) drawn.viewer drawn.end }
         requires over { IsOver (S.characters source.old) (kept self.old) }
         ensures answered { IfOk result (Settles S.CharSource (λ d. Ok (drawn_in d drawn))

@@ -6,14 +6,14 @@ ghost use Rattle.desk_core.specs.Words.{IsOnTop, IsPlaced, dropped, IsOver, kept
 ghost use Rattle.desk_core.specs.Words.{COLUMNS};
 
 use crate::desk::Desk;
-use crate::stop::Answer;
+use crate::stop::StepResult;
 use char_file::CharSource;
 use desktop_definitions::Reply;
 use viewer_tracks::{ViewerId, edits_keep_columns, edits_place_viewers};
 
 impl Desk {
     /// The top of a viewer goes to row `y`, or as near to it as the display and the viewer above let it.
-    pub fn resize<S: CharSource>(&mut self, id: u16, y: u8, source: &mut S) -> Answer
+    pub fn resize<S: CharSource>(&mut self, id: u16, y: u8, source: &mut S) -> StepResult
         requires placed { IsOnTop id (kept self.old).columns }
         requires row { y < ROWS }
         requires over { IsOver (S.characters source.old) (kept self.old) }
@@ -29,7 +29,7 @@ impl Desk {
 
     /// A viewer is closed and opened at the cell above (`x`, `y`), with what is marked in it. A viewer whose whole
     /// place it takes is gone, with the texts that nobody else shows.
-    pub fn carry<S: CharSource>(&mut self, id: u16, x: u8, y: u8, source: &mut S) -> Answer
+    pub fn carry<S: CharSource>(&mut self, id: u16, x: u8, y: u8, source: &mut S) -> StepResult
         requires placed { IsOnTop id (kept self.old).columns }
         requires column { x < COLUMNS }
         requires row { y < ROWS }

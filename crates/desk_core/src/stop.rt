@@ -20,7 +20,7 @@ pub enum Stop {
 }
 
 /// What an event or a command comes to: its reply, or why the call gave up.
-pub type Answer = Result<Reply, Stop>;
+pub type StepResult = Result<Reply, Stop>;
 
 impl From<NoMemory> for Stop {
     ghost from_gives = { λ _ stop. stop ≡ stops.NoMemory };
