@@ -1,6 +1,7 @@
 -- Which desktop has the parts that an image says, and when these make one: what a part has to do with the others.
 use Rattle.std.specs.Prelude.{◌≡◌, ℕ, ◌+◌, ◌^◌, ◌<◌, ◌≤◌, ◌==◌, ◌&&◌, ◌||◌, not, Bool, true, false, if◌then◌else◌}
-use Rattle.std.specs.Prelude.{nat_lt, nat_le, List, [], ◌∷◌, All, length, map, min, reverse, Option, Some, None, is_some}
+use Rattle.std.specs.Prelude.{nat_lt, nat_le, List, [], ◌∷◌, All, length, map, min, reverse, Option, Some}
+use Rattle.std.specs.Prelude.{None, is_some}
 use Rattle.std.specs.Prelude.{option_map}
 use Rattle.std.specs.Option.{option_or}
 use Rattle.std.specs.List.{list_all, list_any, filter_map, range_with_len}
