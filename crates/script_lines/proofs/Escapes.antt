@@ -1,13 +1,13 @@
 -- Reading the bytes that a text stands for, one after another.
 use Rattle.std.proofs.Common.{◌≡◌, ℕ, ◌<◌, ◌≤◌, Bool, true, false, List, [], ◌∷◌, ◌++◌, Option, None, Some, length}
 use Rattle.std.proofs.Common.{refl, sym, ap, ◌∙◌, arith, append_assoc, append-nil, length-append, cond}
-use Rattle.std.specs.Prelude.{if◌then◌else◌, nat_le}
+use Rattle.std.specs.Prelude.{if◌then◌else◌, nat_le, ◌==◌}
 use Rattle.std.specs.Option.{option_map}
 use Rattle.std.specs.List.{list_all}
-use Rattle.std.proofs.lemmas.Bool.{lt-leb, le-leb, and_left, and_right, leb-false, cond-true, cond-false}
+use Rattle.std.proofs.lemmas.Bool.{lt-leb, le-leb, and_left, and_right, and_parts, not-true, leb-false, cond-true, cond-false}
 use Rattle.event_bytes.specs.Bytes.{is_text_byte, is_file_bytes, is_typed_bytes}
 use Rattle.script_lines.specs.Words.{◌>>=◌}
-use Rattle.script_lines.specs.Percent.{in_front, meant, few_meant}
+use Rattle.script_lines.specs.Percent.{in_front, is_itself, meant, escaped, few_meant}
 use Rattle.script_lines.specs.Request.{file_bytes_of, typed_bytes_of}
 
 -- the bytes so far, and what the rest stands for
@@ -99,6 +99,23 @@ test_none test only None is = refl
 test_none test only (Some all) is = cond-false (test all) (Some all) None
     (only all (not_found all (length all) (nat_le (length all) 900) refl is))
 
+-- a text without a percent sign stands for its own bytes
+plain : (text : List ℕ) → list_all is_itself text ≡ true → meant text ≡ Some text
+unfolding meant
+plain [] is = refl
+plain (b ∷ bs) is =
+    let parts = and_parts (is_itself b) (list_all is_itself bs) is in
+    cond-false (b == 37) (escaped bs) (in_front b (meant bs)) (not-true (b == 37) parts.0)
+    ∙ ap (in_front b) (plain bs parts.1)
+
+pub plain_file : (text : List ℕ) → list_all is_itself text ≡ true → file_bytes_of text ≡ tested is_file_bytes text
+unfolding file_bytes_of
+plain_file text is = ap (λ known. known >>= tested is_file_bytes) (plain text is)
+
+pub plain_typed : (text : List ℕ) → list_all is_itself text ≡ true → typed_bytes_of text ≡ tested is_typed_bytes text
+unfolding typed_bytes_of
+plain_typed text is = ap (λ known. known >>= tested is_typed_bytes) (plain text is)
+
 pub file_none : (text : List ℕ) → few_meant text ≡ None → file_bytes_of text ≡ None
 unfolding few_meant file_bytes_of
 file_none text none = test_none is_file_bytes long_file (meant text) none
@@ -118,6 +135,6 @@ typed_some text bytes some = test_few is_typed_bytes (meant text) bytes some
 
 pub ruleset spelled_exits = (spelled_none, spelled_long)
 
-pub ruleset file_exits = (file_none, file_some)
+pub ruleset file_exits = (plain_file, file_none, file_some)
 
-pub ruleset typed_exits = (typed_none, typed_some)
+pub ruleset typed_exits = (plain_typed, typed_none, typed_some)

@@ -11,7 +11,7 @@ ghost use Rattle.script_lines.specs.Request.{is_printable, is_readable, file_byt
 ghost use Rattle.script_lines.specs.Request.{key_of, mark_of, point_of, file_of, show_of, word_of, words_of};
 ghost use Rattle.script_lines.specs.Request.{command_of, request_of};
 
-use crate::percent::spelled;
+use crate::percent::{is_plain, spelled};
 use crate::words::{key, leading_keys, leading_number, number, split_word};
 use event_bytes::{Event, FileBytes, Name, TypedBytes};
 
@@ -164,6 +164,9 @@ fn show(name: &[u8]) -> Option<Request>
 fn typed_bytes(text: &[u8]) -> Option<TypedBytes>
     ensures { result ≡ typed_bytes_of text.now }
 {
+    if is_plain(text) {
+        return TypedBytes::new(text);
+    }
     TypedBytes::new(spelled(text)?.as_slice())
 }
 
@@ -172,5 +175,8 @@ fn typed_bytes(text: &[u8]) -> Option<TypedBytes>
 fn file_bytes(text: &[u8]) -> Option<FileBytes>
     ensures { result ≡ file_bytes_of text.now }
 {
+    if is_plain(text) {
+        return FileBytes::new(text);
+    }
     FileBytes::new(spelled(text)?.as_slice())
 }
