@@ -1,14 +1,18 @@
 -- Reading the bytes that a text stands for, one after another.
 use Rattle.std.proofs.Common.{◌≡◌, ℕ, ◌<◌, ◌≤◌, Bool, true, false, List, [], ◌∷◌, ◌++◌, Option, None, Some, length}
 use Rattle.std.proofs.Common.{refl, sym, ap, ◌∙◌, arith, append_assoc, append-nil, length-append, cond}
-use Rattle.std.specs.Prelude.{if◌then◌else◌, nat_le, ◌==◌}
+use Rattle.std.specs.Prelude.{if◌then◌else◌, nat_le, ◌==◌, unwrap_or, codes}
+use Rattle.std.specs.Str.{bytes_eq}
 use Rattle.std.specs.Option.{option_map}
 use Rattle.std.specs.List.{list_all}
 use Rattle.std.proofs.lemmas.Bool.{lt-leb, le-leb, and_left, and_right, and_parts, not-true, leb-false, cond-true, cond-false}
 use Rattle.event_bytes.specs.Bytes.{is_text_byte, is_file_bytes, is_typed_bytes}
-use Rattle.script_lines.specs.Words.{◌>>=◌}
+use Rattle.event_bytes.specs.declared.event.Event.TheVariants.{Typed}
+use Rattle.script_lines.specs.declared.request.Request.TheVariants.{Post, Malformed}
+use Rattle.script_lines.specs.Words.{◌>>=◌, word, argument}
 use Rattle.script_lines.specs.Percent.{in_front, is_itself, meant, escaped, few_meant}
-use Rattle.script_lines.specs.Request.{file_bytes_of, typed_bytes_of}
+use Rattle.script_lines.specs.Request.{file_bytes_of, typed_bytes_of, typed_of, words_of, command_of, is_readable}
+use Rattle.script_lines.specs.Request.{request_of, typed_plain}
 
 -- the bytes so far, and what the rest stands for
 abbrev pub onto : List ℕ → Option (List ℕ) → Option (List ℕ)
@@ -115,6 +119,26 @@ plain_file text is = ap (λ known. known >>= tested is_file_bytes) (plain text i
 pub plain_typed : (text : List ℕ) → list_all is_itself text ≡ true → typed_bytes_of text ≡ tested is_typed_bytes text
 unfolding typed_bytes_of
 plain_typed text is = ap (λ known. known >>= tested is_typed_bytes) (plain text is)
+
+-- a line that types such a text
+none_malformed : (text : List ℕ) (b : Bool)
+    → unwrap_or ((let found : Option (List ℕ) = cond b (Some text) None in found) >>= λ bytes. Some (Post (Typed bytes)))
+    Malformed ≡ cond b (Post (Typed text)) Malformed
+none_malformed text true = refl
+none_malformed text false = refl
+
+pub plain_line : (line name text : List ℕ) → is_readable line ≡ true → name ≡ word line → Some text ≡ argument line
+    → bytes_eq name (codes "type") ≡ true → list_all is_itself text ≡ true → request_of line ≡ typed_plain text
+unfolding request_of command_of words_of
+plain_line line name text readable first rest types is =
+    cond-true (is_readable line) _ Malformed readable
+    ∙ ap (λ (argument : Option (List ℕ)). unwrap_or (command_of (word line) argument) Malformed) (sym rest)
+    ∙ ap (λ known. unwrap_or known Malformed)
+    (cond-true (bytes_eq (word line) (codes "type")) (typed_of text) _
+    (ap (λ l. bytes_eq l (codes "type")) (sym first) ∙ types))
+    ∙ ap (λ (known : Option (List ℕ)). unwrap_or (known >>= λ bytes. Some (Post (Typed bytes))) Malformed)
+    (plain_typed text is)
+    ∙ none_malformed text (is_typed_bytes text)
 
 pub file_none : (text : List ℕ) → few_meant text ≡ None → file_bytes_of text ≡ None
 unfolding few_meant file_bytes_of
