@@ -1,5 +1,5 @@
 //! What a disk in memory keeps of its sectors. A sector that was never written takes no room.
-ghost use Rattle.std.specs.Prelude.{◌≡◌, ℕ, OnOk, OnErr, IfOk, Some, true, false, nat_eq};
+ghost use Rattle.std.specs.Prelude.{◌≡◌, ℕ, Ok, OnOk, OnErr, IfOk, Some, true, false, nat_eq};
 ghost use Rattle.std.specs.Option.{is_some};
 ghost use Rattle.std.specs.BTreeMap.{get, Updates, IsUnchanged};
 ghost use Rattle.std.specs.Ordering.{nat_cmp};
@@ -151,21 +151,25 @@ impl Sectors {
         Ok(())
     }
 
-    /// Writes sector `n`, which has room for its bytes. Those that it had at the last sync are kept from now on. `NoMemory`:
-    /// there was no memory for them, and nothing is changed.
-    fn put(&mut self, n: u32, bytes: &Sector) -> Result<(), NoMemory>
-        requires room { is_some (get nat_cmp self.old.latest n) ≡ true }
-        ensures put { OnOk result (Updates nat_cmp self.old.latest self.new.latest n (Some bytes.now)) }
-        ensures kept { OnOk result (is_some (get nat_cmp self.old.settled n) ≡ true
-            → self.new.settled ≡ self.old.settled) }
-        ensures keeps { OnOk result (is_some (get nat_cmp self.old.settled n) ≡ false
-            → IsPut self.old.settled self.new.settled n (get nat_cmp self.old.latest n)) }
+    /// Writes sector `n` where it has room for its bytes, and returns whether it has. Those that it had at the last sync
+    /// are kept from now on. `NoMemory`: there was no memory for them, and nothing is changed.
+    fn put(&mut self, n: u32, bytes: &Sector) -> Result<bool, NoMemory>
+        ensures room { IfOk result (λ there. there ≡ is_some (get nat_cmp self.old.latest n)) }
+        ensures absent { result ≡ Ok false → IsAsBefore self.old self.new }
+        ensures put { result ≡ Ok true → Updates nat_cmp self.old.latest self.new.latest n (Some bytes.now) }
+        ensures kept { result ≡ Ok true → is_some (get nat_cmp self.old.settled n) ≡ true
+            → self.new.settled ≡ self.old.settled }
+        ensures keeps { result ≡ Ok true → is_some (get nat_cmp self.old.settled n) ≡ false
+            → IsPut self.old.settled self.new.settled n (get nat_cmp self.old.latest n) }
         ensures refused { OnErr result (IsUnchanged self.old.settled self.new.settled) }
         ensures left { OnErr result (IsPut self.old.latest self.new.latest n (get nat_cmp self.old.latest n)) }
     {
         match self.latest.get_mut(&n) {
-            Some(place) => overwrite(self.alloc, n, place, &mut self.settled, bytes),
-            None => unreachable!(),
+            Some(place) => {
+                overwrite(self.alloc, n, place, &mut self.settled, bytes)?;
+                Ok(true)
+            }
+            None => Ok(false),
         }
     }
 
@@ -175,6 +179,9 @@ impl Sectors {
         ensures settled { OnOk result (held self.new ≡ held self.old) }
         ensures refused { OnErr result (IsAsBefore self.old self.new) }
     {
+        if self.put(n, bytes)? {
+            return Ok(());
+        }
         self.make_room(n)?;
         self.put(n, bytes)?;
         Ok(())
