@@ -31,9 +31,9 @@ fn clear(buffer: &mut Sector)
     *buffer = [0; SECTOR_BYTES as usize];
 }
 
-/// Gives a sector that has room other bytes, and keeps those that it had as the ones of the last sync where none are kept
-/// yet. The bytes are copied once, to new memory where the old ones are kept. `NoMemory`: there was none, and nothing is
-/// changed.
+/// Gives a sector that has room other bytes, and keeps those that it had as the ones of the last sync where none are
+/// kept yet. The bytes are copied once, to new memory where the old ones are kept. `NoMemory`: there was none, and
+/// nothing is changed.
 fn overwrite(
     alloc: Global,
     n: u32,
@@ -151,8 +151,8 @@ impl Sectors {
         Ok(())
     }
 
-    /// Writes sector `n` where it has room for its bytes, and returns whether it has. Those that it had at the last sync
-    /// are kept from now on. `NoMemory`: there was no memory for them, and nothing is changed.
+    /// Writes sector `n` where it has room for its bytes, and returns whether it has. Those that it had at the last
+    /// sync are kept from now on. `NoMemory`: there was no memory for them, and nothing is changed.
     fn put(&mut self, n: u32, bytes: &Sector) -> Result<bool, NoMemory>
         ensures room { IfOk result (λ there. there ≡ is_some (get nat_cmp self.old.latest n)) }
         ensures absent { result ≡ Ok false → IsAsBefore self.old self.new }
