@@ -1,10 +1,11 @@
 //! Bytes of sectors, which a cache keeps for a while.
-ghost use Rattle.std.specs.Prelude.{◌≡◌, ◌<◌, get_or, length, IfOk, IfSome};
+ghost use Rattle.std.specs.Prelude.{◌≡◌, ◌<◌, ◌≤◌, ◌+◌, get_or, length, IfOk, IfSome};
 ghost use Rattle.sector_disk.specs.declared.disk.TheConstants.{SECTOR_BYTES};
 ghost use Rattle.sector_disk.specs.Trail.{Content, CountsFault, Nowhere, now};
 ghost use Rattle.sector_disk.specs.Confined.{IsConfined};
-ghost use Rattle.char_pages.specs.Cached.{AreTrue, AddsSector};
+ghost use Rattle.char_pages.specs.Cached.{AreTrue, AddsSector, IsCountIn};
 
+use char_file::count_range;
 use lru::LruCache;
 use sector_disk::{Disk, Fault, SECTOR_BYTES, Sector};
 
@@ -95,5 +96,81 @@ pub(crate) fn byte_of<D: Disk>(
     match newest(cache, n, at) {
         Some(byte) => Ok(byte),
         None => looked_up(disk, cache, n, at),
+    }
+}
+
+/// How many of `few` bytes of a sector, from byte `at` on, are the wanted byte.
+fn count_in(sector: &Sector, at: u32, few: u32, wanted: u8) -> u32
+    requires { at + few ≤ SECTOR_BYTES }
+    ensures count { IsCountIn sector.now at few wanted result }
+    ensures most { result ≤ few }
+{
+    count_range(sector, at as usize, few, wanted)
+}
+
+/// The same of sector n, if that is the sector that was asked for last. It looks nothing up and moves nothing.
+fn newest_count(cache: &Cache, n: u32, at: u32, few: u32, wanted: u8) -> Option<u32>
+    requires { at + few ≤ SECTOR_BYTES }
+    ensures count { IfSome result (λ found. (c : Content) → AreTrue c cache.now.entries
+        → IsCountIn (c n) at few wanted found) }
+    ensures most { IfSome result (λ found. found ≤ few) }
+{
+    if let Some((number, sector)) = cache.peek_mru() {
+        if *number == n {
+            return Some(count_in(sector, at, few, wanted));
+        }
+    }
+    None
+}
+
+/// The same of sector n, which mostly isn't the one that was asked for last. It is compiled apart, as `looked_up` is.
+#[inline(never)]
+fn looked_up_count<D: Disk>(
+    disk: &mut D,
+    cache: &mut Cache,
+    n: u32,
+    at: u32,
+    few: u32,
+    wanted: u8,
+) -> Result<u32, Fault>
+    requires there { n < D.size disk.old }
+    requires within { at + few ≤ SECTOR_BYTES }
+    ensures value { IfOk result (λ found. D.honest disk.old → AreTrue (now (D.trail disk.old)).reads cache.old.entries
+        → IsCountIn ((now (D.trail disk.old)).reads n) at few wanted found) }
+    ensures most { IfOk result (λ found. found ≤ few) }
+    ensures cached { AddsSector (D.honest disk.old) (now (D.trail disk.old)).reads n cache.old.entries
+        cache.new.entries }
+    ensures capacity { cache.new.cap ≡ cache.old.cap }
+    ensures kept { IsConfined D.size D.honest D.trail Nowhere disk.old disk.new }
+    ensures cause { CountsFault result (D.failures disk.old) (D.failures disk.new) }
+{
+    let sector = sector_of(disk, cache, n)?;
+    Ok(count_in(&sector, at, few, wanted))
+}
+
+/// How many of `few` bytes of sector n, from byte `at` on, are the wanted byte. A sector that the cache doesn't hold is
+/// read from the disk and put into it. Where there is no memory to put it there, its bytes are counted all the same.
+pub(crate) fn count_of<D: Disk>(
+    disk: &mut D,
+    cache: &mut Cache,
+    n: u32,
+    at: u32,
+    few: u32,
+    wanted: u8,
+) -> Result<u32, Fault>
+    requires there { n < D.size disk.old }
+    requires within { at + few ≤ SECTOR_BYTES }
+    ensures value { IfOk result (λ found. D.honest disk.old → AreTrue (now (D.trail disk.old)).reads cache.old.entries
+        → IsCountIn ((now (D.trail disk.old)).reads n) at few wanted found) }
+    ensures most { IfOk result (λ found. found ≤ few) }
+    ensures cached { AddsSector (D.honest disk.old) (now (D.trail disk.old)).reads n cache.old.entries
+        cache.new.entries }
+    ensures capacity { cache.new.cap ≡ cache.old.cap }
+    ensures kept { IsConfined D.size D.honest D.trail Nowhere disk.old disk.new }
+    ensures cause { CountsFault result (D.failures disk.old) (D.failures disk.new) }
+{
+    match newest_count(cache, n, at, few, wanted) {
+        Some(found) => Ok(found),
+        None => looked_up_count(disk, cache, n, at, few, wanted),
     }
 }

@@ -6,7 +6,7 @@ ghost use Rattle.char_file.specs.declared.source.TheConstants.{MOST_CHARACTERS};
 ghost use Rattle.char_pages.specs.declared.pages.TheConstants.{CACHED_SECTORS};
 ghost use Rattle.char_pages.specs.Cached.{AreBelow};
 
-use crate::cached::{Cache, byte_of, sector_of};
+use crate::cached::{Cache, byte_of, count_of};
 use char_file::{MOST_CHARACTERS, NoMemory, count_range};
 use lru::LruCache;
 use sector_disk::{Disk, Fault, SECTOR_BYTES};
@@ -214,8 +214,8 @@ impl Pages {
         let _ = disk.sectors(); // it is below 2 ^ 32, and so is each sector's number
         let at = offset % SECTOR_BYTES;
         let few = most.min(SECTOR_BYTES - at);
-        let sector = sector_of(disk, &mut self.cache, self.base + offset / SECTOR_BYTES)?;
-        let found = count_range(&sector, at as usize, few, wanted);
+        let sector = self.base + offset / SECTOR_BYTES;
+        let found = count_of(disk, &mut self.cache, sector, at, few, wanted)?;
         Ok((few, found))
     }
 

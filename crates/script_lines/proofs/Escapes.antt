@@ -1,14 +1,18 @@
 -- Reading the bytes that a text stands for, one after another.
 use Rattle.std.proofs.Common.{◌≡◌, ℕ, ◌<◌, ◌≤◌, Bool, true, false, List, [], ◌∷◌, ◌++◌, Option, None, Some, length}
 use Rattle.std.proofs.Common.{refl, sym, ap, ◌∙◌, arith, append_assoc, append-nil, length-append, cond}
-use Rattle.std.specs.Prelude.{if◌then◌else◌, nat_le}
+use Rattle.std.specs.Prelude.{if◌then◌else◌, nat_le, ◌==◌, unwrap_or, codes}
+use Rattle.std.specs.Str.{bytes_eq}
 use Rattle.std.specs.Option.{option_map}
 use Rattle.std.specs.List.{list_all}
-use Rattle.std.proofs.lemmas.Bool.{lt-leb, le-leb, and_left, and_right, leb-false, cond-true, cond-false}
+use Rattle.std.proofs.lemmas.Bool.{lt-leb, le-leb, and_left, and_right, and_parts, not-true, leb-false, cond-true, cond-false}
 use Rattle.event_bytes.specs.Bytes.{is_text_byte, is_file_bytes, is_typed_bytes}
-use Rattle.script_lines.specs.Words.{◌>>=◌}
-use Rattle.script_lines.specs.Percent.{in_front, meant, few_meant}
-use Rattle.script_lines.specs.Request.{file_bytes_of, typed_bytes_of}
+use Rattle.event_bytes.specs.declared.event.Event.TheVariants.{Typed}
+use Rattle.script_lines.specs.declared.request.Request.TheVariants.{Post, Malformed}
+use Rattle.script_lines.specs.Words.{◌>>=◌, word, argument}
+use Rattle.script_lines.specs.Percent.{in_front, is_itself, meant, escaped, few_meant}
+use Rattle.script_lines.specs.Request.{file_bytes_of, typed_bytes_of, typed_of, words_of, command_of, is_readable}
+use Rattle.script_lines.specs.Request.{request_of, typed_plain}
 
 -- the bytes so far, and what the rest stands for
 abbrev pub onto : List ℕ → Option (List ℕ) → Option (List ℕ)
@@ -99,6 +103,43 @@ test_none test only None is = refl
 test_none test only (Some all) is = cond-false (test all) (Some all) None
     (only all (not_found all (length all) (nat_le (length all) 900) refl is))
 
+-- a text without a percent sign stands for its own bytes
+plain : (text : List ℕ) → list_all is_itself text ≡ true → meant text ≡ Some text
+unfolding meant
+plain [] is = refl
+plain (b ∷ bs) is =
+    let parts = and_parts (is_itself b) (list_all is_itself bs) is in
+    cond-false (b == 37) (escaped bs) (in_front b (meant bs)) (not-true (b == 37) parts.0)
+    ∙ ap (in_front b) (plain bs parts.1)
+
+pub plain_file : (text : List ℕ) → list_all is_itself text ≡ true → file_bytes_of text ≡ tested is_file_bytes text
+unfolding file_bytes_of
+plain_file text is = ap (λ known. known >>= tested is_file_bytes) (plain text is)
+
+pub plain_typed : (text : List ℕ) → list_all is_itself text ≡ true → typed_bytes_of text ≡ tested is_typed_bytes text
+unfolding typed_bytes_of
+plain_typed text is = ap (λ known. known >>= tested is_typed_bytes) (plain text is)
+
+-- a line that types such a text
+none_malformed : (text : List ℕ) (b : Bool)
+    → unwrap_or ((let found : Option (List ℕ) = cond b (Some text) None in found) >>= λ bytes. Some (Post (Typed bytes)))
+    Malformed ≡ cond b (Post (Typed text)) Malformed
+none_malformed text true = refl
+none_malformed text false = refl
+
+pub plain_line : (line name text : List ℕ) → is_readable line ≡ true → name ≡ word line → Some text ≡ argument line
+    → bytes_eq name (codes "type") ≡ true → list_all is_itself text ≡ true → request_of line ≡ typed_plain text
+unfolding request_of command_of words_of
+plain_line line name text readable first rest types is =
+    cond-true (is_readable line) _ Malformed readable
+    ∙ ap (λ (argument : Option (List ℕ)). unwrap_or (command_of (word line) argument) Malformed) (sym rest)
+    ∙ ap (λ known. unwrap_or known Malformed)
+    (cond-true (bytes_eq (word line) (codes "type")) (typed_of text) _
+    (ap (λ l. bytes_eq l (codes "type")) (sym first) ∙ types))
+    ∙ ap (λ (known : Option (List ℕ)). unwrap_or (known >>= λ bytes. Some (Post (Typed bytes))) Malformed)
+    (plain_typed text is)
+    ∙ none_malformed text (is_typed_bytes text)
+
 pub file_none : (text : List ℕ) → few_meant text ≡ None → file_bytes_of text ≡ None
 unfolding few_meant file_bytes_of
 file_none text none = test_none is_file_bytes long_file (meant text) none
@@ -118,6 +159,6 @@ typed_some text bytes some = test_few is_typed_bytes (meant text) bytes some
 
 pub ruleset spelled_exits = (spelled_none, spelled_long)
 
-pub ruleset file_exits = (file_none, file_some)
+pub ruleset file_exits = (plain_file, file_none, file_some)
 
-pub ruleset typed_exits = (typed_none, typed_some)
+pub ruleset typed_exits = (plain_typed, typed_none, typed_some)

@@ -1,11 +1,15 @@
 -- The bytes that a text of a script stands for.
-use Rattle.std.specs.Prelude.{ℕ, ◌+◌, ◌-◌, ◌*◌, ◌==◌, nat_le, if◌then◌else◌, List, [], ◌∷◌, length, Option, Some, None}
+use Rattle.std.specs.Prelude.{ℕ, ◌+◌, ◌-◌, ◌*◌, ◌==◌, Bool, not, nat_le, if◌then◌else◌, List, [], ◌∷◌, length, Option, Some, None}
 use Rattle.std.specs.Option.{option_map}
 use Rattle.event_bytes.specs.Bytes.{lies_within, is_digit}
 use Rattle.script_lines.specs.Words.{◌>>=◌}
 
 abbrev pub in_front : ℕ → Option (List ℕ) → Option (List ℕ)
 in_front b known = option_map (λ bs. b ∷ bs) known
+
+-- a byte that isn't a percent sign
+abbrev pub is_itself : ℕ → Bool
+is_itself b = not (b == 37)
 
 -- the value of a hexadecimal digit of either case
 abbrev pub digit_value : ℕ → Option ℕ

@@ -93,3 +93,7 @@ is_readable line = nat_le (length line) longest_line && list_all is_printable li
 
 unfoldable pub request_of : List ℕ → Request
 request_of line = if is_readable line then unwrap_or (command_of (word line) (argument line)) Malformed else Malformed
+
+-- what the text of a line asks for that types it, where each byte of it stands for itself
+abbrev pub typed_plain : List ℕ → Request
+typed_plain text = if is_typed_bytes text then Post (Typed text) else Malformed

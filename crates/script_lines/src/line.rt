@@ -5,7 +5,7 @@ ghost use Rattle.std.specs.Io.KnownBytes.{Consumes, IsAtEnd};
 ghost use Rattle.script_lines.specs.Script.{ended, IsLine};
 ghost use Rattle.script_lines.specs.Request.{request_of};
 
-use crate::request::{Request, parse};
+use crate::request::{Request, asked};
 use arrayvec::ArrayVec;
 use script_streams::ScriptReader;
 use std::marker::Model;
@@ -37,7 +37,7 @@ impl Line {
         if self.is_long {
             Request::Malformed
         } else {
-            parse(self.bytes.as_slice())
+            asked(self.bytes.as_slice())
         }
     }
 

@@ -1,13 +1,21 @@
 //! The bytes that a text of a script stands for: a percent sign and two hexadecimal digits stand for one byte.
 ghost use Rattle.std.specs.Prelude.{◌≡◌, ◌<◌, ◌≤◌, ◌∷◌, length, None, IfSome, MatchOption};
 ghost use Rattle.std.specs.Option.{option_map};
-ghost use Rattle.script_lines.specs.Percent.{digit_value, byte_of_digits, in_front, meant, escaped as escape_meant};
+ghost use Rattle.std.specs.List.{list_all};
+ghost use Rattle.script_lines.specs.Percent.{is_itself, digit_value, byte_of_digits, in_front, meant, escaped as escape_meant};
 ghost use Rattle.script_lines.specs.Percent.{few_meant};
 
 use arrayvec::ArrayVec;
 
 /// The bytes that one event has at most.
 pub type Few = ArrayVec<u8, 900>;
+
+/// Whether no byte is a percent sign. Such a text stands for its own bytes.
+pub fn is_plain(text: &[u8]) -> bool
+    ensures { result ≡ list_all is_itself text.now }
+{
+    text.iter().all(|byte| *byte != b'%')
+}
 
 /// The bytes that the text stands for. None where they are more than 900, and where a percent sign has no hexadecimal
 /// digits after it.

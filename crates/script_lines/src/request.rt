@@ -4,14 +4,14 @@
 //! space after it, ask for an event, and `checkpoint` for a checkpoint. `show NAME`, `list` and `screen` ask for a
 //! look. Words are parted by exactly one space. In BYTES a percent sign and two hexadecimal digits stand for a byte.
 //! What else a line says is malformed.
-ghost use Rattle.std.specs.Prelude.{◌≡◌};
+ghost use Rattle.std.specs.Prelude.{◌≡◌, IfSome};
 ghost use Rattle.std.specs.Option.{option_map};
 ghost use Rattle.std.specs.List.{list_all};
 ghost use Rattle.script_lines.specs.Request.{is_printable, is_readable, file_bytes_of, typed_bytes_of, typed_of};
 ghost use Rattle.script_lines.specs.Request.{key_of, mark_of, point_of, file_of, show_of, word_of, words_of};
-ghost use Rattle.script_lines.specs.Request.{command_of, request_of};
+ghost use Rattle.script_lines.specs.Request.{command_of, request_of, typed_plain};
 
-use crate::percent::spelled;
+use crate::percent::{is_plain, spelled};
 use crate::words::{key, leading_keys, leading_number, number, split_word};
 use event_bytes::{Event, FileBytes, Name, TypedBytes};
 
@@ -33,8 +33,44 @@ pub enum Request {
 }
 
 /// What the line asks for, whose line feed isn't part of it.
+///
+/// Most lines type a text in which each byte stands for itself. These are read apart from the others, since a function
+/// clears at its beginning all places for texts that stand in it.
+pub fn asked(line: &[u8]) -> Request
+    ensures { result ≡ request_of line.now }
+{
+    match plain_typed(line) {
+        Some(text) => type_plain(text),
+        None => parse(line),
+    }
+}
+
+/// The text that the line types, where each byte of it stands for itself. None where the line asks for something else.
+fn plain_typed(line: &[u8]) -> Option<&[u8]>
+    ensures { IfSome result (λ text. request_of line.now ≡ typed_plain text.now) }
+{
+    let (name, rest) = split_word(line);
+    let text = rest?;
+    if name == b"type".as_slice() && is_text(line) && is_plain(text) {
+        return Some(text);
+    }
+    None
+}
+
+/// What a line asks for that types this text, in which each byte stands for itself.
+fn type_plain(text: &[u8]) -> Request
+    ensures { result ≡ typed_plain text.now }
+{
+    match TypedBytes::new(text) {
+        Some(bytes) => Request::Post(Event::Typed(bytes)),
+        None => Request::Malformed,
+    }
+}
+
+/// The same as `asked`, by the words of the line.
+#[inline(never)]
 #[tactic(auto, unfolding(crate::specs::Request::request_of))]
-pub fn parse(line: &[u8]) -> Request
+fn parse(line: &[u8]) -> Request
     ensures { result ≡ request_of line.now }
 {
     if !is_text(line) {
@@ -164,6 +200,9 @@ fn show(name: &[u8]) -> Option<Request>
 fn typed_bytes(text: &[u8]) -> Option<TypedBytes>
     ensures { result ≡ typed_bytes_of text.now }
 {
+    if is_plain(text) {
+        return TypedBytes::new(text);
+    }
     TypedBytes::new(spelled(text)?.as_slice())
 }
 
@@ -172,5 +211,8 @@ fn typed_bytes(text: &[u8]) -> Option<TypedBytes>
 fn file_bytes(text: &[u8]) -> Option<FileBytes>
     ensures { result ≡ file_bytes_of text.now }
 {
+    if is_plain(text) {
+        return FileBytes::new(text);
+    }
     FileBytes::new(spelled(text)?.as_slice())
 }

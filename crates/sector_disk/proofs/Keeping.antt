@@ -1,6 +1,6 @@
 -- What each change of the sectors' maps leaves of what they hold.
-use Rattle.std.proofs.Common.{◌≡◌, ◌≢◌, inl, inr, ℕ, List, if◌then◌else◌, true, false, refl, sym, ◌∙◌, ap}
-use Rattle.std.proofs.Common.{arith, ◌==◌}
+use Rattle.std.proofs.Common.{◌≡◌, ◌≢◌, inl, inr, ℕ, List, Bool, if◌then◌else◌, true, false, refl, sym, ◌∙◌, ap, subst}
+use Rattle.std.proofs.Common.{arith, ◌==◌, Result, Ok, Err, OnErr}
 use Rattle.std.specs.declared.alloc.Global.{Global}
 use Rattle.std.specs.declared.option.Option.{Option}
 use Rattle.std.specs.declared.option.Option.TheVariants.{None, Some}
@@ -13,7 +13,7 @@ use Rattle.std.proofs.lemmas.Bool.Decides.{nat_tests}
 use Rattle.sector_disk.specs.declared.sectors.Sectors.{Sectors}
 use Rattle.sector_disk.specs.Trail.{written, settled}
 use Rattle.sector_disk.specs.Memory.{blank, zeros}
-use Rattle.sector_disk.specs.Sectors.{seen, held, IsAsBefore, IsOpened}
+use Rattle.sector_disk.specs.Sectors.{seen, held, IsAsBefore, IsOpened, IsPut}
 
 abbrev Map : Type 0
 Map = BTreeMap ℕ (List ℕ)
@@ -36,13 +36,24 @@ tests_same k n same = grind (arith, nat_tests)
 tests_other : (k n : ℕ) → k ≢ n → (k == n) ≡ false
 tests_other k n other = grind (arith, nat_tests)
 
+updated : (old new : Map) (n : ℕ) (value : Option (List ℕ)) → Updates nat_cmp old new n value → IsPut old new n value
+updated old new n value put = record { there = put.1; others = put.2 }
+
+-- what was put twice is there as it was put last
+pub put_again : (old mid new : Map) (n : ℕ) (first last : Option (List ℕ)) → Updates nat_cmp old mid n first
+    → Updates nat_cmp mid new n last → IsPut old new n last
+put_again old mid new n first last put again = record {
+  there = again.1;
+  others = λ k other. again.2 k other ∙ put.2 k other;
+}
+
 -- the value that was put is there, and each other one stayed
-put_in : (old new : Map) (n : ℕ) (bytes : List ℕ) → Updates nat_cmp old new n (Some bytes) → (k : ℕ)
+put_in : (old new : Map) (n : ℕ) (bytes : List ℕ) → IsPut old new n (Some bytes) → (k : ℕ)
     → get nat_cmp new k ≡ (if k == n then Some bytes else get nat_cmp old k)
 put_in old new n bytes put k = elim (cases_eq k n) [
-  | inl same ↦ ap (get nat_cmp new) same ∙ put.1
+  | inl same ↦ ap (get nat_cmp new) same ∙ put.there
       ∙ sym (ap (λ b. if b then Some bytes else get nat_cmp old k) (tests_same k n same))
-  | inr other ↦ put.2 k (elsewhere k n other)
+  | inr other ↦ put.others k (elsewhere k n other)
       ∙ sym (ap (λ b. if b then Some bytes else get nat_cmp old k) (tests_other k n other))
 ]
 
@@ -68,10 +79,25 @@ pub no_room : (old : Sectors) (latest : Map) → IsUnchanged old.latest latest
 no_room old latest same = all_before old (record { alloc = old.alloc; latest = latest; settled = old.settled })
     (λ k. ap (λ o. unwrap_or o zeros) (same_in old.latest latest same k)) (λ k. refl)
 
-pub no_room_settled : (old : Sectors) (kept : Map) → IsUnchanged old.settled kept
-    → IsAsBefore old (record { alloc = old.alloc; latest = old.latest; settled = kept })
-no_room_settled old kept same = all_before old (record { alloc = old.alloc; latest = old.latest; settled = kept })
-    (λ k. refl) (same_in old.settled kept same)
+-- no memory for what was settled, where a sector's bytes were put where they stand already
+pub no_room_settled : (old new : Sectors) (n : ℕ) → IsUnchanged old.settled new.settled
+    → IsPut old.latest new.latest n (get nat_cmp old.latest n) → IsAsBefore old new
+no_room_settled old new n same put = all_before old new (λ k. elim (cases_eq k n) [
+  | inl here ↦ ap (bytes_in new.latest) here ∙ ap (λ o. unwrap_or o zeros) put.there
+      ∙ ap (bytes_in old.latest) (sym here)
+  | inr other ↦ ap (λ o. unwrap_or o zeros) (put.others k (elsewhere k n other))
+]) (same_in old.settled new.settled same)
+
+pub in_any_case : {T E : Type 0} (result : Result T E) (P : Type 0) → P → OnErr result P
+in_any_case (Ok _) P holds = tt
+in_any_case (Err _) P holds = holds
+
+-- one after the other
+pub still_before : {old mid new : Sectors} → IsAsBefore old mid → IsAsBefore mid new → IsAsBefore old new
+still_before first last = record {
+  reads = last.reads ∙ first.reads;
+  settled = last.settled ∙ first.settled;
+}
 
 -- a sector that has no bytes here reads as zeros
 pub unwritten : (s : Sectors) (n : ℕ) → is_some (get nat_cmp s.latest n) ≡ false → (seen s).reads n ≡ zeros
@@ -103,7 +129,7 @@ open_already old n pends = record {
 }
 
 pub opened : (old : Sectors) (kept : Map) (n : ℕ) (bytes : List ℕ) → bytes ≡ (seen old).reads n
-    → (seen old).pending n ≡ false → Updates nat_cmp old.settled kept n (Some bytes)
+    → (seen old).pending n ≡ false → IsPut old.settled kept n (Some bytes)
     → IsOpened old (record { alloc = old.alloc; latest = old.latest; settled = kept }) n
 unfolding seen held
 opened old kept n bytes are quiet settles = record {
@@ -124,10 +150,10 @@ opened old kept n bytes are quiet settles = record {
     held_on : (k : ℕ) → unwrap_or (get nat_cmp kept k) (bytes_in old.latest k)
         ≡ unwrap_or (get nat_cmp old.settled k) (bytes_in old.latest k)
     held_on k = elim (cases_eq k n) [
-      | inl same ↦ ap (λ o. unwrap_or o (bytes_in old.latest k)) (ap (get nat_cmp kept) same ∙ settles.1)
+      | inl same ↦ ap (λ o. unwrap_or o (bytes_in old.latest k)) (ap (get nat_cmp kept) same ∙ settles.there)
           ∙ are ∙ missing (get nat_cmp old.settled n) (bytes_in old.latest n) quiet
           ∙ ap (λ k. unwrap_or (get nat_cmp old.settled k) (bytes_in old.latest k)) (sym same)
-      | inr other ↦ ap (λ o. unwrap_or o (bytes_in old.latest k)) (settles.2 k (elsewhere k n other))
+      | inr other ↦ ap (λ o. unwrap_or o (bytes_in old.latest k)) (settles.others k (elsewhere k n other))
     ]
 
 -- the write of a sector that is open
@@ -143,7 +169,8 @@ module _ (old mid new : Sectors) (n : ℕ) (bytes : List ℕ) (is : IsOpened old
       moved false k = refl
 
       reads : (k : ℕ) → bytes_in new.latest k ≡ (if k == n then bytes else bytes_in old.latest k)
-      reads k = ap (λ o. unwrap_or o zeros) (put_in mid.latest new.latest n bytes put k) ∙ moved (k == n) k
+      reads k = ap (λ o. unwrap_or o zeros)
+          (put_in mid.latest new.latest n bytes (updated mid.latest new.latest n (Some bytes) put) k) ∙ moved (k == n) k
           ∙ ap (λ l. if k == n then bytes else l) (is.reads k)
 
       pending : (k : ℕ) → is_some (get nat_cmp new.settled k) ≡ (if k == n then true else (seen old).pending k)
@@ -165,6 +192,33 @@ module _ (old mid new : Sectors) (n : ℕ) (bytes : List ℕ) (is : IsOpened old
         | inr other ↦ ap (unwrap_or (get nat_cmp mid.settled k))
             (ap (λ o. unwrap_or o zeros) (put.2 k (elsewhere k n other)))
       ]
+
+-- the write of a sector that has room: its old bytes are kept as those of the last sync, where none were kept yet
+module _ (old new : Sectors) (n : ℕ) (bytes : List ℕ) (room : is_some (get nat_cmp old.latest n) ≡ true)
+    (put : Updates nat_cmp old.latest new.latest n (Some bytes))
+    (kept : is_some (get nat_cmp old.settled n) ≡ true → new.settled ≡ old.settled)
+    (keeps : is_some (get nat_cmp old.settled n) ≡ false
+    → IsPut old.settled new.settled n (get nat_cmp old.latest n)) where
+  abbrev with_settled : Map → Sectors
+  with_settled m = record { alloc = old.alloc; latest = old.latest; settled = m }
+
+  some_bytes : (o : Option (List ℕ)) → is_some o ≡ true → o ≡ Some (unwrap_or o zeros)
+  some_bytes None none = absurd (cc)
+  some_bytes (Some x) some = refl
+
+  is_open : (b : Bool) → is_some (get nat_cmp old.settled n) ≡ b → IsOpened old (with_settled new.settled) n
+  unfolding seen
+  is_open true pends = subst (λ m. IsOpened old (with_settled m) n) (sym (kept pends)) (open_already old n pends)
+  is_open false quiet = opened old new.settled n (bytes_in old.latest n) refl quiet
+      (subst (λ o. IsPut old.settled new.settled n o) (some_bytes (get nat_cmp old.latest n) room) (keeps quiet))
+
+  pub overwritten : seen new ≡ written (seen old) n bytes
+  overwritten = wrote old (with_settled new.settled) new n bytes
+      (is_open (is_some (get nat_cmp old.settled n)) refl) put refl
+
+  pub held_on : held new ≡ held old
+  held_on = still_held old (with_settled new.settled) new n bytes
+      (is_open (is_some (get nat_cmp old.settled n)) refl) put refl
 
 -- after a sync, where nothing is kept beside what is read
 pub all_settled : (old : Sectors) (kept : Map) → IsEmpty kept

@@ -1,13 +1,18 @@
 -- What a disk in memory keeps of its sectors: the bytes of each that was written, and those that each pending one had
 -- at the last sync.
-use Rattle.std.specs.Prelude.{◌≡◌, ◌==◌, ℕ, List, true, if◌then◌else◌}
+use Rattle.std.specs.Prelude.{◌≡◌, ◌==◌, ℕ, List, Option, true, false, if◌then◌else◌}
 use Rattle.std.specs.Option.{is_some, unwrap_or}
 use Rattle.std.specs.Ordering.{nat_cmp}
-use Rattle.std.specs.BTreeMap.{get}
+use Rattle.std.specs.BTreeMap.{BTreeMap, get, is_at}
 use Rattle.sector_disk.specs.declared.call.DiskCall.{DiskCall}
 use Rattle.sector_disk.specs.declared.sectors.Sectors.{Sectors}
 use Rattle.sector_disk.specs.Trail.{Content, Moment, now}
 use Rattle.sector_disk.specs.Memory.{zeros, trail_of, IsLastSync}
+
+-- a map has this at a number, and at each other number what it had
+pub record IsPut (old new : BTreeMap ℕ (List ℕ)) (n : ℕ) (value : Option (List ℕ)) : Type 0 where
+  pub there : get nat_cmp new n ≡ value
+  pub others : (k : ℕ) → is_at (nat_cmp n) k ≡ false → get nat_cmp new k ≡ get nat_cmp old k
 
 -- what a read of each sector gives, and which are pending
 unfoldable pub seen : Sectors → Moment

@@ -1,18 +1,19 @@
 //! What a disk in memory keeps of its sectors. A sector that was never written takes no room.
-ghost use Rattle.std.specs.Prelude.{◌≡◌, ℕ, OnOk, OnErr, IfOk, Some, true, false, nat_eq};
+ghost use Rattle.std.specs.Prelude.{◌≡◌, ℕ, Ok, OnOk, OnErr, IfOk, Some, true, false, nat_eq};
 ghost use Rattle.std.specs.Option.{is_some};
-ghost use Rattle.std.specs.BTreeMap.{get, Updates};
+ghost use Rattle.std.specs.BTreeMap.{get, Updates, IsUnchanged};
 ghost use Rattle.std.specs.Ordering.{nat_cmp};
 ghost use Rattle.std.specs.Set.{is_member};
 ghost use Rattle.std.specs.List.Sorted.{IsStrictlySortedBy};
 ghost use Rattle.sector_disk.specs.Trail.{written, settled};
 ghost use Rattle.sector_disk.specs.Memory.{blank, zeros};
-ghost use Rattle.sector_disk.specs.Sectors.{seen, held, IsOpened, IsAsBefore};
+ghost use Rattle.sector_disk.specs.Sectors.{seen, held, IsAsBefore, IsPut};
 
 use crate::heap::HeapSector;
 use crate::{NoMemory, SECTOR_BYTES, Sector};
 use std::alloc::Global;
 use std::collections::BTreeMap;
+use std::mem;
 
 /// The bytes of a sector that was never written.
 #[tactic(auto, unfolding(crate::specs::Memory::zeros))]
@@ -20,6 +21,55 @@ fn empty_sector() -> Sector
     ensures { result ≡ zeros }
 {
     [0; SECTOR_BYTES as usize]
+}
+
+/// Makes the buffer the bytes of a sector that was never written.
+#[tactic(auto, unfolding(crate::specs::Memory::zeros))]
+fn clear(buffer: &mut Sector)
+    ensures { buffer.new ≡ zeros }
+{
+    *buffer = [0; SECTOR_BYTES as usize];
+}
+
+/// Gives a sector that has room other bytes, and keeps those that it had as the ones of the last sync where none are
+/// kept yet. The bytes are copied once, to new memory where the old ones are kept. `NoMemory`: there was none, and
+/// nothing is changed.
+fn overwrite(
+    alloc: Global,
+    n: u32,
+    place: &mut HeapSector,
+    settled: &mut BTreeMap<u32, HeapSector>,
+    bytes: &Sector,
+) -> Result<(), NoMemory>
+    ensures put { OnOk result (place.new ≡ bytes.now) }
+    ensures kept { OnOk result (is_some (get nat_cmp settled.old n) ≡ true → settled.new ≡ settled.old) }
+    ensures keeps { OnOk result (is_some (get nat_cmp settled.old n) ≡ false
+        → IsPut settled.old settled.new n (Some place.old)) }
+    ensures refused { OnErr result (IsUnchanged settled.old settled.new) }
+    ensures left { OnErr result (place.new ≡ place.old) }
+{
+    if settled.contains_key(&n) {
+        place.set(bytes);
+        return Ok(());
+    }
+    let sector = HeapSector::new(alloc, bytes)?;
+    let Ok(_) = settled.insert(n, sector) else {
+        return Err(NoMemory);
+    };
+    exchange(n, place, settled);
+    Ok(())
+}
+
+/// Exchanges a sector and the one that is kept under this number.
+fn exchange(n: u32, place: &mut HeapSector, settled: &mut BTreeMap<u32, HeapSector>)
+    requires { is_some (get nat_cmp settled.old n) ≡ true }
+    ensures put { get nat_cmp settled.old n ≡ Some place.new }
+    ensures keeps { Updates nat_cmp settled.old settled.new n (Some place.old) }
+{
+    match settled.get_mut(&n) {
+        Some(kept) => mem::swap(place, kept),
+        None => unreachable!(),
+    }
 }
 
 /// The bytes of the sectors.
@@ -47,26 +97,35 @@ impl Sectors {
         }
     }
 
-    /// The bytes of sector `n` as they were written last, zeros where it never was.
+    /// Copies to the buffer the bytes of sector `n` as they were written last, zeros where it never was.
     #[tactic(auto, unfolding(crate::specs::Sectors::seen))]
-    pub(crate) fn latest(&self, n: u32) -> Sector
-        ensures { result ≡ (seen self.now).reads n }
+    pub(crate) fn copy_latest(&self, n: u32, buffer: &mut Sector)
+        ensures { buffer.new ≡ (seen self.now).reads n }
     {
         match self.latest.get(&n) {
-            Some(sector) => *sector.bytes(),
-            None => empty_sector(),
+            Some(sector) => sector.copy_to(buffer),
+            None => clear(buffer),
         }
     }
 
-    /// The bytes that sector `n` had at the last sync.
+    /// Copies to the buffer the bytes that sector `n` had at the last sync.
     #[tactic(auto, unfolding(crate::specs::Sectors::seen, crate::specs::Sectors::held))]
-    pub(crate) fn settled(&self, n: u32) -> Sector
-        ensures { result ≡ held self.now n }
+    pub(crate) fn copy_settled(&self, n: u32, buffer: &mut Sector)
+        ensures { buffer.new ≡ held self.now n }
     {
         match self.settled.get(&n) {
-            Some(sector) => *sector.bytes(),
-            None => self.latest(n),
+            Some(sector) => sector.copy_to(buffer),
+            None => self.copy_latest(n, buffer),
         }
+    }
+
+    /// The bytes of sector `n` as they were written last, zeros where it never was.
+    pub(crate) fn latest(&self, n: u32) -> Sector
+        ensures { result ≡ (seen self.now).reads n }
+    {
+        let mut bytes = empty_sector();
+        self.copy_latest(n, &mut bytes);
+        bytes
     }
 
     /// Whether sector `n` was written after the last sync.
@@ -92,32 +151,25 @@ impl Sectors {
         Ok(())
     }
 
-    /// Makes sector `n` pending, which has room for its bytes. These stay as they are. `NoMemory`: there was no memory
-    /// for it, and nothing is changed.
-    fn open(&mut self, n: u32) -> Result<(), NoMemory>
-        ensures opened { OnOk result (IsOpened self.old self.new n) }
-        ensures refused { OnErr result (IsAsBefore self.old self.new) }
-        ensures latest { self.new.latest ≡ self.old.latest }
-    {
-        if self.is_pending(n) {
-            return Ok(());
-        }
-        let bytes = HeapSector::new(self.alloc, &self.latest(n))?;
-        let Ok(_) = self.settled.insert(n, bytes) else {
-            return Err(NoMemory);
-        };
-        Ok(())
-    }
-
-    /// Writes sector `n`, which is pending and has room for its bytes.
-    fn put(&mut self, n: u32, bytes: &Sector)
-        requires room { is_some (get nat_cmp self.old.latest n) ≡ true }
-        ensures put { Updates nat_cmp self.old.latest self.new.latest n (Some bytes.now) }
-        ensures settled { self.new.settled ≡ self.old.settled }
+    /// Writes sector `n` where it has room for its bytes, and returns whether it has. Those that it had at the last
+    /// sync are kept from now on. `NoMemory`: there was no memory for them, and nothing is changed.
+    fn put(&mut self, n: u32, bytes: &Sector) -> Result<bool, NoMemory>
+        ensures room { IfOk result (λ there. there ≡ is_some (get nat_cmp self.old.latest n)) }
+        ensures absent { result ≡ Ok false → IsAsBefore self.old self.new }
+        ensures put { result ≡ Ok true → Updates nat_cmp self.old.latest self.new.latest n (Some bytes.now) }
+        ensures kept { result ≡ Ok true → is_some (get nat_cmp self.old.settled n) ≡ true
+            → self.new.settled ≡ self.old.settled }
+        ensures keeps { result ≡ Ok true → is_some (get nat_cmp self.old.settled n) ≡ false
+            → IsPut self.old.settled self.new.settled n (get nat_cmp self.old.latest n) }
+        ensures refused { OnErr result (IsUnchanged self.old.settled self.new.settled) }
+        ensures left { OnErr result (IsPut self.old.latest self.new.latest n (get nat_cmp self.old.latest n)) }
     {
         match self.latest.get_mut(&n) {
-            Some(place) => place.set(bytes),
-            None => unreachable!(),
+            Some(place) => {
+                overwrite(self.alloc, n, place, &mut self.settled, bytes)?;
+                Ok(true)
+            }
+            None => Ok(false),
         }
     }
 
@@ -127,9 +179,11 @@ impl Sectors {
         ensures settled { OnOk result (held self.new ≡ held self.old) }
         ensures refused { OnErr result (IsAsBefore self.old self.new) }
     {
+        if self.put(n, bytes)? {
+            return Ok(());
+        }
         self.make_room(n)?;
-        self.open(n)?;
-        self.put(n, bytes);
+        self.put(n, bytes)?;
         Ok(())
     }
 

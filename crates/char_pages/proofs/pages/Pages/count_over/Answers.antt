@@ -1,4 +1,4 @@
-use Rattle.std.proofs.Common.{◌≡◌, ◌≤◌, ◌<◌, ◌+◌, ◌-◌, ◌/◌, ◌%◌, ◌==◌, count_by, length, slice_range, sym, ◌∙◌, ap, subst, arith}
+use Rattle.std.proofs.Common.{◌≡◌, ◌≤◌, ◌<◌, ◌+◌, ◌-◌, ◌%◌, ◌==◌, count_by, slice_range, sym, ◌∙◌, ap, subst, arith}
 use Rattle.sector_disk.specs.Trail.{Content, now}
 use Rattle.sector_disk.specs.declared.disk.TheConstants.{SECTOR_BYTES}
 use Rattle.sector_disk.proofs.Touching.{still_all}
@@ -27,19 +27,19 @@ invariant_of-self-clause-below g c =
     let p = c.args.self.now in
     let before = c.if-offset-self.false in
     let whole : p.saved % SECTOR_BYTES ≡ 0 = p.whole in
-    below_with c.sector_of.ensures.cached (omega arith) (omega (arith, before, whole)) p.below
+    below_with c.count_of.ensures.cached (omega arith) (omega (arith, before, whole)) p.below
 
-pub returns-in_err-sector-clause-cached : goal.returns-in_err-sector-clause-cached
-returns-in_err-sector-clause-cached g c = λ h true_of.
-    subst (λ (content : Content). AreTrue content c.sector_of.new.cache.entries)
-    (sym (still_all _ _ (c.sector_of.ensures.kept.moments h)))
-    (true_with c.sector_of.ensures.cached h true_of)
+pub returns-in_err-found-clause-cached : goal.returns-in_err-found-clause-cached
+returns-in_err-found-clause-cached g c = λ h true_of.
+    subst (λ (content : Content). AreTrue content c.count_of.new.cache.entries)
+    (sym (still_all _ _ (c.count_of.ensures.kept.moments h)))
+    (true_with c.count_of.ensures.cached h true_of)
 
 pub returns-clause-cached : goal.returns-clause-cached
 returns-clause-cached g c = λ h true_of.
-    subst (λ (content : Content). AreTrue content c.sector_of.new.cache.entries)
-    (sym (still_all _ _ (c.sector_of.ensures.kept.moments h)))
-    (true_with c.sector_of.ensures.cached h true_of)
+    subst (λ (content : Content). AreTrue content c.count_of.new.cache.entries)
+    (sym (still_all _ _ (c.count_of.ensures.kept.moments h)))
+    (true_with c.count_of.ensures.cached h true_of)
 
 pub returns-clause-looked : goal.returns-clause-looked
 returns-clause-looked g c =
@@ -54,12 +54,8 @@ returns-clause-looked g c =
       some = omega (arith, least, some);
       most = omega (arith, least);
       exact = λ h.
-          let is = c.in_ok-sector.ensures.value h.0 h.1 in
-          let at = c.args.offset % SECTOR_BYTES in
-          c.count_range-found.ensures.count
-          ∙ ap (λ l. count_by (λ b. b == c.args.wanted) (slice_range l at (at + c.min-few.result))) is
-          ∙ ap (count_by (λ b. b == c.args.wanted))
-          (sym (range_in_area reads p.base p.saved p.rest.items c.args.offset c.min-few.result whole low within
-          (ap length (sym is) ∙ c.in_ok-sector.ensures.whole)));
-      few = c.count_range-found.ensures.few;
+          let is = c.in_ok-found.ensures.value h.0 h.1 in
+          is.exact ∙ ap (count_by (λ b. b == c.args.wanted))
+          (sym (range_in_area reads p.base p.saved p.rest.items c.args.offset c.min-few.result whole low within is.whole));
+      few = c.in_ok-found.ensures.most;
     }
