@@ -1,15 +1,12 @@
 //! What a track shows in a row.
-ghost use Rattle.std.specs.Prelude.{◌≡◌, ◌+◌, ◌<◌, ◌≤◌, ◌-◌, ◌==◌, ℕ, false, length, map, slice_get, All};
+ghost use Rattle.std.specs.Prelude.{◌≡◌, ◌+◌, ◌<◌, ◌≤◌, ◌-◌, ◌==◌, ℕ, length, map, All};
 ghost use Rattle.std.specs.Prelude.{IfOk, OnOk, IfSome};
 ghost use Rattle.std.specs.List.{position_or_len};
 ghost use Rattle.readers_scanners.specs.Words.{CountsFault, OnlyReads};
 ghost use Rattle.viewer_tracks.specs.Display.{left_of};
 ghost use Rattle.viewer_tracks.specs.Viewers.{viewer_at, id_number};
 ghost use Rattle.viewer_tracks.specs.Columns.{shown as shown_track, StandsAt};
-ghost use Rattle.screen_pictures.specs.Bytes.{shown_byte};
-ghost use Rattle.screen_pictures.specs.Picture.{cell_with, filler, is_at, is_selected, text_cell};
-ghost use Rattle.screen_pictures.specs.Picture.{viewer_cell, width_of, track_cell};
-ghost use Rattle.screen_pictures.specs.Mark.{mark_of};
+ghost use Rattle.screen_pictures.specs.Picture.{filler, viewer_cell, width_of, track_cell};
 ghost use Rattle.screen_cells.specs.Shown.{IsShowable, as_read, strip_cell};
 ghost use Rattle.piece_ring.specs.Text.{Text as AText};
 ghost use Rattle.screen_cells.specs.Lines.{IsSlotOf, IsCaretOf, IsNumbered};
@@ -19,8 +16,7 @@ use crate::lines::{KeptCaret, Slot, caret_cell, frame_cells, menu_cells};
 use crate::shown::Shown;
 use crate::walk::{Walk, walk_of};
 use arrayvec::ArrayVec;
-use piece_ring::{DEFAULT_LOOK, Look};
-use screen_pictures::{Cell, Mark};
+use piece_ring::Look;
 use text_frames::{CharSource, Fault, FrameSelection};
 use viewer_tracks::{COLUMNS, ROWS, SYSTEM_LEFT, Track, Tracks, ViewerId};
 
@@ -50,115 +46,6 @@ pub(crate) struct FrameRow {
     pub(crate) selection: Option<FrameSelection>,
     /// The number of the row, from the top of the frame.
     pub(crate) row: u8,
-}
-
-impl Strip {
-    /// The cell in a column.
-    pub(crate) fn cell(&self, column: u8) -> Cell
-        ensures { result ≡ strip_cell self.now column }
-    {
-        match self {
-            Strip::Filler => Cell::filler(false),
-            Strip::Menu(line) => cell_with(b'-', filled(line.as_slice(), column), Mark::Menu),
-            Strip::Frame(row) => frame_cell(row, column),
-        }
-    }
-}
-
-/// The cell of a frame's row in a column, the bar being column 0.
-fn frame_cell(row: &FrameRow, column: u8) -> Cell
-    ensures { result ≡ strip_cell (Strip.Frame row.now) column }
-{
-    if column == 0 {
-        return cell_with(b'|', None, Mark::Bar);
-    }
-    text_cell(row, column - 1)
-}
-
-/// The cell of a frame's row in a column beside the bar.
-fn text_cell(row: &FrameRow, column: u8) -> Cell
-    ensures { result ≡ text_cell row.now.line.items row.now.caret row.now.selection column row.now.row }
-{
-    let c = filled(row.line.as_slice(), column);
-    let has_caret = is_at(row.caret, column, row.row);
-    let is_inside = is_selected(row.selection, c);
-    let mark = text_mark(has_caret, is_inside);
-    cell_with(b' ', c, mark)
-}
-
-/// Whether a place is this column and row.
-fn is_at(place: Option<(u8, u8)>, x: u8, y: u8) -> bool
-    ensures { result ≡ is_at place x y }
-{
-    match place {
-        None => false,
-        Some((column, row)) => column == x && row == y,
-    }
-}
-
-/// What fills the cell in a column. None past the line's end.
-fn filled(line: &[Filled], column: u8) -> Option<Filled>
-    ensures { result ≡ slice_get line.now column }
-{
-    line.get(usize::from(column)).copied()
-}
-
-/// The mark of a cell of a text that isn't under the marker.
-fn text_mark(has_caret: bool, is_selected: bool) -> Mark
-    ensures { result ≡ mark_of false has_caret is_selected Mark.Text }
-{
-    if has_caret {
-        Mark::Caret
-    } else if is_selected {
-        Mark::Selected
-    } else {
-        Mark::Text
-    }
-}
-
-/// Whether what fills a cell is a selected character.
-fn is_selected(selection: Option<FrameSelection>, c: Option<Filled>) -> bool
-    ensures { result ≡ is_selected selection c }
-{
-    let Some(selection) = selection else {
-        return false;
-    };
-    let Some((_, _, position)) = c else {
-        return false;
-    };
-    selection.beg <= position && position < selection.end
-}
-
-/// A cell with what fills it, or with a byte in the default look.
-fn cell_with(blank: u8, c: Option<Filled>, mark: Mark) -> Cell
-    ensures { result ≡ cell_with blank c mark }
-{
-    match c {
-        None => Cell {
-            ch: blank,
-            look: DEFAULT_LOOK,
-            mark,
-        },
-        Some((byte, look, _)) => Cell {
-            ch: shown_byte(byte),
-            look,
-            mark,
-        },
-    }
-}
-
-/// The byte that is shown for one.
-#[tactic(auto, unfolding(screen_pictures::specs::Bytes::shown_byte))]
-fn shown_byte(byte: u8) -> u8
-    ensures { result ≡ shown_byte byte }
-{
-    if byte == b'\t' {
-        b' '
-    } else if byte >= b' ' && byte <= b'~' {
-        byte
-    } else {
-        b'?'
-    }
 }
 
 /// The viewer that is seen in a row of a track.
