@@ -13,51 +13,51 @@ use text_frames::FrameSelection;
 
 impl Strip {
     /// Puts it into the cells of its track in a row.
-    pub(crate) fn put(&self, cells: &mut [Cell])
+    pub(crate) fn put(self, line: &[Filled], cells: &mut [Cell])
         requires some { 0 < length cells.old }
         requires fits { length cells.old ≤ 50 }
-        ensures { cells.new ≡ values (length cells.old) (strip_cell self.now) }
+        ensures { cells.new ≡ values (length cells.old) (strip_cell self line.now) }
     {
         match self {
             Strip::Filler => put_same(cells, Cell::filler(false)),
-            Strip::Menu(line) => put_line(cells, b'-', line.as_slice(), Mark::Menu),
-            Strip::Frame(row) => put_row(cells, row),
+            Strip::Menu => put_line(cells, b'-', line, Mark::Menu),
+            Strip::Frame(row) => put_row(cells, line, row),
         }
     }
 }
 
 /// Puts a row of a main frame, its bar at the left.
-fn put_row(cells: &mut [Cell], row: &FrameRow)
+fn put_row(cells: &mut [Cell], line: &[Filled], row: FrameRow)
     requires some { 0 < length cells.old }
     requires fits { length cells.old ≤ 50 }
-    ensures { cells.new ≡ values (length cells.old) (strip_cell (Strip.Frame row.now)) }
+    ensures { cells.new ≡ values (length cells.old) (strip_cell (Strip.Frame row) line.now) }
 {
     let (bar, text) = cells.split_at_mut(1);
     put_same(bar, cell_with(b'|', None, Mark::Bar));
-    put_text(text, row);
+    put_text(text, line, row);
 }
 
 /// Puts a row of a main frame beside its bar: in one go where neither the caret nor a selected character is in it.
-fn put_text(cells: &mut [Cell], row: &FrameRow)
+fn put_text(cells: &mut [Cell], line: &[Filled], row: FrameRow)
     requires { length cells.old ≤ 50 }
     ensures { cells.new ≡ values (length cells.old)
-        (λ x. text_cell row.now.line.items row.now.caret row.now.selection x row.now.row) }
+        (λ x. text_cell line.now row.caret row.selection x row.row) }
 {
     if is_plain(row) {
-        put_line(cells, b' ', row.line.as_slice(), Mark::Text);
+        put_line(cells, b' ', line, Mark::Text);
     } else {
-        put_each(cells, row);
+        put_each(cells, line, row);
     }
 }
 
 /// Puts a row of a main frame beside its bar, each cell with its own mark.
-fn put_each(cells: &mut [Cell], row: &FrameRow)
+fn put_each(cells: &mut [Cell], line: &[Filled], row: FrameRow)
     requires { length cells.old ≤ 50 }
     ensures { cells.new ≡ values (length cells.old)
-        (λ x. text_cell row.now.line.items row.now.caret row.now.selection x row.now.row) }
+        (λ x. text_cell line.now row.caret row.selection x row.row) }
 {
     for x in 0..cells.len() {
-        cells[x] = text_cell(row, x as u8);
+        cells[x] = text_cell(line, row, x as u8);
     }
 }
 
@@ -80,9 +80,9 @@ fn put_same(cells: &mut [Cell], cell: Cell)
 }
 
 /// Whether a row of a main frame has neither the caret nor a selected character.
-fn is_plain(row: &FrameRow) -> bool
-    ensures selection { result ≡ true → row.now.selection ≡ None }
-    ensures caret { result ≡ true → (x : ℕ) → is_at row.now.caret x row.now.row ≡ false }
+fn is_plain(row: FrameRow) -> bool
+    ensures selection { result ≡ true → row.selection ≡ None }
+    ensures caret { result ≡ true → (x : ℕ) → is_at row.caret x row.row ≡ false }
 {
     if row.selection.is_some() {
         return false;
@@ -101,10 +101,10 @@ fn is_in_row(place: Option<(u8, u8)>, y: u8) -> bool
 }
 
 /// The cell of a row of a main frame in a column beside its bar.
-fn text_cell(row: &FrameRow, column: u8) -> Cell
-    ensures { result ≡ text_cell row.now.line.items row.now.caret row.now.selection column row.now.row }
+fn text_cell(line: &[Filled], row: FrameRow, column: u8) -> Cell
+    ensures { result ≡ text_cell line.now row.caret row.selection column row.row }
 {
-    let c = filled(row.line.as_slice(), usize::from(column));
+    let c = filled(line, usize::from(column));
     let has_caret = is_at(row.caret, column, row.row);
     let is_inside = is_selected(row.selection, c);
     let mark = text_mark(has_caret, is_inside);

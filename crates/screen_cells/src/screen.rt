@@ -11,9 +11,9 @@ ghost use Rattle.screen_cells.specs.Rows.{painted_row, strips_cell};
 ghost use Rattle.screen_cells.specs.Walks.{AreKept};
 ghost use Rattle.screen_cells.specs.Lines.{AreLinesOf, IsNumbered, AreReady};
 
-use crate::lines::KeptLines;
+use crate::lines::{KeptLines, kept_cells};
 use crate::shown::Shown;
-use crate::strip::{Strip, track_strip};
+use crate::strip::{Filled, Strip, track_strip};
 use crate::walk::Walks;
 use screen_pictures::{Cell, Mark};
 use std::marker::Model;
@@ -171,26 +171,37 @@ fn paint_row<'a, S: CharSource>(
         &mut lines.caret,
         source,
     )?;
-    put_strips(row, y, &user, &system, marker);
+    let line = kept_cells(&lines.user[at]);
+    let other = kept_cells(&lines.system[at]);
+    put_strips(row, y, user, line, system, other, marker);
     Ok(())
 }
 
-/// Puts what both tracks show in a row into its cells, with the marker where it stands there.
-fn put_strips(row: &mut Row, y: u8, user: &Strip, system: &Strip, marker: Option<(u8, u8)>)
-    ensures { row.new ≡ values COLUMNS (strips_cell user.now system.now marker y) }
+/// Puts what both tracks show in a row into its cells, with the marker where it stands there. `line` is the line that
+/// the user track shows, and `other` that of the system track.
+fn put_strips(
+    row: &mut Row,
+    y: u8,
+    user: Strip,
+    line: &[Filled],
+    system: Strip,
+    other: &[Filled],
+    marker: Option<(u8, u8)>,
+)
+    ensures { row.new ≡ values COLUMNS (strips_cell user line.now system other.now marker y) }
 {
-    put_both(row, user, system);
+    put_both(row, user, line, system, other);
     put_marker(row, y, marker);
 }
 
 /// Puts what both tracks show in a row into its cells.
-fn put_both(row: &mut Row, user: &Strip, system: &Strip)
-    ensures { row.new ≡ values COLUMNS (λ x. if nat_lt x SYSTEM_LEFT then strip_cell user.now x
-        else strip_cell system.now (x - SYSTEM_LEFT)) }
+fn put_both(row: &mut Row, user: Strip, line: &[Filled], system: Strip, other: &[Filled])
+    ensures { row.new ≡ values COLUMNS (λ x. if nat_lt x SYSTEM_LEFT then strip_cell user line.now x
+        else strip_cell system other.now (x - SYSTEM_LEFT)) }
 {
     let (left, right) = row.split_at_mut(usize::from(SYSTEM_LEFT));
-    user.put(left);
-    system.put(right);
+    user.put(line, left);
+    system.put(other, right);
 }
 
 /// Puts the marker into a row, where it stands there.

@@ -1,18 +1,19 @@
 //! What a track shows in a row.
-ghost use Rattle.std.specs.Prelude.{◌≡◌, ◌+◌, ◌<◌, ◌≤◌, ◌-◌, ◌==◌, ℕ, length, map, All};
+ghost use Rattle.std.specs.Prelude.{◌≡◌, ◌+◌, ◌<◌, ◌≤◌, ◌-◌, ◌==◌, ℕ, List, length, map, All};
 ghost use Rattle.std.specs.Prelude.{IfOk, OnOk, IfSome};
 ghost use Rattle.std.specs.List.{position_or_len};
 ghost use Rattle.readers_scanners.specs.Words.{CountsFault, OnlyReads};
+ghost use Rattle.text_frames.specs.Row.{ShownCell};
 ghost use Rattle.viewer_tracks.specs.Display.{left_of};
 ghost use Rattle.viewer_tracks.specs.Viewers.{viewer_at, id_number};
 ghost use Rattle.viewer_tracks.specs.Columns.{shown as shown_track, StandsAt};
 ghost use Rattle.screen_pictures.specs.Picture.{filler, viewer_cell, width_of, track_cell};
 ghost use Rattle.screen_cells.specs.Shown.{IsShowable, as_read, strip_cell};
 ghost use Rattle.piece_ring.specs.Text.{Text as AText};
-ghost use Rattle.screen_cells.specs.Lines.{IsSlotOf, IsCaretOf, IsNumbered};
+ghost use Rattle.screen_cells.specs.Lines.{IsSlotOf, IsCaretOf, IsNumbered, kept_cells};
 ghost use Rattle.screen_cells.specs.Walks.{IsWalk, IsKept};
 
-use crate::lines::{KeptCaret, Slot, caret_cell, frame_cells, menu_cells};
+use crate::lines::{KeptCaret, Slot, caret_cell, keep_menu, keep_row};
 use crate::shown::Shown;
 use crate::walk::{Walk, walk_of};
 use arrayvec::ArrayVec;
@@ -26,21 +27,20 @@ pub(crate) type Filled = (u8, Look, u32);
 /// The filled cells of a line, from the left.
 pub(crate) type StripLine = ArrayVec<Filled, 50>;
 
-/// What a track shows in a row.
-#[derive(Drop)]
+/// What a track shows in a row, beside the line that is kept of it.
+#[derive(Clone, Copy)]
 pub(crate) enum Strip {
     /// No viewer.
     Filler,
     /// The menu of a viewer.
-    Menu(StripLine),
+    Menu,
     /// A row of a viewer's main frame, with its bar.
     Frame(FrameRow),
 }
 
-/// A row of a main frame.
-#[derive(Drop)]
+/// A row of a main frame, but for its line.
+#[derive(Clone, Copy)]
 pub(crate) struct FrameRow {
-    pub(crate) line: StripLine,
     /// The cell of the frame at which the caret stands.
     pub(crate) caret: Option<(u8, u8)>,
     pub(crate) selection: Option<FrameSelection>,
@@ -83,7 +83,7 @@ fn menu_strip<S: CharSource>(
     requires showable { IsShowable (length (S.characters source.old)) shown.now }
     ensures strip { IfOk result (λ strip. S.honest source.old → (texts : ℕ → AText ℕ)
         → IsNumbered texts (S.characters source.old) shown.now → IsSlotOf texts slot.old
-        → (column : ℕ) → strip_cell strip column
+        → (column : ℕ) → strip_cell strip (kept_cells slot.new) column
         ≡ viewer_cell (as_read (S.characters source.old) shown.now) width bottom (y + 1) column y) }
     ensures slot { S.honest source.old → (texts : ℕ → AText ℕ)
         → IsNumbered texts (S.characters source.old) shown.now → IsSlotOf texts slot.old → IsSlotOf texts slot.new }
@@ -92,8 +92,8 @@ fn menu_strip<S: CharSource>(
 {
     let _ = bottom;
     let _ = y;
-    let line = menu_cells(shown, width, slot, source)?;
-    Ok(Strip::Menu(line))
+    keep_menu(shown, width, slot, source)?;
+    Ok(Strip::Menu)
 }
 
 /// A row of a viewer of that width and these rows: of its menu, or of its main frame. `Fault`: the source failed in
@@ -117,7 +117,7 @@ fn viewer_strip<S: CharSource>(
     requires walk { IsWalk (S.honest source.old) (S.characters source.old) walk.old }
     ensures strip { IfOk result (λ strip. S.honest source.old → (texts : ℕ → AText ℕ)
         → IsNumbered texts (S.characters source.old) walk.old.shown → IsSlotOf texts slot.old
-        → IfSome caret.old (IsCaretOf texts) → (column : ℕ) → strip_cell strip column
+        → IfSome caret.old (IsCaretOf texts) → (column : ℕ) → strip_cell strip (kept_cells slot.new) column
         ≡ viewer_cell (as_read (S.characters source.old) walk.old.shown) width bottom top column y) }
     ensures slot { S.honest source.old → (texts : ℕ → AText ℕ)
         → IsNumbered texts (S.characters source.old) walk.old.shown → IsSlotOf texts slot.old
@@ -137,9 +137,8 @@ fn viewer_strip<S: CharSource>(
     let row = top - 2 - y;
     let frame = walk.shown.frame;
     let cell = caret_cell(&walk.shown, width - 1, walk.h, caret, source)?;
-    let line = frame_cells(walk, width - 1, row, slot, source)?;
+    keep_row(walk, width - 1, row, slot, source)?;
     Ok(Strip::Frame(FrameRow {
-        line,
         caret: cell,
         selection: frame.selection,
         row,
@@ -160,7 +159,7 @@ fn width(track: Track) -> u8
 
 /// Nothing, where no viewer is shown.
 fn filler_strip<S: CharSource>(source: &mut S) -> Result<Strip, Fault>
-    ensures strip { IfOk result (λ strip. (column : ℕ) → strip_cell strip column ≡ filler) }
+    ensures strip { IfOk result (λ strip. (line : List ShownCell) (column : ℕ) → strip_cell strip line column ≡ filler) }
     ensures reads { OnlyReads S.characters S.failures S.honest S.same_ground source.old source.new }
     ensures cause { CountsFault result (S.failures source.old) (S.failures source.new) }
 {
@@ -185,7 +184,7 @@ pub(crate) fn track_strip<'a, S: CharSource>(
     requires kept { IfSome kept.old (IsKept (S.honest source.old) (S.characters source.old) shown.now) }
     ensures strip { IfOk result (λ strip. S.honest source.old → (texts : ℕ → AText ℕ)
         → All (IsNumbered texts (S.characters source.old)) shown.now → IsSlotOf texts slot.old
-        → IfSome caret.old (IsCaretOf texts) → (column : ℕ) → strip_cell strip column
+        → IfSome caret.old (IsCaretOf texts) → (column : ℕ) → strip_cell strip (kept_cells slot.new) column
         ≡ track_cell tracks.now (map (as_read (S.characters source.old)) shown.now) track column y) }
     ensures slot { S.honest source.old → (texts : ℕ → AText ℕ)
         → All (IsNumbered texts (S.characters source.old)) shown.now → IsSlotOf texts slot.old

@@ -4,4 +4,4 @@ use Rattle.screen_cells.proofs.putting.put_each.Given as goal
 
 abbrev pub invariant-loop-x : goal.invariant-loop-x
 invariant-loop-x l = IsDoneTo filler
-    (λ x before. text_cell l.row.line.items l.row.caret l.row.selection x l.row.row) l.initial.cells l.cells l.x
+    (λ x before. text_cell l.line l.row.caret l.row.selection x l.row.row) l.initial.cells l.cells l.x

@@ -3,5 +3,6 @@ use Rattle.screen_cells.proofs.PutCells.{with_marker_put}
 use Rattle.screen_cells.proofs.screen.put_strips.Goals as goal
 
 pub returns : goal.returns
-returns c = c.put_marker.ensures ∙ with_marker_put c.args.user.now c.args.system.now c.args.marker c.args.y
+returns c = c.put_marker.ensures ∙ with_marker_put c.args.user c.args.line.now c.args.system
+    c.args.other.now c.args.marker c.args.y
     c.put_both.new.row c.put_both.ensures
