@@ -21,7 +21,8 @@ use Rattle.screen_cells.specs.Rows.{strips_cell}
 use Rattle.screen_cells.proofs.Values.{values_is, values_same, values_join, value_at}
 
 -- a row without the caret and without selected characters
-pub plain_row : (n : ℕ) (line : List ShownCell) (f : FrameRow) → f.selection ≡ None → ((x : ℕ) → is_at f.caret x f.row ≡ false)
+pub plain_row : (n : ℕ) (line : List ShownCell) (f : FrameRow) → f.selection ≡ None
+    → ((x : ℕ) → is_at f.caret x f.row ≡ false)
     → values n (λ x. cell_with space (slice_get line x) InText)
     ≡ values n (λ x. text_cell line f.caret f.selection x f.row)
 plain_row n line f none apart = values_same n _ _ (λ x below. sym (λ i.
@@ -46,9 +47,11 @@ bar_and_text n m line f whole =
 -- the cells of both tracks
 pub both_put : (user : Strip) (line : List ShownCell) (system : Strip) (other : List ShownCell)
     → values SYSTEM_LEFT (strip_cell user line) ++ values (COLUMNS - SYSTEM_LEFT) (strip_cell system other)
-    ≡ values COLUMNS (λ x. if nat_lt x SYSTEM_LEFT then strip_cell user line x else strip_cell system other (x - SYSTEM_LEFT))
+    ≡ values COLUMNS (λ x. if nat_lt x SYSTEM_LEFT then strip_cell user line x
+    else strip_cell system other (x - SYSTEM_LEFT))
 both_put user line system other =
-    values_join SYSTEM_LEFT (COLUMNS - SYSTEM_LEFT) COLUMNS _ _ _ (let e : SYSTEM_LEFT + (COLUMNS - SYSTEM_LEFT) ≡ COLUMNS
+    values_join SYSTEM_LEFT (COLUMNS - SYSTEM_LEFT) COLUMNS _ _ _
+    (let e : SYSTEM_LEFT + (COLUMNS - SYSTEM_LEFT) ≡ COLUMNS
     = omega arith in e)
     (λ k below.
     let left : nat_lt k SYSTEM_LEFT ≡ true = grind (arith, nat_tests) in
@@ -56,18 +59,23 @@ both_put user line system other =
     (λ k below.
     let right : nat_lt (SYSTEM_LEFT + k) SYSTEM_LEFT ≡ false = grind (arith, nat_tests) in
     let back : (SYSTEM_LEFT + k) - SYSTEM_LEFT ≡ k = omega arith in
-    sym (ap (λ b. if b then strip_cell user line (SYSTEM_LEFT + k) else strip_cell system other ((SYSTEM_LEFT + k) - SYSTEM_LEFT))
+    sym (ap (λ b. if b then strip_cell user line (SYSTEM_LEFT + k)
+    else strip_cell system other ((SYSTEM_LEFT + k) - SYSTEM_LEFT))
     right
     ∙ ap (strip_cell system other) back))
 
 -- with the marker
-pub with_marker_put : (user : Strip) (line : List ShownCell) (system : Strip) (other : List ShownCell) (marker : Option (ℕ × ℕ)) (y : ℕ) (row : List Cell)
-    → row ≡ values COLUMNS (λ x. if nat_lt x SYSTEM_LEFT then strip_cell user line x else strip_cell system other (x - SYSTEM_LEFT))
+pub with_marker_put : (user : Strip) (line : List ShownCell) (system : Strip) (other : List ShownCell)
+    (marker : Option (ℕ × ℕ)) (y : ℕ) (row : List Cell)
+    → row ≡ values COLUMNS (λ x. if nat_lt x SYSTEM_LEFT then strip_cell user line x
+    else strip_cell system other (x - SYSTEM_LEFT))
     → values COLUMNS (λ x. with_marker (is_at marker x y) (column_at row x))
     ≡ values COLUMNS (strips_cell user line system other marker y)
-with_marker_put user line system other marker y row is = values_same COLUMNS _ _ (λ x below. ap (with_marker (is_at marker x y))
+with_marker_put user line system other marker y row is =
+    values_same COLUMNS _ _ (λ x below. ap (with_marker (is_at marker x y))
     (ap (λ r. column_at r x) is
-    ∙ value_at COLUMNS (λ k. if nat_lt k SYSTEM_LEFT then strip_cell user line k else strip_cell system other (k - SYSTEM_LEFT))
+    ∙ value_at COLUMNS (λ k. if nat_lt k SYSTEM_LEFT then strip_cell user line k
+    else strip_cell system other (k - SYSTEM_LEFT))
     x filler below))
 
 -- no marker in a row

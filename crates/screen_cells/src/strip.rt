@@ -159,7 +159,8 @@ fn width(track: Track) -> u8
 
 /// Nothing, where no viewer is shown.
 fn filler_strip<S: CharSource>(source: &mut S) -> Result<Strip, Fault>
-    ensures strip { IfOk result (λ strip. (line : List ShownCell) (column : ℕ) → strip_cell strip line column ≡ filler) }
+    ensures strip { IfOk result (λ strip. (line : List ShownCell) (column : ℕ)
+        → strip_cell strip line column ≡ filler) }
     ensures reads { OnlyReads S.characters S.failures S.honest S.same_ground source.old source.new }
     ensures cause { CountsFault result (S.failures source.old) (S.failures source.new) }
 {

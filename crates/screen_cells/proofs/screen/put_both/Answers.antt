@@ -12,5 +12,6 @@ returns c =
     let right : length parts.1.now ≡ COLUMNS - SYSTEM_LEFT =
     omega (arith, c.split_at_mut-left.ensures.back_len, c.told-row) in
     (λ i. c.put.ensures i ++ c.put-2.ensures i)
-    ∙ (λ i. values (left i) (strip_cell c.args.user c.args.line.now) ++ values (right i) (strip_cell c.args.system c.args.other.now))
+    ∙ (λ i. values (left i) (strip_cell c.args.user c.args.line.now)
+    ++ values (right i) (strip_cell c.args.system c.args.other.now))
     ∙ both_put c.args.user c.args.line.now c.args.system c.args.other.now
