@@ -4,6 +4,7 @@ pub mod Rows
 pub mod Printing
 pub mod Painting
 pub mod Strips
+pub mod PutCells
 pub mod Walking
 pub mod Keeping
 pub mod Fronts

@@ -6,6 +6,7 @@ use Rattle.std.specs.Prelude.{if◌then◌else◌, nat_lt, None}
 use Rattle.std.proofs.lemmas.List.{length-set, get_or-set_same, get_or-set_other}
 use Rattle.char_file.specs.Source.{OnlyReads}
 use Rattle.char_file.proofs.Reading.{no_read, read_on}
+use Rattle.text_frames.specs.Row.{ShownCell}
 use Rattle.viewer_tracks.specs.declared.display.TheConstants.{ROWS, COLUMNS, SYSTEM_LEFT}
 use Rattle.viewer_tracks.specs.declared.display.Track.TheVariants.{User, System}
 use Rattle.viewer_tracks.specs.Display.{track_at, left_of}
@@ -59,16 +60,17 @@ module _ {X : Type 0} (default : X) (f : ℕ → X → X) (before : List X) wher
   }
 
 -- a row of strips that show what the tracks do is what is to be painted
-pub strips_painted : (columns : Columns) (viewers : List Viewer) (marker : Option (ℕ × ℕ)) (y : ℕ) (user system : Strip)
-    → ((column : ℕ) → strip_cell user column ≡ track_cell columns viewers User column y)
-    → ((column : ℕ) → strip_cell system column ≡ track_cell columns viewers System column y)
-    → values COLUMNS (strips_cell user system marker y) ≡ painted_row columns viewers marker y
+pub strips_painted : (columns : Columns) (viewers : List Viewer) (marker : Option (ℕ × ℕ)) (y : ℕ)
+    (user : Strip) (line : List ShownCell) (system : Strip) (other : List ShownCell)
+    → ((column : ℕ) → strip_cell user line column ≡ track_cell columns viewers User column y)
+    → ((column : ℕ) → strip_cell system other column ≡ track_cell columns viewers System column y)
+    → values COLUMNS (strips_cell user line system other marker y) ≡ painted_row columns viewers marker y
 unfolding picture
-strips_painted columns viewers marker y user system in_user in_system =
+strips_painted columns viewers marker y user line system other in_user in_system =
     values_same COLUMNS _ _ (λ x within. ap (with_marker (is_at marker x y)) (by_track x (nat_lt x SYSTEM_LEFT)))
   where
     by_track : (x : ℕ) (left : Bool)
-        → (if left then strip_cell user x else strip_cell system (x - SYSTEM_LEFT))
+        → (if left then strip_cell user line x else strip_cell system other (x - SYSTEM_LEFT))
         ≡ track_cell columns viewers (if left then User else System) (x - left_of (if left then User else System)) y
     by_track x true = in_user x ∙ ap (λ c. track_cell columns viewers User c y) (let e : x ≡ x - 0 = omega arith in e)
     by_track x false = in_system (x - SYSTEM_LEFT)

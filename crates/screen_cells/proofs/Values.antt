@@ -1,7 +1,9 @@
 -- Lists of the values of a function.
-use Rattle.std.proofs.Common.{◌≡◌, ℕ, ◌<◌, List, length, get_or, [], ap, ◌∙◌, arith}
+use Rattle.std.proofs.Common.{◌≡◌, ℕ, ◌+◌, ◌-◌, ◌<◌, ◌≤◌, List, length, get_or, [], ◌++◌, ap, ◌∙◌, arith, inl, inr}
 use Rattle.std.specs.Prelude.{replicate}
-use Rattle.std.proofs.lemmas.List.{length-replicate, get_or-replicate}
+use Rattle.std.proofs.lemmas.Bool.Decides.{leb_tells}
+use Rattle.std.proofs.lemmas.List.{length-replicate, get_or-replicate, length-append, get_or_append_left}
+use Rattle.std.proofs.lemmas.List.{get_or-append_right}
 use Rattle.std.proofs.lemmas.List.FromFn.{fill_by_all, get_or-map-range_with_len, length-map-range_with_len}
 use Rattle.viewer_tracks.specs.declared.display.TheConstants.{ROWS, COLUMNS}
 use Rattle.screen_pictures.specs.declared.cell.Cell.{Cell}
@@ -28,6 +30,25 @@ module _ {X : Type 0} where
 
   pub replicate_is : (n : ℕ) (x : X) → replicate n x ≡ values n (λ k. x)
   replicate_is n x = values_is n (λ k. x) (replicate n x) x (length-replicate n x) (λ k h. get_or-replicate n k x x h)
+
+  -- the first n values and the m after them
+  pub values_join : (n m all : ℕ) (f g h : ℕ → X) → n + m ≡ all → ((k : ℕ) → k < n → f k ≡ h k)
+      → ((k : ℕ) → k < m → g k ≡ h (n + k)) → values n f ++ values m g ≡ values all h
+  values_join n m all f g h whole front back =
+      values_is all h (values n f ++ values m g) (f 0)
+      (length-append (values n f) (values m g) ∙ (λ i. length-values n f i + length-values m g i) ∙ whole)
+      (λ k below. elim (leb_tells (k + 1) n) [
+        | inl low ↦
+            let inside : k < n = omega (arith, low.1) in
+            get_or_append_left (values n f) (values m g) (f 0) k (omega (arith, inside, length-values n f))
+            ∙ value_at n f k (f 0) inside ∙ front k inside
+        | inr past ↦
+            let from : n ≤ k = omega (arith, past.1) in
+            let inside : k - n < m = omega (arith, below, whole, from) in
+            get_or-append_right (values n f) (values m g) n k (f 0) (length-values n f) from
+            ∙ value_at m g (k - n) (f 0) inside ∙ back (k - n) inside
+            ∙ ap h (let e : n + (k - n) ≡ k = omega (arith, from) in e)
+      ])
 
 pub cell_of : (f : ℕ → ℕ → Cell) (x y : ℕ) → x < COLUMNS → y < ROWS → cell_at (screen_of f) x y ≡ f x y
 cell_of f x y inside_row inside =

@@ -1,12 +1,12 @@
 -- Lines that are kept from one screen to the next, and what is true of them. Texts go by number: `texts` tells the text
 -- of each number.
-use Rattle.std.specs.Prelude.{◌≡◌, ◌≤◌, ◌<◌, ◌⊎◌, ℕ, List, length, map, Option, None, Some, IfSome}
+use Rattle.std.specs.Prelude.{◌≡◌, ◌≤◌, ◌<◌, ◌⊎◌, ℕ, List, [], length, map, Option, None, Some, IfSome}
 use Rattle.std.specs.List.{All}
 use Rattle.piece_ring.specs.Text.{Text}
 use Rattle.piece_ring.specs.Flat.{flat}
 use Rattle.readers_scanners.specs.Reading.{contents}
 use Rattle.text_frames.specs.Cells.{row_of}
-use Rattle.text_frames.specs.Row.{row_cells}
+use Rattle.text_frames.specs.Row.{ShownCell, row_cells}
 use Rattle.screen_pictures.specs.Picture.{caret_at}
 use Rattle.viewer_tracks.specs.declared.display.TheConstants.{ROWS}
 use Rattle.screen_cells.specs.declared.shown.Shown.{Shown}
@@ -28,6 +28,11 @@ IsSlotOf texts slot = IfSome slot (IsLineOf texts)
 -- its cell is where the caret stands
 abbrev pub IsCaretOf : (ℕ → Text ℕ) → KeptCaret → Type 0
 IsCaretOf texts c = c.cell ≡ caret_at c.key.width c.key.rows (texts c.key.text) c.key.org (Some c.key.position)
+
+-- the cells that are kept in a line's place
+abbrev pub kept_cells : Option KeptLine → List ShownCell
+kept_cells None = []
+kept_cells (Some line) = line.cells.items
 
 -- all that is kept is so
 pub record AreLinesOf (texts : ℕ → Text ℕ) (lines : KeptLines) : Type 0 where

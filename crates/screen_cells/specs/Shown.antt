@@ -3,6 +3,7 @@ use Rattle.std.specs.Prelude.{◌≤◌, ◌-◌, ◌==◌, ℕ, if◌then◌els
 use Rattle.piece_ring.specs.Flat.{flat}
 use Rattle.piece_ring.specs.Offsets.{AreWithin}
 use Rattle.readers_scanners.specs.Reading.{contents}
+use Rattle.text_frames.specs.Row.{ShownCell}
 use Rattle.screen_cells.specs.declared.shown.Shown.{Shown}
 use Rattle.screen_cells.specs.declared.strip.Strip.{Strip}
 use Rattle.screen_cells.specs.declared.strip.Strip.TheVariants.{Filler, Menu, Frame}
@@ -24,9 +25,9 @@ pub record IsShowable (written : ℕ) (s : Shown) : Type 0 where
   pub menu : AreWithin written (flat s.menu.now)
   pub main : AreWithin written (flat s.main.now)
 
--- the cell in a column of a row of a track
-abbrev pub strip_cell : Strip → ℕ → Cell
-strip_cell Filler column = filler
-strip_cell (Menu line) column = menu_cell line.items column
-strip_cell (Frame f) column =
-    if column == 0 then bar_cell else text_cell f.line.items f.caret f.selection (column - 1) f.row
+-- the cell in a column of a row of a track that shows this line
+abbrev pub strip_cell : Strip → List ShownCell → ℕ → Cell
+strip_cell Filler line column = filler
+strip_cell Menu line column = menu_cell line column
+strip_cell (Frame f) line column =
+    if column == 0 then bar_cell else text_cell line f.caret f.selection (column - 1) f.row

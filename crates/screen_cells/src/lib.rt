@@ -10,6 +10,7 @@ mod laws;
 mod line;
 mod lines;
 mod print;
+mod putting;
 mod screen;
 mod sending;
 mod shown;

@@ -1,6 +1,6 @@
 //! Lines that are kept from one screen to the next.
 ghost use Rattle.std.specs.Prelude.{◌≡◌, ◌==◌, ◌&&◌, ◌≤◌, ◌<◌, nat_lt, ℕ, List, length, take, All, Some};
-ghost use Rattle.std.specs.Prelude.{IfOk, IfSome, IfNone, OnOk, IsOk};
+ghost use Rattle.std.specs.Prelude.{IfOk, IfSome, IfNone, OnOk, true, false};
 ghost use Rattle.piece_ring.specs.Flat.{flat};
 ghost use Rattle.piece_ring.specs.Text.{Text as AText};
 ghost use Rattle.readers_scanners.specs.Words.{CountsFault, OnlyReads};
@@ -8,11 +8,11 @@ ghost use Rattle.text_frames.specs.Row.{row_cells};
 ghost use Rattle.screen_pictures.specs.Picture.{caret_at};
 ghost use Rattle.screen_cells.specs.Shown.{IsShowable, as_read};
 ghost use Rattle.screen_cells.specs.Lines.{IsSlotOf, IsCaretOf, AreLinesOf, IsNumbered, HasLine, HasCaret, AreReady};
-ghost use Rattle.screen_cells.specs.Lines.{IsAbove, HasSameRows};
+ghost use Rattle.screen_cells.specs.Lines.{IsAbove, HasSameRows, kept_cells};
 ghost use Rattle.screen_cells.specs.Walks.{IsWalk};
 
 use crate::shown::Shown;
-use crate::strip::StripLine;
+use crate::strip::{Filled, StripLine};
 use crate::walk::Walk;
 use std::alloc::{AllocError, Global};
 use std::vec::Vec;
@@ -204,40 +204,41 @@ fn forget_caret(caret: &mut Option<KeptCaret>, number: u16)
     }
 }
 
-/// The same cells.
-fn copy_of(cells: &StripLine) -> StripLine
-    ensures { result.items ≡ cells.now.items }
-{
-    let mut copy = StripLine::new();
-    copy.try_extend_from_slice(cells.as_slice()).unwrap();
-    copy
-}
-
-/// The cells of the line that is kept, where it is the one of that key.
-fn cells_of(slot: &Slot, key: LineKey) -> Option<StripLine>
-    ensures none { IfNone result (¬ HasLine key slot.now) }
-    ensures some { IfSome result (λ cells. HasLine key slot.now) }
-    ensures cells { IfSome result (λ cells. IfSome slot.now (λ line. cells.items ≡ line.cells.items)) }
+/// The cells that are kept in a line's place.
+pub(crate) fn kept_cells(slot: &Slot) -> &[Filled]
+    ensures { result.now ≡ kept_cells slot.now }
 {
     match slot {
-        Some(line) if line.key == key => Some(copy_of(&line.cells)),
-        _ => None,
+        None => &[],
+        Some(line) => line.cells.as_slice(),
     }
 }
 
-/// The cells of the first line of a viewer's menu of that width, from its line that is kept; else they are read and
-/// kept. `Fault`: the source failed in this call.
-pub(crate) fn menu_cells<S: CharSource>(
+/// Whether the line that is kept is the one of that key.
+fn is_kept(slot: &Slot, key: LineKey) -> bool
+    ensures cells { result ≡ true → (texts : ℕ → AText ℕ) → IsSlotOf texts slot.now
+        → kept_cells slot.now ≡ row_cells key.width (texts key.text) key.org key.row }
+    ensures none { result ≡ false → ¬ HasLine key slot.now }
+{
+    match slot {
+        None => false,
+        Some(line) => line.key == key,
+    }
+}
+
+/// Keeps the first line of a viewer's menu of that width: it is read, where it isn't kept yet. `Fault`: the source
+/// failed in this call.
+pub(crate) fn keep_menu<S: CharSource>(
     shown: &Shown<'_>,
     width: u8,
     slot: &mut Slot,
     source: &mut S,
-) -> Result<StripLine, Fault>
+) -> Result<(), Fault>
     requires fits { width ≤ 50 }
     requires showable { IsShowable (length (S.characters source.old)) shown.now }
-    ensures cells { IfOk result (λ cells. S.honest source.old → (texts : ℕ → AText ℕ)
+    ensures cells { OnOk result (S.honest source.old → (texts : ℕ → AText ℕ)
         → IsNumbered texts (S.characters source.old) shown.now → IsSlotOf texts slot.old
-        → cells.items ≡ row_cells width (as_read (S.characters source.old) shown.now).menu 0 0) }
+        → kept_cells slot.new ≡ row_cells width (as_read (S.characters source.old) shown.now).menu 0 0) }
     ensures slot { S.honest source.old → (texts : ℕ → AText ℕ)
         → IsNumbered texts (S.characters source.old) shown.now → IsSlotOf texts slot.old → IsSlotOf texts slot.new }
     ensures reads { OnlyReads S.characters S.failures S.honest S.same_ground source.old source.new }
@@ -249,8 +250,8 @@ pub(crate) fn menu_cells<S: CharSource>(
         width,
         row: 0,
     };
-    if let Some(cells) = cells_of(slot, key) {
-        return Ok(cells);
+    if is_kept(slot, key) {
+        return Ok(());
     }
     let frame = Frame {
         text: 0,
@@ -259,30 +260,27 @@ pub(crate) fn menu_cells<S: CharSource>(
         selection: None,
     };
     let cells = frame.line(shown.menu, width, 1, 0, source)?;
-    *slot = Some(KeptLine {
-        key,
-        cells: copy_of(&cells),
-    });
-    Ok(cells)
+    *slot = Some(KeptLine { key, cells });
+    Ok(())
 }
 
-/// The cells of a row of a viewer's main frame of `w` columns, from its line that is kept; else they are read and kept.
-/// `Fault`: the source failed in this call.
-pub(crate) fn frame_cells<S: CharSource>(
+/// Keeps the line of a row of a viewer's main frame of `w` columns: it is read, where it isn't kept yet. `Fault`: the
+/// source failed in this call.
+pub(crate) fn keep_row<S: CharSource>(
     walk: &mut Walk<'_>,
     w: u8,
     row: u8,
     slot: &mut Slot,
     source: &mut S,
-) -> Result<StripLine, Fault>
+) -> Result<(), Fault>
     requires columns { w ≤ 50 }
     requires rows { walk.old.h ≤ 31 }
     requires row { row < walk.old.h }
     requires walk { IsWalk (S.honest source.old) (S.characters source.old) walk.old }
-    ensures cells { IfOk result (λ cells. S.honest source.old → (texts : ℕ → AText ℕ)
+    ensures cells { OnOk result (S.honest source.old → (texts : ℕ → AText ℕ)
         → IsNumbered texts (S.characters source.old) walk.old.shown → IsSlotOf texts slot.old
         → let v = as_read (S.characters source.old) walk.old.shown in
-        cells.items ≡ row_cells w v.main v.frame.org row) }
+        kept_cells slot.new ≡ row_cells w v.main v.frame.org row) }
     ensures slot { S.honest source.old → (texts : ℕ → AText ℕ)
         → IsNumbered texts (S.characters source.old) walk.old.shown → IsSlotOf texts slot.old
         → IsSlotOf texts slot.new }
@@ -299,15 +297,12 @@ pub(crate) fn frame_cells<S: CharSource>(
         width: w,
         row,
     };
-    if let Some(cells) = cells_of(slot, key) {
-        return Ok(cells);
+    if is_kept(slot, key) {
+        return Ok(());
     }
     let cells = frame.read_line(walk.shown.main, w, walk.h, row, &mut walk.rows, source)?;
-    *slot = Some(KeptLine {
-        key,
-        cells: copy_of(&cells),
-    });
-    Ok(cells)
+    *slot = Some(KeptLine { key, cells });
+    Ok(())
 }
 
 /// The caret that is kept, where it is the one of that key.

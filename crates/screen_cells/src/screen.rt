@@ -1,18 +1,19 @@
 //! The screen, and what is painted on it.
 ghost use Rattle.piece_ring.specs.Text.{Text as AText};
-ghost use Rattle.std.specs.Prelude.{◌≡◌, ◌<◌, ◌-◌, ℕ, if◌then◌else◌, nat_lt, length, map, All, OnOk};
+ghost use Rattle.std.specs.Prelude.{◌≡◌, ◌<◌, ◌-◌, ℕ, if◌then◌else◌, nat_lt, length, map, All, OnOk, IfSome};
+ghost use Rattle.std.specs.Prelude.{IfNone, Some, true, false};
 ghost use Rattle.sector_disk.specs.Trail.{CountsFault};
 ghost use Rattle.char_file.specs.Source.{OnlyReads};
-ghost use Rattle.screen_pictures.specs.Picture.{filler, with_marker, picture};
+ghost use Rattle.screen_pictures.specs.Picture.{filler, is_at, with_marker, picture};
 ghost use Rattle.screen_cells.specs.Shown.{IsShowable, as_read, strip_cell};
 ghost use Rattle.screen_pictures.specs.Screen.{screen_of, cell_at, column_at, values};
 ghost use Rattle.screen_cells.specs.Rows.{painted_row, strips_cell};
 ghost use Rattle.screen_cells.specs.Walks.{AreKept};
 ghost use Rattle.screen_cells.specs.Lines.{AreLinesOf, IsNumbered, AreReady};
 
-use crate::lines::KeptLines;
+use crate::lines::{KeptLines, kept_cells};
 use crate::shown::Shown;
-use crate::strip::{Strip, track_strip};
+use crate::strip::{Filled, Strip, track_strip};
 use crate::walk::Walks;
 use screen_pictures::{Cell, Mark};
 use std::marker::Model;
@@ -170,40 +171,72 @@ fn paint_row<'a, S: CharSource>(
         &mut lines.caret,
         source,
     )?;
-    put_strips(row, y, &user, &system, marker);
+    let line = kept_cells(&lines.user[at]);
+    let other = kept_cells(&lines.system[at]);
+    put_strips(row, y, user, line, system, other, marker);
     Ok(())
 }
 
-/// Puts what both tracks show in a row into its cells, with the marker where it stands there.
-fn put_strips(row: &mut Row, y: u8, user: &Strip, system: &Strip, marker: Option<(u8, u8)>)
-    ensures { row.new ≡ values COLUMNS (strips_cell user.now system.now marker y) }
+/// Puts what both tracks show in a row into its cells, with the marker where it stands there. `line` is the line that
+/// the user track shows, and `other` that of the system track.
+fn put_strips(
+    row: &mut Row,
+    y: u8,
+    user: Strip,
+    line: &[Filled],
+    system: Strip,
+    other: &[Filled],
+    marker: Option<(u8, u8)>,
+)
+    ensures { row.new ≡ values COLUMNS (strips_cell user line.now system other.now marker y) }
 {
-    for x in 0..COLUMNS {
-        row[usize::from(x)] = marked(strips_cell(user, system, x), marker == Some((x, y)));
-    }
+    put_both(row, user, line, system, other);
+    put_marker(row, y, marker);
 }
 
-/// The cell at a column that the tracks show.
-fn strips_cell(user: &Strip, system: &Strip, x: u8) -> Cell
-    ensures { result ≡ (if nat_lt x SYSTEM_LEFT then strip_cell user.now x
-        else strip_cell system.now (x - SYSTEM_LEFT)) }
+/// Puts what both tracks show in a row into its cells.
+fn put_both(row: &mut Row, user: Strip, line: &[Filled], system: Strip, other: &[Filled])
+    ensures { row.new ≡ values COLUMNS (λ x. if nat_lt x SYSTEM_LEFT then strip_cell user line.now x
+        else strip_cell system other.now (x - SYSTEM_LEFT)) }
 {
-    if x < SYSTEM_LEFT {
-        user.cell(x)
+    let (left, right) = row.split_at_mut(usize::from(SYSTEM_LEFT));
+    user.put(line, left);
+    system.put(other, right);
+}
+
+/// Puts the marker into a row, where it stands there.
+fn put_marker(row: &mut Row, y: u8, marker: Option<(u8, u8)>)
+    ensures { row.new ≡ values COLUMNS (λ x. with_marker (is_at marker x y) (column_at row.old x)) }
+{
+    let Some(x) = marker_in(marker, y) else {
+        return;
+    };
+    let at = usize::from(x);
+    row[at] = marked(row[at]);
+}
+
+/// The column at which the marker stands in a row of the display, if it does.
+fn marker_in(marker: Option<(u8, u8)>, y: u8) -> Option<u8>
+    ensures some { IfSome result (λ x. marker ≡ Some (x, y)) }
+    ensures inside { IfSome result (λ x. x < COLUMNS) }
+    ensures none { IfNone result ((x : ℕ) → x < COLUMNS → is_at marker x y ≡ false) }
+{
+    let Some((x, row)) = marker else {
+        return None;
+    };
+    if row == y && x < COLUMNS {
+        Some(x)
     } else {
-        system.cell(x - SYSTEM_LEFT)
+        None
     }
 }
 
-/// A cell with the marker on it, or as it is.
-fn marked(cell: Cell, has_marker: bool) -> Cell
-    ensures { result ≡ with_marker has_marker cell }
+/// A cell with the marker on it.
+fn marked(cell: Cell) -> Cell
+    ensures { result ≡ with_marker true cell }
 {
-    if has_marker {
-        return Cell {
-            mark: Mark::Marker,
-            ..cell
-        };
+    Cell {
+        mark: Mark::Marker,
+        ..cell
     }
-    cell
 }

@@ -1,26 +1,23 @@
 //! What a track shows in a row.
-ghost use Rattle.std.specs.Prelude.{◌≡◌, ◌+◌, ◌<◌, ◌≤◌, ◌-◌, ◌==◌, ℕ, false, length, map, slice_get, All};
+ghost use Rattle.std.specs.Prelude.{◌≡◌, ◌+◌, ◌<◌, ◌≤◌, ◌-◌, ◌==◌, ℕ, List, length, map, All};
 ghost use Rattle.std.specs.Prelude.{IfOk, OnOk, IfSome};
 ghost use Rattle.std.specs.List.{position_or_len};
 ghost use Rattle.readers_scanners.specs.Words.{CountsFault, OnlyReads};
+ghost use Rattle.text_frames.specs.Row.{ShownCell};
 ghost use Rattle.viewer_tracks.specs.Display.{left_of};
 ghost use Rattle.viewer_tracks.specs.Viewers.{viewer_at, id_number};
 ghost use Rattle.viewer_tracks.specs.Columns.{shown as shown_track, StandsAt};
-ghost use Rattle.screen_pictures.specs.Bytes.{shown_byte};
-ghost use Rattle.screen_pictures.specs.Picture.{cell_with, filler, is_at, is_selected, text_cell};
-ghost use Rattle.screen_pictures.specs.Picture.{viewer_cell, width_of, track_cell};
-ghost use Rattle.screen_pictures.specs.Mark.{mark_of};
+ghost use Rattle.screen_pictures.specs.Picture.{filler, viewer_cell, width_of, track_cell};
 ghost use Rattle.screen_cells.specs.Shown.{IsShowable, as_read, strip_cell};
 ghost use Rattle.piece_ring.specs.Text.{Text as AText};
-ghost use Rattle.screen_cells.specs.Lines.{IsSlotOf, IsCaretOf, IsNumbered};
+ghost use Rattle.screen_cells.specs.Lines.{IsSlotOf, IsCaretOf, IsNumbered, kept_cells};
 ghost use Rattle.screen_cells.specs.Walks.{IsWalk, IsKept};
 
-use crate::lines::{KeptCaret, Slot, caret_cell, frame_cells, menu_cells};
+use crate::lines::{KeptCaret, Slot, caret_cell, keep_menu, keep_row};
 use crate::shown::Shown;
 use crate::walk::{Walk, walk_of};
 use arrayvec::ArrayVec;
-use piece_ring::{DEFAULT_LOOK, Look};
-use screen_pictures::{Cell, Mark};
+use piece_ring::Look;
 use text_frames::{CharSource, Fault, FrameSelection};
 use viewer_tracks::{COLUMNS, ROWS, SYSTEM_LEFT, Track, Tracks, ViewerId};
 
@@ -30,135 +27,25 @@ pub(crate) type Filled = (u8, Look, u32);
 /// The filled cells of a line, from the left.
 pub(crate) type StripLine = ArrayVec<Filled, 50>;
 
-/// What a track shows in a row.
-#[derive(Drop)]
+/// What a track shows in a row, beside the line that is kept of it.
+#[derive(Clone, Copy)]
 pub(crate) enum Strip {
     /// No viewer.
     Filler,
     /// The menu of a viewer.
-    Menu(StripLine),
+    Menu,
     /// A row of a viewer's main frame, with its bar.
     Frame(FrameRow),
 }
 
-/// A row of a main frame.
-#[derive(Drop)]
+/// A row of a main frame, but for its line.
+#[derive(Clone, Copy)]
 pub(crate) struct FrameRow {
-    pub(crate) line: StripLine,
     /// The cell of the frame at which the caret stands.
     pub(crate) caret: Option<(u8, u8)>,
     pub(crate) selection: Option<FrameSelection>,
     /// The number of the row, from the top of the frame.
     pub(crate) row: u8,
-}
-
-impl Strip {
-    /// The cell in a column.
-    pub(crate) fn cell(&self, column: u8) -> Cell
-        ensures { result ≡ strip_cell self.now column }
-    {
-        match self {
-            Strip::Filler => Cell::filler(false),
-            Strip::Menu(line) => cell_with(b'-', filled(line.as_slice(), column), Mark::Menu),
-            Strip::Frame(row) => frame_cell(row, column),
-        }
-    }
-}
-
-/// The cell of a frame's row in a column, the bar being column 0.
-fn frame_cell(row: &FrameRow, column: u8) -> Cell
-    ensures { result ≡ strip_cell (Strip.Frame row.now) column }
-{
-    if column == 0 {
-        return cell_with(b'|', None, Mark::Bar);
-    }
-    text_cell(row, column - 1)
-}
-
-/// The cell of a frame's row in a column beside the bar.
-fn text_cell(row: &FrameRow, column: u8) -> Cell
-    ensures { result ≡ text_cell row.now.line.items row.now.caret row.now.selection column row.now.row }
-{
-    let c = filled(row.line.as_slice(), column);
-    let has_caret = is_at(row.caret, column, row.row);
-    let is_inside = is_selected(row.selection, c);
-    let mark = text_mark(has_caret, is_inside);
-    cell_with(b' ', c, mark)
-}
-
-/// Whether a place is this column and row.
-fn is_at(place: Option<(u8, u8)>, x: u8, y: u8) -> bool
-    ensures { result ≡ is_at place x y }
-{
-    match place {
-        None => false,
-        Some((column, row)) => column == x && row == y,
-    }
-}
-
-/// What fills the cell in a column. None past the line's end.
-fn filled(line: &[Filled], column: u8) -> Option<Filled>
-    ensures { result ≡ slice_get line.now column }
-{
-    line.get(usize::from(column)).copied()
-}
-
-/// The mark of a cell of a text that isn't under the marker.
-fn text_mark(has_caret: bool, is_selected: bool) -> Mark
-    ensures { result ≡ mark_of false has_caret is_selected Mark.Text }
-{
-    if has_caret {
-        Mark::Caret
-    } else if is_selected {
-        Mark::Selected
-    } else {
-        Mark::Text
-    }
-}
-
-/// Whether what fills a cell is a selected character.
-fn is_selected(selection: Option<FrameSelection>, c: Option<Filled>) -> bool
-    ensures { result ≡ is_selected selection c }
-{
-    let Some(selection) = selection else {
-        return false;
-    };
-    let Some((_, _, position)) = c else {
-        return false;
-    };
-    selection.beg <= position && position < selection.end
-}
-
-/// A cell with what fills it, or with a byte in the default look.
-fn cell_with(blank: u8, c: Option<Filled>, mark: Mark) -> Cell
-    ensures { result ≡ cell_with blank c mark }
-{
-    match c {
-        None => Cell {
-            ch: blank,
-            look: DEFAULT_LOOK,
-            mark,
-        },
-        Some((byte, look, _)) => Cell {
-            ch: shown_byte(byte),
-            look,
-            mark,
-        },
-    }
-}
-
-/// The byte that is shown for one.
-#[tactic(auto, unfolding(screen_pictures::specs::Bytes::shown_byte))]
-fn shown_byte(byte: u8) -> u8
-    ensures { result ≡ shown_byte byte }
-{
-    if byte == b'\t' {
-        b' '
-    } else if byte >= b' ' && byte <= b'~' {
-        byte
-    } else {
-        b'?'
-    }
 }
 
 /// The viewer that is seen in a row of a track.
@@ -196,7 +83,7 @@ fn menu_strip<S: CharSource>(
     requires showable { IsShowable (length (S.characters source.old)) shown.now }
     ensures strip { IfOk result (λ strip. S.honest source.old → (texts : ℕ → AText ℕ)
         → IsNumbered texts (S.characters source.old) shown.now → IsSlotOf texts slot.old
-        → (column : ℕ) → strip_cell strip column
+        → (column : ℕ) → strip_cell strip (kept_cells slot.new) column
         ≡ viewer_cell (as_read (S.characters source.old) shown.now) width bottom (y + 1) column y) }
     ensures slot { S.honest source.old → (texts : ℕ → AText ℕ)
         → IsNumbered texts (S.characters source.old) shown.now → IsSlotOf texts slot.old → IsSlotOf texts slot.new }
@@ -205,8 +92,8 @@ fn menu_strip<S: CharSource>(
 {
     let _ = bottom;
     let _ = y;
-    let line = menu_cells(shown, width, slot, source)?;
-    Ok(Strip::Menu(line))
+    keep_menu(shown, width, slot, source)?;
+    Ok(Strip::Menu)
 }
 
 /// A row of a viewer of that width and these rows: of its menu, or of its main frame. `Fault`: the source failed in
@@ -230,7 +117,7 @@ fn viewer_strip<S: CharSource>(
     requires walk { IsWalk (S.honest source.old) (S.characters source.old) walk.old }
     ensures strip { IfOk result (λ strip. S.honest source.old → (texts : ℕ → AText ℕ)
         → IsNumbered texts (S.characters source.old) walk.old.shown → IsSlotOf texts slot.old
-        → IfSome caret.old (IsCaretOf texts) → (column : ℕ) → strip_cell strip column
+        → IfSome caret.old (IsCaretOf texts) → (column : ℕ) → strip_cell strip (kept_cells slot.new) column
         ≡ viewer_cell (as_read (S.characters source.old) walk.old.shown) width bottom top column y) }
     ensures slot { S.honest source.old → (texts : ℕ → AText ℕ)
         → IsNumbered texts (S.characters source.old) walk.old.shown → IsSlotOf texts slot.old
@@ -250,9 +137,8 @@ fn viewer_strip<S: CharSource>(
     let row = top - 2 - y;
     let frame = walk.shown.frame;
     let cell = caret_cell(&walk.shown, width - 1, walk.h, caret, source)?;
-    let line = frame_cells(walk, width - 1, row, slot, source)?;
+    keep_row(walk, width - 1, row, slot, source)?;
     Ok(Strip::Frame(FrameRow {
-        line,
         caret: cell,
         selection: frame.selection,
         row,
@@ -273,7 +159,8 @@ fn width(track: Track) -> u8
 
 /// Nothing, where no viewer is shown.
 fn filler_strip<S: CharSource>(source: &mut S) -> Result<Strip, Fault>
-    ensures strip { IfOk result (λ strip. (column : ℕ) → strip_cell strip column ≡ filler) }
+    ensures strip { IfOk result (λ strip. (line : List ShownCell) (column : ℕ)
+        → strip_cell strip line column ≡ filler) }
     ensures reads { OnlyReads S.characters S.failures S.honest S.same_ground source.old source.new }
     ensures cause { CountsFault result (S.failures source.old) (S.failures source.new) }
 {
@@ -298,7 +185,7 @@ pub(crate) fn track_strip<'a, S: CharSource>(
     requires kept { IfSome kept.old (IsKept (S.honest source.old) (S.characters source.old) shown.now) }
     ensures strip { IfOk result (λ strip. S.honest source.old → (texts : ℕ → AText ℕ)
         → All (IsNumbered texts (S.characters source.old)) shown.now → IsSlotOf texts slot.old
-        → IfSome caret.old (IsCaretOf texts) → (column : ℕ) → strip_cell strip column
+        → IfSome caret.old (IsCaretOf texts) → (column : ℕ) → strip_cell strip (kept_cells slot.new) column
         ≡ track_cell tracks.now (map (as_read (S.characters source.old)) shown.now) track column y) }
     ensures slot { S.honest source.old → (texts : ℕ → AText ℕ)
         → All (IsNumbered texts (S.characters source.old)) shown.now → IsSlotOf texts slot.old

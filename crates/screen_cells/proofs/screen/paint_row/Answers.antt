@@ -1,8 +1,12 @@
-use Rattle.std.proofs.Common.{◌<◌, List, ℕ, ap, sym, subst, ◌∙◌, length, map, arith}
+use Rattle.std.proofs.Common.{◌≡◌, ◌<◌, List, ℕ, ap, sym, subst, ◌∙◌, length, map, arith}
+use Rattle.std.proofs.lemmas.List.{get_or-set_same}
 use Rattle.std.proofs.lemmas.List.Elements.{All-set}
 use Rattle.viewer_tracks.specs.declared.display.Track.TheVariants.{System}
+use Rattle.viewer_tracks.specs.declared.display.TheConstants.{COLUMNS}
 use Rattle.screen_pictures.specs.Picture.{track_cell}
-use Rattle.screen_cells.specs.Lines.{IsSlotOf}
+use Rattle.screen_pictures.specs.Screen.{values}
+use Rattle.screen_cells.specs.Lines.{IsSlotOf, kept_cells}
+use Rattle.screen_cells.specs.Rows.{strips_cell}
 use Rattle.screen_cells.specs.Shown.{as_read}
 use Rattle.screen_cells.proofs.Painting.{strips_painted}
 use Rattle.screen_cells.proofs.Keeping.{all_numbered_still}
@@ -29,9 +33,17 @@ returns-clause-painted g c = λ h texts numbered told.
     subst (IsSlotOf texts) (sym c.index_mut.ensures.value) (told.user at c.index_mut.result.now low) in
     let slot2 : IsSlotOf texts c.index_mut-2.result.now =
     subst (IsSlotOf texts) (sym c.index_mut-2.ensures.value) (told.system at c.index_mut-2.result.now low2) in
+    let lined : c.kept_cells-line.result.now ≡ kept_cells c.track_strip.new.slot =
+    c.kept_cells-line.ensures
+    ∙ ap kept_cells (c.index.ensures ∙ get_or-set_same lines.user.items at c.track_strip.new.slot _ low) in
+    let other : c.kept_cells-other.result.now ≡ kept_cells c.track_strip-2.new.slot =
+    c.kept_cells-other.ensures
+    ∙ ap kept_cells (c.index-2.ensures ∙ get_or-set_same lines.system.items at c.track_strip-2.new.slot _ low2) in
     c.put_strips.ensures
+    ∙ (λ i. values COLUMNS
+    (strips_cell c.in_ok-user.user (lined i) c.in_ok-system.system (other i) c.args.marker c.args.y))
     ∙ strips_painted columns (map (as_read (g.S.CharSource.characters c.args.source.now)) shown) c.args.marker
-    c.args.y c.in_ok-user.user c.in_ok-system.system
+    c.args.y c.in_ok-user.user _ c.in_ok-system.system _
     (c.in_ok-user.ensures.strip h texts numbered slot told.caret)
     (λ column. c.in_ok-system.ensures.strip (reads.still h) texts
     (all_numbered_still texts _ _ shown (reads.same h) numbered) slot2

@@ -27,7 +27,7 @@ returns-then-index-shown-clause-strip g c =
     let viewers = map (as_read (g.S.CharSource.characters c.args.source.now)) c.args.shown.now in
     let id = c.in-Some.viewer.0 in
     IfOk-weaker c.filler_strip-then-index-shown.result _ _ (λ strip fact h texts numbered line_told caret_told column.
-    fact column ∙ sym (
+    fact _ column ∙ sym (
     ap (seen_cell columns viewers c.args.track column c.args.y) (sym c.in-Some.ensures.seen)
     ∙ ap (shown_cell columns c.args.track id column c.args.y)
     (found_none (λ (v : Viewer). v.id == id) (as_read (g.S.CharSource.characters c.args.source.now))
