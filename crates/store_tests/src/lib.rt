@@ -4,8 +4,8 @@
 //! They stand in a crate of their own, since a crate with tests is proved twice. What a module tests is what no clause
 //! says: worked rows, bytes as they are printed, that a call can succeed, and what happens where a device or an
 //! allocation fails in mid-stream. Most tests are tables: `disks` does what a row says to a disk in memory, and `stops`
-//! stops a script at each call. Disks and what stands between them and a store are tested by `disk_tests`, texts, events
-//! and desktops by `desk_tests`; nothing here stands on these.
+//! stops a script at each call. Disks and what stands between them and a store are tested by `disk_tests`, texts,
+//! events and desktops by `desk_tests`; nothing here stands on these.
 #![tactic(auto)]
 
 #[cfg(test)]

@@ -1,6 +1,6 @@
 //! Scripts played over a store by readers that give them in pieces or fail, and writers that fail. That a line is
-//! answered before the next one is read, and that a long line is one malformed line, the scripts `answers_held_back` and
-//! `long_line` show.
+//! answered before the next one is read, and that a long line is one malformed line, the scripts `answers_held_back`
+//! and `long_line` show.
 ghost use Rattle.std.specs.Prelude.{◌≡◌, IfOk, false};
 
 use crate::disks::new_store;

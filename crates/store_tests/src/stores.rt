@@ -42,13 +42,15 @@ fn hello(rt: HostRuntime) -> Result<(), AllocError> {
             Version::V3,
             &[Step::Play(FIRST[2])],
             SHOWS,
-            b"file A.Text 1\nfile B.Text 2\nwritten 3\nend\n0 15 0 a\nend\n0 15 0 bc\nend\nok layout 3 epoch 1 events 2\n",
+            b"file A.Text 1\nfile B.Text 2\nwritten 3\nend\n0 15 0 a\nend\n0 15 0 bc\nend\n\
+            ok layout 3 epoch 1 events 2\n",
         ),
         (
             Version::V3,
             &[Step::Play(FIRST[3])],
             SHOWS,
-            b"file A.Text 3\nfile B.Text 2\nwritten 6\nend\n0 15 0 def\nend\n0 15 0 bc\nend\nok layout 3 epoch 1 events 3\n",
+            b"file A.Text 3\nfile B.Text 2\nwritten 6\nend\n0 15 0 def\nend\n0 15 0 bc\nend\n\
+            ok layout 3 epoch 1 events 3\n",
         ),
     ];
     expect(&rt, rt.alloc(), &rows)
@@ -71,7 +73,8 @@ fn layout_of_one_event(rt: HostRuntime) -> Result<(), AllocError> {
         ],
         b"OBERONDESKSTORE1\x00\x00OPENGATE\x00\x00\
         \x00\x00\x00\x03\x00\x00\x00\x01\x00\x00\x00\x00\x00\x00\x00\x1e\x00\x00\x00\x00\x00\x00\
-        \x00\x0f\x40\x00\x00\x00\x01\x00\x00\x00\x00\x00\x00\x00\x00\x00\x00\x00\x00\x00\x00\x00\x00\x00\x00\x01\x00\x01\x00\x00\x00\x00\
+        \x00\x0f\x40\x00\x00\x00\x01\x00\x00\x00\x00\x00\x00\x00\x00\x00\x00\x00\
+        \x00\x00\x00\x00\x00\x00\x00\x01\x00\x01\x00\x00\x00\x00\
         OPENGATE\x00\x00\x05\x06A.Text\x00\x01a\x00\x00\x00",
     )];
     expect(&rt, rt.alloc(), &rows)
