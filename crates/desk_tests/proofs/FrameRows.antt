@@ -64,8 +64,8 @@ frame_brought r = frame r.3
 pub rows_brought_into_sight : map frame_shown brought ≡ map frame_brought brought
 rows_brought_into_sight = refl
 
--- where a frame begins after its text was changed: the text then, org, the place, how much was inserted and deleted, and
--- org then
+-- where a frame begins after its text was changed: the text then, org, the place, how much was inserted and deleted,
+-- and org then
 abbrev pub Followed : Type 0
 Followed = String × ℕ × ℕ × ℕ × ℕ × ℕ
 

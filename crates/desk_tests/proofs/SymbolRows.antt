@@ -1,5 +1,5 @@
--- Rows of symbols, of words that call, and of parameters: tables of what the definitions give, each proved by computing.
--- The code is proved to give the same.
+-- Rows of symbols, of words that call, and of parameters: tables of what the definitions give, each proved by
+-- computing. The code is proved to give the same.
 use Rattle.std.specs.Prelude.{◌≡◌, ℕ, zero, suc, pos, neg_ℤ, List, [], ◌∷◌, ◌++◌, map, length, replicate, codes}
 use Rattle.std.specs.Prelude.{Option, Some, None, Result, Ok, Err, refl}
 use Rattle.event_bytes.specs.Bytes.{is_letter, is_digit, is_name_byte}
@@ -66,7 +66,11 @@ symbols_wanted r = r.2
 -- of each kind
 abbrev pub kinds : List SymbolRow
 kinds =
-    (0, "Edit.Open ^ 12 -7 \"a b\" 1.5 ~", name "Edit.Open" ++ special "^" ++ number 12 ++ minus_number 7 ++ str "a b" ++ invalid ++ special "~") ∷
+    (
+      0,
+      "Edit.Open ^ 12 -7 \"a b\" 1.5 ~",
+      name "Edit.Open" ++ special "^" ++ number 12 ++ minus_number 7 ++ str "a b" ++ invalid ++ special "~",
+    ) ∷
     (0, "", []) ∷
     (0, " \t\r", []) ∷
     (0, "-", special "-") ∷ []
@@ -333,14 +337,16 @@ lists =
     list_row 18 "System.DeleteFiles A" None (Ok (codes "A" ∷ [])) ∷
     list_row 18 "System.DeleteFiles A * B" None (Ok (codes "A" ∷ [])) ∷
     list_row 18 "System.DeleteFiles A ^ B" (Some ("System.DeleteFiles A ^ B", 0)) (Ok (codes "A" ∷ [])) ∷
-    list_row 24 "X Y ~ System.DeleteFiles ^ Z" (Some ("X Y ~ System.DeleteFiles ^ Z", 0)) (Ok (codes "X" ∷ codes "Y" ∷ [])) ∷
+    list_row 24 "X Y ~ System.DeleteFiles ^ Z" (Some ("X Y ~ System.DeleteFiles ^ Z", 0))
+    (Ok (codes "X" ∷ codes "Y" ∷ [])) ∷
     list_row 24 "X Y ~ System.DeleteFiles ^ Z" None (Err 2) ∷
     list_row 24 "1 Y ~ System.DeleteFiles ^ Z" (Some ("1 Y ~ System.DeleteFiles ^ Z", 0)) (Err 3) ∷
     list_row 24 "^ Y ~ System.DeleteFiles ^ Z" (Some ("^ Y ~ System.DeleteFiles ^ Z", 0)) (Err 3) ∷
     list_row 18 "System.DeleteFiles ~ A" None (Err 3) ∷
     list_row 18 "System.DeleteFiles * A" (Some ("System.DeleteFiles * A", 0)) (Err 3) ∷
     list_row 18 "System.DeleteFiles" None (Err 3) ∷
-    list_row 0 "abcdefghijklmnopqrstuvwxyz01234.cut.off b" None (Ok (codes "abcdefghijklmnopqrstuvwxyz01234" ∷ codes "b" ∷ [])) ∷ []
+    list_row 0 "abcdefghijklmnopqrstuvwxyz01234.cut.off b" None
+    (Ok (codes "abcdefghijklmnopqrstuvwxyz01234" ∷ codes "b" ∷ [])) ∷ []
 
 abbrev pub list_found : ListRow → Result (List (List ℕ)) ℕ
 list_found r = names_list codes r.text r.position r.selection
