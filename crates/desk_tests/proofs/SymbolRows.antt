@@ -65,12 +65,11 @@ symbols_wanted r = r.2
 
 -- of each kind
 abbrev pub kinds : List SymbolRow
-kinds =
-    (
-      0,
-      "Edit.Open ^ 12 -7 \"a b\" 1.5 ~",
-      name "Edit.Open" ++ special "^" ++ number 12 ++ minus_number 7 ++ str "a b" ++ invalid ++ special "~",
-    ) ∷
+kinds = (
+  0,
+  "Edit.Open ^ 12 -7 \"a b\" 1.5 ~",
+  name "Edit.Open" ++ special "^" ++ number 12 ++ minus_number 7 ++ str "a b" ++ invalid ++ special "~",
+) ∷
     (0, "", []) ∷
     (0, " \t\r", []) ∷
     (0, "-", special "-") ∷ []
