@@ -8,3 +8,11 @@ echo "$?"
 cc -shared -fPIC -o calls.so "$TESTS/fail_calls.c" || exit 1
 printf 'mark 1 1\nlist' | FAIL=read AT=1 LD_PRELOAD=./calls.so "$PROGRAM"
 echo "$?"
+
+# Longer ones, whatever pieces they come in, and a last one without an end.
+long() { head -c "$1" /dev/zero | tr '\0' x; }
+printf 'show %s\nshow %s\nlist\n%s' "$(long 4091)" "$(long 19995)" "$(long 9000)" > lines
+for size in 1 7 4096 100000; do
+    dd if=lines obs=$size status=none | "$PROGRAM" | tr '\n' ' '
+    echo "pieces of $size"
+done

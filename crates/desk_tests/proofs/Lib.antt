@@ -6,3 +6,6 @@ pub mod ScrolledSteps
 pub mod WideSteps
 pub mod CallSteps
 pub mod Steps
+pub mod ScreenRows
+pub mod SymbolRows
+pub mod FrameRows

@@ -1,4 +1,5 @@
-//! The screen: worked rows, and writers that take a text in pieces or fail.
+//! The screen: writers that take a text in pieces or fail, and lines that are kept. Rows of screens stand in
+//! `proofs/ScreenRows.antt` and beside the steps.
 ghost use Rattle.std.specs.Prelude.{◌<◌, ◌≤◌, ◌+◌, ◌^◌, length, IfOk};
 ghost use Rattle.piece_ring.specs.Flat.{flat};
 ghost use Rattle.piece_ring.specs.Offsets.{AreWithin};
@@ -7,7 +8,7 @@ ghost use Rattle.screen_cells.specs.Lines.{AreReady};
 use char_file::{CharFile, CharSource, NoMemory};
 use char_pages::{Paged, Pages};
 use piece_ring::DEFAULT_LOOK;
-use screen_cells::{Cell, KeptLines, Mark, Screen, Shown};
+use screen_cells::{KeptLines, Screen, Shown};
 use sector_disk::{Disk, Fault, Fuse, MemoryDisk};
 use std::alloc::Global;
 use std::io;
@@ -132,58 +133,12 @@ fn text_at<S: CharSource>(
     text_within(alloc, source, first, count)
 }
 
-/// A source of a menu, and then of a main text.
-fn source_of(
-    rt: &impl Abort,
-    alloc: Global,
-    menu: &[u8],
-    main: &[u8],
-) -> Result<CharFile, NoMemory> {
-    assert!(rt; menu.len() < 1_000 && main.len() < 1_000);
-    let mut source = CharFile::new(alloc);
-    for bytes in [menu, main] {
-        assert!(rt; source.len() < 1_000 && bytes.len() < 1_000);
-        source.append(bytes)?;
-    }
-    Ok(source)
-}
-
 /// The tracks of a display where viewer 1 has all rows of the track with this column.
 fn tracks_of_one(rt: &impl Abort, x: u8) -> Tracks {
     let mut tracks = Tracks::new();
     assert!(rt; x < 80 && !tracks.contains(ViewerId(1)));
     assert!(rt; tracks.open(ViewerId(1), x, 32).is_none());
     tracks
-}
-
-/// The screen of a display with one viewer, in the track with the column `x`.
-fn screen_of_one(
-    rt: &impl Abort,
-    alloc: Global,
-    x: u8,
-    texts: [&[u8]; 2],
-    frame: &Frame,
-    marker: Option<(u8, u8)>,
-) -> Result<Screen, Fail> {
-    let [menu, main] = texts;
-    assert!(rt; menu.len() < 1_000 && main.len() < 1_000);
-    let (first, second) = (menu.len() as u32, main.len() as u32);
-    let mut source = source_of(rt, alloc, menu, main)?;
-    let menu = text_at(rt, alloc, &source, 0, first)?;
-    let main = text_at(rt, alloc, &source, first, second)?;
-    let mut lines = KeptLines::new(alloc);
-    lines.prepare()?;
-    let screen = paint_one(
-        rt,
-        &tracks_of_one(rt, x),
-        &menu,
-        &main,
-        frame,
-        marker,
-        &mut lines,
-        &mut source,
-    );
-    Ok(screen?)
 }
 
 /// Paints viewer 1 with these texts, numbered 2 and 1, from lines that are kept.
@@ -214,53 +169,6 @@ fn paint_one<S: CharSource>(
     Ok(screen)
 }
 
-/// Whether the line stands in the text.
-fn has_line(text: &[u8], line: &[u8]) -> bool {
-    for begin in 0..text.len() {
-        if text[begin..].starts_with(line) {
-            return true;
-        }
-    }
-    false
-}
-
-#[test]
-fn empty(rt: HostRuntime) -> Result<(), Fail> {
-    let alloc = rt.alloc();
-    for (marker, shown) in [
-        (None, None),
-        (CORNER, CORNER),
-        (Some((0, 0)), Some((0, 0))),
-        (Some((3, 10)), Some((3, 10))),
-        (Some((80, 31)), None),
-    ] {
-        let text = text_of(alloc, &painted(alloc, marker)?)?;
-        assert!(rt; text.as_slice() == wanted(alloc, shown)?.as_slice());
-    }
-    let text = text_of(alloc, &Screen::new())?;
-    assert!(rt; text.as_slice() == wanted(alloc, None)?.as_slice());
-    Ok(())
-}
-
-/// Whether what is printed of a viewer of all rows has these lines.
-fn shows(
-    rt: &impl Abort,
-    alloc: Global,
-    x: u8,
-    texts: [&[u8]; 2],
-    frame: &Frame,
-    marker: Option<(u8, u8)>,
-    lines: &[&[u8]],
-) -> Result<bool, Fail> {
-    let screen = screen_of_one(rt, alloc, x, texts, frame, marker)?;
-    let text = text_of(alloc, &screen)?;
-    Ok(lines.iter().all(|line| has_line(text.as_slice(), line)))
-}
-
-const MENU: &[u8] = b"A.Text | System.Close System.Copy Edit.Search Edit.Store";
-
-const LONG: &[u8] = b"0123456789012345678901234567890123456789012345678X";
-
 /// A frame of the text from `org` on.
 fn frame_at(org: u32, caret: Option<u32>, selection: Option<(u32, u32)>) -> Frame {
     Frame {
@@ -269,120 +177,6 @@ fn frame_at(org: u32, caret: Option<u32>, selection: Option<(u32, u32)>) -> Fram
         caret,
         selection: selection.map(|(beg, end)| FrameSelection { beg, end, rank: 1 }),
     }
-}
-
-#[test]
-fn texts_of_viewers(rt: HostRuntime) -> Result<(), Fail> {
-    let rows: [(u8, [&[u8]; 2], u32, [&[u8]; 3]); 5] = [
-        (
-            0,
-            [MENU, b"Hello"],
-            0,
-            [
-                b"31:A.Text | System.Close System.Copy Edit.Search Edit\n30:|Hello\n29:|\n",
-                b"00:|\nmarks\nend\n",
-                b"",
-            ],
-        ),
-        (
-            60,
-            [b"T", b"HelabHello"],
-            0,
-            [
-                b"31:                                                  T-----------------------------\n",
-                b"30:                                                  |HelabHello\n",
-                b"marks\nend\n",
-            ],
-        ),
-        (
-            0,
-            [b"Ed\x01\tx\ry", b"a\tb\rc\x80\x7f\r\rd"],
-            0,
-            [
-                b"31:Ed? x---------------------------------------------\n30:|a   b\n29:|c??\n28:|\n27:|d\n26:|\n",
-                b"",
-                b"",
-            ],
-        ),
-        (
-            49,
-            [b"", LONG],
-            0,
-            [
-                b"31:--------------------------------------------------\n",
-                b"30:|0123456789012345678901234567890123456789012345678\n29:|\n",
-                b"",
-            ],
-        ),
-        (
-            0,
-            [MENU, b"Hello\rWorld"],
-            6,
-            [b"30:|World\n29:|\n", b"", b""],
-        ),
-    ];
-    for (x, texts, org, lines) in rows {
-        let frame = frame_at(org, None, None);
-        assert!(rt; shows(&rt, rt.alloc(), x, texts, &frame, None, &lines)?);
-    }
-    Ok(())
-}
-
-/// The first mark that holds counts: the marker, then a caret, then a selected character. A tabulator has all its cells
-/// selected and a carriage return none, and a caret past the frame's width or past the text isn't shown.
-#[test]
-fn marks_of_viewers(rt: HostRuntime) -> Result<(), Fail> {
-    let rows: [(
-        &[u8],
-        Option<u32>,
-        Option<(u32, u32)>,
-        Option<(u8, u8)>,
-        &[u8],
-    ); 8] = [
-        (b"Hello", Some(5), None, None, b"marks\n30:......c\nend\n"),
-        (
-            b"Hello",
-            Some(5),
-            None,
-            Some((6, 30)),
-            b"marks\n30:......m\nend\n",
-        ),
-        (
-            b"Hello",
-            Some(2),
-            Some((1, 4)),
-            None,
-            b"marks\n30:..scs\nend\n",
-        ),
-        (
-            b"a\tb\rcd",
-            None,
-            Some((0, 5)),
-            Some((0, 31)),
-            b"marks\n31:m\n30:.sssss\n29:.s\nend\n",
-        ),
-        (
-            b"ab\rcd",
-            Some(3),
-            None,
-            Some((79, 0)),
-            b"marks\n29:.c\n00:",
-        ),
-        (
-            LONG,
-            Some(48),
-            Some((47, 50)),
-            None,
-            b"marks\n30:................................................sc\nend\n",
-        ),
-        (LONG, Some(49), None, None, b"marks\nend\n"),
-        (b"Hello", Some(6), None, None, b"marks\nend\n"),
-    ];
-    for (main, caret, selection, marker, line) in rows {
-        let frame = frame_at(0, caret, selection);
-        assert!(rt; shows(&rt, rt.alloc(), 0, [MENU, main], &frame, marker, &[line])?);
-    }
-    Ok(())
 }
 
 /// Prints a screen on a writer with so much room that takes so many bytes at a time: how that ends, and what is taken.

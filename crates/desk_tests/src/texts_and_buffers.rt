@@ -232,7 +232,7 @@ fn looks_at_positions(rt: HostRuntime) -> Result<(), Fail> {
         (change, 6, COLOURED),
         (Edit::Delete(0, 99), 0, DEFAULT_LOOK),
     ] {
-        assert_eq!(rt; look_at(&rt, rt.alloc(), edit, pos)?, look);
+        assert!(rt; look_at(&rt, rt.alloc(), edit, pos)? == look);
     }
     Ok(())
 }

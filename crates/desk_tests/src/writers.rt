@@ -1,4 +1,4 @@
-//! Writers, over characters in memory.
+//! Writers, over characters in memory. Rows of numbers stand in `proofs/FrameRows.antt`.
 
 use crate::sources::char_at;
 use char_file::{CharFile, CharSource};
@@ -103,13 +103,22 @@ fn writes(
 
 #[test]
 fn writer(rt: HostRuntime) -> Result<(), Fail> {
-    let rows: [(&[Part], &[u8], Look); 4] = [
+    let rows: [(&[Part], &[u8], Look); 5] = [
         (
             &[Part::Byte(65), Part::Line, Part::Text("hi")],
             b"A\rhi",
             DEFAULT_LOOK,
         ),
         (&[Part::Text("")], b"", DEFAULT_LOOK),
+        (
+            &[
+                Part::Int(-7, 5),
+                Part::Int(12345, 2),
+                Part::Int(i64::MIN, 0),
+            ],
+            b"   -712345-9223372036854775808",
+            DEFAULT_LOOK,
+        ),
         (
             &[Part::Look(RED), Part::Text("red"), Part::Byte(33)],
             b"red!",
@@ -123,21 +132,6 @@ fn writer(rt: HostRuntime) -> Result<(), Fail> {
     ];
     for (parts, wanted, look) in rows {
         assert!(rt; writes(&rt, rt.alloc(), parts, wanted, look)?);
-    }
-    Ok(())
-}
-
-#[test]
-fn numbers(rt: HostRuntime) -> Result<(), Fail> {
-    for (value, width, wanted) in [
-        (-7, 5, "   -7"),
-        (12345, 2, "12345"),
-        (0, 0, "0"),
-        (i64::MIN, 0, "-9223372036854775808"),
-        (i64::MAX, 21, "  9223372036854775807"),
-    ] {
-        let parts = [Part::Int(value, width)];
-        assert!(rt; writes(&rt, rt.alloc(), &parts, wanted.as_bytes(), DEFAULT_LOOK)?);
     }
     Ok(())
 }

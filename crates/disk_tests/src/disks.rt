@@ -1,6 +1,6 @@
 //! Disks: worked rows, and a call of each kind where it succeeds and where it fails. What a file holds, the scripts
 //! over files show.
-use sector_disk::{Disk, FILE_SECTORS, Fault, Fuse, MemoryDisk, OneFault, Sector};
+use sector_disk::{Disk, FILE_SECTORS, Fault, Fuse, MemoryDisk, NoMemory, OneFault, Sector};
 use std::alloc::Global;
 use std::test::Fail;
 
@@ -63,9 +63,19 @@ fn worked_disk(alloc: Global) -> Result<MemoryDisk, Fail> {
     Ok(disk)
 }
 
-/// The bytes of an image of the worked disk, with these bytes in pending sectors; nothing is pending in it.
-fn image(alloc: Global, pairs: &[(u32, Sector)]) -> Result<[[u8; 2]; 5], Fail> {
-    let mut image = worked_disk(alloc)?.crash(alloc, pairs)?;
+/// Sectors of one byte each.
+fn sectors_of(alloc: Global, pairs: &[(u32, u8)]) -> Result<Vec<(u32, Sector)>, NoMemory> {
+    let mut sectors = Vec::new(alloc);
+    for (n, byte) in pairs {
+        sectors.push((*n, [*byte; 1024]))?;
+    }
+    Ok(sectors)
+}
+
+/// The bytes of an image of the worked disk, with these bytes all over pending sectors; nothing is pending in it.
+fn image(alloc: Global, pairs: &[(u32, u8)]) -> Result<[[u8; 2]; 5], Fail> {
+    let sectors = sectors_of(alloc, pairs)?;
+    let mut image = worked_disk(alloc)?.crash(alloc, &sectors)?;
     let bytes = bytes_of(&mut image)?;
     if image.pending_sectors(alloc)?.is_empty() {
         Ok(bytes)
@@ -77,8 +87,7 @@ fn image(alloc: Global, pairs: &[(u32, Sector)]) -> Result<[[u8; 2]; 5], Fail> {
 /// Of two pairs for one sector the last counts, and sectors that aren't pending stay.
 #[test]
 fn crash_images(rt: HostRuntime) -> Result<(), Fail> {
-    let c = [b'c'; 1024];
-    let pairs = [(9, c), (7, c), (8, c), (200, c), (9, [b'd'; 1024])];
+    let pairs = [(9, b'c'), (7, b'c'), (8, b'c'), (200, b'c'), (9, b'd')];
     assert!(rt; image(rt.alloc(), &pairs)? == [*b"bb", *b"aa", [0; 2], *b"dd", *b"bb"]);
     assert!(rt; image(rt.alloc(), &[])? == [*b"bb", *b"aa", [0; 2], *b"bb", *b"bb"]);
     Ok(())
@@ -128,44 +137,54 @@ fn left(disk: MemoryDisk) -> Result<(u8, bool), Fault> {
     Ok((byte_of(&mut disk, 3)?, disk.is_pending(3)))
 }
 
-/// The same calls over a fuse, and what is left.
-fn over_fuse(alloc: Global, k: u64) -> Result<([bool; 6], (u8, bool)), Fail> {
-    let mut fuse = Fuse::new(MemoryDisk::new(alloc, 4)?, k);
-    let calls = successes(&mut fuse);
-    Ok((calls, left(fuse.into_inner())?))
-}
-
-/// The same calls over a disk of which one call fails, and what is left.
-fn over_one_fault(alloc: Global, k: u64) -> Result<([bool; 6], (u8, bool)), Fail> {
-    let mut disk = OneFault::new(MemoryDisk::new(alloc, 4)?, k);
-    let calls = successes(&mut disk);
-    Ok((calls, left(disk.into_inner())?))
-}
-
-#[test]
-fn fuse(rt: HostRuntime) -> Result<(), Fail> {
-    let rows = [
-        (0, ([false; 6], (0, false))),
-        (2, ([true, true, false, false, false, false], (b'a', true))),
-        (6, ([true; 6], (b'b', false))),
-    ];
-    for (k, wanted) in rows {
-        assert!(rt; over_fuse(rt.alloc(), k)? == wanted);
+/// The same calls over a disk of which one call fails, or each from that one on, and what is left.
+fn over(alloc: Global, call: u64, once: bool) -> Result<([bool; 6], (u8, bool)), Fail> {
+    let disk = MemoryDisk::new(alloc, 4)?;
+    if once {
+        let mut disk = OneFault::new(disk, call);
+        let calls = successes(&mut disk);
+        Ok((calls, left(disk.into_inner())?))
+    } else {
+        let mut disk = Fuse::new(disk, call);
+        let calls = successes(&mut disk);
+        Ok((calls, left(disk.into_inner())?))
     }
-    Ok(())
 }
 
 #[test]
-fn one_fault(rt: HostRuntime) -> Result<(), Fail> {
+fn failing_calls(rt: HostRuntime) -> Result<(), Fail> {
     let rows = [
-        (0, ([false, true, true, true, true, true], (b'b', false))),
-        (2, ([true, true, false, true, true, true], (b'b', false))),
-        (4, ([true, true, true, true, false, true], (b'a', false))),
-        (5, ([true, true, true, true, true, false], (b'b', true))),
-        (6, ([true; 6], (b'b', false))),
+        (0, false, ([false; 6], (0, false))),
+        (
+            2,
+            false,
+            ([true, true, false, false, false, false], (b'a', true)),
+        ),
+        (6, false, ([true; 6], (b'b', false))),
+        (
+            0,
+            true,
+            ([false, true, true, true, true, true], (b'b', false)),
+        ),
+        (
+            2,
+            true,
+            ([true, true, false, true, true, true], (b'b', false)),
+        ),
+        (
+            4,
+            true,
+            ([true, true, true, true, false, true], (b'a', false)),
+        ),
+        (
+            5,
+            true,
+            ([true, true, true, true, true, false], (b'b', true)),
+        ),
+        (6, true, ([true; 6], (b'b', false))),
     ];
-    for (k, wanted) in rows {
-        assert!(rt; over_one_fault(rt.alloc(), k)? == wanted);
+    for (call, once, wanted) in rows {
+        assert!(rt; over(rt.alloc(), call, once)? == wanted);
     }
     Ok(())
 }

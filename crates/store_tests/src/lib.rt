@@ -1,18 +1,15 @@
-//! The tests of what keeps a desktop, one module a topic: stores, stores whose characters stand on the disk, stores of
-//! the first version, crashes, stops at each call, runs of calls, scripts that are played, and reports of how they end.
+//! The tests of what keeps a desktop, one module a topic: stores, stops at each call of a disk and the crashes that
+//! follow, runs of calls, scripts that are played, and reports of how they end.
 //!
 //! They stand in a crate of their own, since a crate with tests is proved twice. What a module tests is what no clause
 //! says: worked rows, bytes as they are printed, that a call can succeed, and what happens where a device or an
-//! allocation fails in mid-stream. Disks and what stands between them and a store are tested by
-//! `disk_tests`, texts, events and desktops by `desk_tests`; nothing here stands on these.
+//! allocation fails in mid-stream. Most tests are tables: `disks` does what a row says to a disk in memory, and `stops`
+//! stops a script at each call. Disks and what stands between them and a store are tested by `disk_tests`, texts,
+//! events and desktops by `desk_tests`; nothing here stands on these.
 #![tactic(auto)]
 
 #[cfg(test)]
-mod crashes;
-#[cfg(test)]
-mod migrating;
-#[cfg(test)]
-mod paged;
+mod disks;
 #[cfg(test)]
 mod playing;
 #[cfg(test)]

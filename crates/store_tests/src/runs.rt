@@ -1,11 +1,10 @@
 //! Runs of posts and checkpoints, and stores that are closed and opened again.
-use crate::stores::{found, fresh};
+use crate::disks::{new_store, played};
 use desktop_definitions::Reply;
-use event_bytes::{Event, FileBytes, Name};
-use oberon_main::{Error, Store};
+use event_bytes::Event;
+use oberon_main::{Error, Store, Version};
 use sector_disk::{Disk, Fuse, MemoryDisk, OneFault};
-use std::alloc::Global;
-use std::test::Fail;
+use std::alloc::{AllocError, Global};
 use store_runs::{StoreAnswer, StoreCall, serve_all, serve_and_reopen};
 
 /// How many calls opening a new store makes: a sync, the label, a slot's gate and head, the other slot's gate, the
@@ -22,19 +21,17 @@ const CALLS_TO_RENEW: u64 = 8;
 /// How many calls opening a store of three events makes.
 const CALLS_TO_REOPEN: u64 = 13;
 
-/// The file of that name becomes these bytes.
-fn filed(name: &[u8], bytes: &[u8]) -> Result<Event, Fail> {
-    let name = Name::new(name).ok_or("no name")?;
-    let bytes = FileBytes::new(bytes).ok_or("no bytes")?;
-    Ok(Event::File { name, bytes })
-}
+/// What is said of a store of none of three events, and of all of them.
+const EVENTS: [&[u8]; 4] = [
+    b"ok layout 3 epoch 1 events 0\n",
+    b"ok layout 3 epoch 1 events 1\n",
+    b"ok layout 3 epoch 1 events 2\n",
+    b"ok layout 3 epoch 1 events 3\n",
+];
 
-/// The three events that most tests post.
-fn three_events() -> Result<[StoreCall; 3], Fail> {
-    let first = StoreCall::Post(filed(b"A.Text", b"a")?);
-    let second = StoreCall::Post(filed(b"B.Text", b"bc")?);
-    let third = StoreCall::Post(filed(b"A.Text", b"def")?);
-    Ok([first, second, third])
+/// The marker is set in a column.
+fn mark(x: u8) -> StoreCall {
+    StoreCall::Post(Event::Mark { x, y: 0 })
 }
 
 /// Makes the calls as one run over a store: what each returned, and the disk.
@@ -42,9 +39,9 @@ fn run_over<D: Disk + Drop>(
     alloc: Global,
     made: &[StoreCall],
     disk: D,
-) -> Result<(Vec<StoreAnswer>, D), Fail> {
+) -> Result<(Vec<StoreAnswer>, D), AllocError> {
     match Store::open(alloc, disk) {
-        Err(_) => Err("not opened".into()),
+        Err(_) => Err(AllocError),
         Ok(mut store) => {
             let returned = serve_all(alloc, &mut store, made)?;
             Ok((returned, store.close()))
@@ -59,9 +56,9 @@ fn run(
     made: &[StoreCall],
     calls: u64,
     once: bool,
-) -> Result<(Vec<StoreAnswer>, MemoryDisk), Fail> {
+) -> Result<(Vec<StoreAnswer>, MemoryDisk), AllocError> {
     let calls = CALLS_TO_OPEN.saturating_add(calls);
-    let disk = fresh(alloc)?;
+    let disk = new_store(alloc, Version::V3)?;
     if once {
         let (returned, disk) = run_over(alloc, made, OneFault::new(disk, calls))?;
         Ok((returned, disk.into_inner()))
@@ -71,44 +68,44 @@ fn run(
     }
 }
 
+/// Whether the calls return that, and that is said of the store then.
+fn returns(
+    alloc: Global,
+    made: &[StoreCall],
+    calls: u64,
+    once: bool,
+    wanted: &[StoreAnswer],
+    itself: &[u8],
+) -> Result<bool, AllocError> {
+    let (returned, disk) = run(alloc, made, calls, once)?;
+    let mut said = Vec::new(alloc);
+    played(alloc, disk, b"", &mut said);
+    Ok(returned.as_slice() == wanted && said.as_slice() == itself)
+}
+
 #[test]
-fn a_run_of_posts(rt: HostRuntime) -> Result<(), Fail> {
+fn a_run_of_posts(rt: HostRuntime) -> Result<(), AllocError> {
     let done = Ok(Reply::Done);
-    let events = three_events()?;
+    let made = [mark(0), mark(1), mark(2)];
     for (calls, wanted, left) in [
         (CALLS_TO_POST, [done, done, done], 3),
         (6, [done, Err(Error::Fault), Err(Error::MustReopen)], 1),
     ] {
-        let (returned, disk) = run(rt.alloc(), &events, calls, false)?;
-        assert!(rt; returned.as_slice() == wanted.as_slice());
-        assert!(rt; found(rt.alloc(), disk)? == Some(left));
+        assert!(rt; returns(rt.alloc(), &made, calls, false, &wanted, EVENTS[left])?);
     }
     Ok(())
 }
 
-/// How many events are there after the first of three posts failed at a call of its own. Nothing is posted after it,
-/// also where the disk passes all later calls.
-fn left_by_a_failed_post(alloc: Global, call: u64, once: bool) -> Result<Option<usize>, Fail> {
-    let wanted = [
-        Err(Error::Fault),
-        Err(Error::MustReopen),
-        Err(Error::MustReopen),
-    ];
-    let (returned, disk) = run(alloc, &three_events()?, call, once)?;
-    if returned.as_slice() == wanted.as_slice() {
-        found(alloc, disk)
-    } else {
-        Err("other answers".into())
-    }
-}
-
-/// The first event is there where the last call failed, whose gate was written by then.
+/// Where the first of three posts fails at a call of its own, nothing is posted after it, also where the disk passes
+/// all later calls. The first event is there where the last call failed, whose gate was written by then.
 #[test]
-fn nothing_is_posted_after_a_fault(rt: HostRuntime) -> Result<(), Fail> {
-    for call in 0..5 {
+fn nothing_is_posted_after_a_fault(rt: HostRuntime) -> Result<(), AllocError> {
+    let reopen = Err(Error::MustReopen);
+    let wanted = [Err(Error::Fault), reopen, reopen];
+    let made = [mark(0), mark(1), mark(2)];
+    for (call, left) in [(0, 0), (1, 0), (2, 0), (3, 0), (4, 1)] {
         for once in [false, true] {
-            let left = left_by_a_failed_post(rt.alloc(), call, once)?;
-            assert!(rt; left == Some((call == 4) as usize));
+            assert!(rt; returns(rt.alloc(), &made, call, once, &wanted, EVENTS[left])?);
         }
     }
     Ok(())
@@ -117,52 +114,55 @@ fn nothing_is_posted_after_a_fault(rt: HostRuntime) -> Result<(), Fail> {
 /// An event between two checkpoints, over a disk that passes every call, fails from the second checkpoint on, or from
 /// the first on.
 #[test]
-fn a_run_with_checkpoints(rt: HostRuntime) -> Result<(), Fail> {
+fn a_run_with_checkpoints(rt: HostRuntime) -> Result<(), AllocError> {
     let done = Ok(Reply::Done);
-    let event = StoreCall::Post(filed(b"A.Text", b"a")?);
-    let made = [StoreCall::Checkpoint, event, StoreCall::Checkpoint];
-    for (calls, wanted) in [
-        (100, [done, done, done]),
-        (CALLS_TO_RENEW + 5, [done, done, Err(Error::Fault)]),
+    let reopen = Err(Error::MustReopen);
+    let made = [StoreCall::Checkpoint, mark(0), StoreCall::Checkpoint];
+    let rows: [(u64, [StoreAnswer; 3], &[u8]); 3] = [
+        (100, [done, done, done], b"ok layout 3 epoch 3 events 0\n"),
         (
-            0,
-            [
-                Err(Error::Fault),
-                Err(Error::MustReopen),
-                Err(Error::MustReopen),
-            ],
+            CALLS_TO_RENEW + 5,
+            [done, done, Err(Error::Fault)],
+            b"ok layout 3 epoch 2 events 1\n",
         ),
-    ] {
-        let (returned, _) = run(rt.alloc(), &made, calls, false)?;
-        assert!(rt; returned.as_slice() == wanted.as_slice());
+        (0, [Err(Error::Fault), reopen, reopen], EVENTS[0]),
+    ];
+    for (calls, wanted, itself) in rows {
+        assert!(rt; returns(rt.alloc(), &made, calls, false, &wanted, itself)?);
     }
     Ok(())
 }
 
-/// Posts the three events over a new store whose disk passes so many calls after that, closes the store and opens it
-/// again. Why that was refused; or None, and then all the files are there.
-fn reopened(alloc: Global, calls: u64) -> Result<Option<Error>, Fail> {
+/// Posts three events over a new store whose disk passes so many calls after that, closes the store and opens it again.
+/// Why that was refused, or what is said of it then.
+fn reopened(alloc: Global, calls: u64) -> Result<(Option<Error>, Vec<u8>), AllocError> {
     let calls = CALLS_TO_OPEN
         .saturating_add(CALLS_TO_POST)
         .saturating_add(calls);
-    let events = three_events()?;
-    match Store::open(alloc, Fuse::new(fresh(alloc)?, calls)) {
-        Err(_) => Err("not opened".into()),
-        Ok(store) => match serve_and_reopen(alloc, store, &events) {
-            Err((error, _)) => Ok(Some(error)),
-            Ok(store) => match found(alloc, store.close().into_inner())? {
-                Some(3) => Ok(None),
-                _ => Err("other files".into()),
-            },
+    let made = [mark(0), mark(1), mark(2)];
+    let mut said = Vec::new(alloc);
+    match Store::open(alloc, Fuse::new(new_store(alloc, Version::V3)?, calls)) {
+        Err(_) => Err(AllocError),
+        Ok(store) => match serve_and_reopen(alloc, store, &made) {
+            Err((error, _)) => Ok((Some(error), said)),
+            Ok(store) => {
+                played(alloc, store.close().into_inner(), b"", &mut said);
+                Ok((None, said))
+            }
         },
     }
 }
 
 /// The disk passes every call of opening it again, or fails at the first one.
 #[test]
-fn reopening_left_out(rt: HostRuntime) -> Result<(), Fail> {
-    for (calls, refused) in [(CALLS_TO_REOPEN, None), (0, Some(Error::Fault))] {
-        assert!(rt; reopened(rt.alloc(), calls)? == refused);
+fn reopening_left_out(rt: HostRuntime) -> Result<(), AllocError> {
+    let rows: [(u64, Option<Error>, &[u8]); 2] = [
+        (CALLS_TO_REOPEN, None, EVENTS[3]),
+        (0, Some(Error::Fault), b""),
+    ];
+    for (calls, refused, itself) in rows {
+        let (error, said) = reopened(rt.alloc(), calls)?;
+        assert!(rt; error == refused && said.as_slice() == itself);
     }
     Ok(())
 }
