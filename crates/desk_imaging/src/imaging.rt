@@ -39,13 +39,6 @@ fn all_of(text: &Text) -> Cursor<'_>
     text.cursor(0)
 }
 
-/// All pieces of a buffer.
-fn all_in(buffer: &Buffer) -> Cursor<'_>
-    ensures { result.left ≡ buffer.now }
-{
-    buffer.cursor(0)
-}
-
 /// Puts pieces that are left, after how many there are. Once they were put none was empty.
 fn put_left<K: ByteSink>(sink: &mut K, count: u32, left: Cursor<'_>) -> Result<(), Fault>
     requires count { length left.left ≡ count }
@@ -111,6 +104,13 @@ fn put_files<K: ByteSink>(sink: &mut K, files: &Files) -> Result<(), Fault>
         put_file(sink, name, text)?;
     }
     Ok(())
+}
+
+/// All pieces of a buffer.
+fn all_in(buffer: &Buffer) -> Cursor<'_>
+    ensures { result.left ≡ buffer.now }
+{
+    buffer.cursor(0)
 }
 
 /// Puts a buffer. Once it was put no piece was empty.
