@@ -297,16 +297,7 @@ typed_low : (b : ℕ) → nat_eq b 27 ≡ false → is_text_byte b ≡ false →
     → nat_lt b 32 ≡ true → nat_eq b 10 ≡ false → IsTyped b
 unfolding single pasted_byte
 typed_low b no_escape no_text no_back no_delete low no_feed = (
-  rw (
-    no_escape,
-    no_text,
-    no_back,
-    no_delete,
-    low,
-    no_feed,
-    low_no_follower b low,
-    other_profile b no_text,
-  ) refl,
+  rw (no_escape, no_text, no_back, no_delete, low, no_feed, low_no_follower b low, other_profile b no_text) refl,
   rw (no_escape, no_text, no_back, no_delete, low) refl,
 )
 
