@@ -30,14 +30,6 @@ pub region_under-requires-clause-row : goal.region_under-requires-clause-row
 region_under-requires-clause-row g c =
     (cells_inside c.args.from c.args.to c.are_on_display.ensures c.if-not-are_on_display.false).0.1
 
-pub point_filler-requires-clause-cell : goal.point_filler-requires-clause-cell
-point_filler-requires-clause-cell g c =
-    (cells_inside c.args.from c.args.to c.are_on_display.ensures c.if-not-are_on_display.false).0
-
-pub point_menu-requires-clause-cell : goal.point_menu-requires-clause-cell
-point_menu-requires-clause-cell g c =
-    (cells_inside c.args.from c.args.to c.are_on_display.ensures c.if-not-are_on_display.false).1
-
 pub returns-in-Filler-clause-answered : goal.returns-in-Filler-clause-answered
 returns-in-Filler-clause-answered g c =
     let inside = sym c.are_on_display.ensures ∙ c.if-not-are_on_display.false in
@@ -50,6 +42,10 @@ returns-in-Menu-clause-answered g c =
     let inside = sym c.are_on_display.ensures ∙ c.if-not-are_on_display.false in
     pointed_there _ _ _ _ _ _ _ _ _ _ _ c.point_menu.result inside c.in-Menu.ensures.region (pointed_menu _ _ _ _ _ _ _ _)
     c.point_menu.ensures.answered
+
+pub point_menu-requires-clause-cell : goal.point_menu-requires-clause-cell
+point_menu-requires-clause-cell g c =
+    (cells_inside c.args.from c.args.to c.are_on_display.ensures c.if-not-are_on_display.false).1
 
 pub returns-in-Bar-clause-answered : goal.returns-in-Bar-clause-answered
 unfolding seen
@@ -116,3 +112,7 @@ returns-in-Body-clause-unread g c h =
     c.args.to.0 c.args.to.1
     c.point_text.result row inside c.in-Body.ensures.region h (λ all. refl)
     (λ none. brings_none row d (kept c.point_text.new.desk) c.point_text.result (c.point_text.ensures.unread none))
+
+pub point_filler-requires-clause-cell : goal.point_filler-requires-clause-cell
+point_filler-requires-clause-cell g c =
+    (cells_inside c.args.from c.args.to c.are_on_display.ensures c.if-not-are_on_display.false).0
