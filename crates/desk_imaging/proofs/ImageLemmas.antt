@@ -82,10 +82,8 @@ module _ (d : KeptDesktop) (whole : IsKeptWhole d) where
       record {
         look = shaped.looks.look;
         pattern = short_pattern;
-        texts = some_texts;
-        texts_look = shaped.looks.texts;
-        files = some_files;
-        files_look = shaped.looks.files;
+        texts = record { few = some_texts; looks = shaped.looks.texts };
+        files = record { few = some_files; looks = shaped.looks.files };
         copied = shaped.looks.copied;
         deleted = shaped.looks.deleted;
         viewers = omega (arith, viewers_few);

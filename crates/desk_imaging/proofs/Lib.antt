@@ -7,3 +7,4 @@ pub mod Building
 pub mod ImageMade
 pub mod ImageBack
 pub mod ImageHolds
+pub mod Tables

@@ -32,13 +32,16 @@ use Rattle.desk_image.specs.Image.{viewers_bytes, stack_bytes, deepest}
 
 -- ---- what the writers of an image ask of a desktop's parts
 
+-- of a table of texts or files: how many there are takes a word, and each has looks that there are
+pub record CanBePut {K : Type 0} (table : List (K × List Piece)) : Type 0 where
+  pub few : length table < 2 ^ 16
+  pub looks : All AreLooks (values_of (seen_table [] table))
+
 pub record AreReady (d : KeptDesktop) : Type 0 where
   pub look : IsLook d.look
   pub pattern : length d.pattern < 2 ^ 8
-  pub texts : length d.texts < 2 ^ 16
-  pub texts_look : All AreLooks (values_of (seen_table [] d.texts))
-  pub files : length d.files < 2 ^ 16
-  pub files_look : All AreLooks (values_of (seen_table [] d.files))
+  pub texts : CanBePut d.texts
+  pub files : CanBePut d.files
   pub copied : AreLooks (seen_text [] d.copied)
   pub deleted : AreLooks (seen_text [] d.deleted)
   pub viewers : length d.viewers < 2 ^ 16

@@ -6,7 +6,7 @@ ghost use Rattle.event_bytes.specs.Parts.{byte, word, counted};
 ghost use Rattle.viewer_tracks.specs.declared.display.Track.TheVariants.{User, System};
 ghost use Rattle.viewer_tracks.specs.Columns.{stack_of, track_on};
 ghost use Rattle.desktop_definitions.specs.Looks.{IsLook, AreLooks};
-ghost use Rattle.desktop_definitions.specs.Seen.{seen_text, seen_table};
+ghost use Rattle.desktop_definitions.specs.Seen.{seen_text};
 ghost use Rattle.desktop_definitions.specs.Sound.{IsKeptWhole};
 ghost use Rattle.desk_image.specs.Streams.{Puts};
 ghost use Rattle.desk_image.specs.Image.{ranked_in, picture_of, image_of, listed, text_bytes, file_bytes};
@@ -14,7 +14,7 @@ ghost use Rattle.desk_image.specs.Image.{pieces_bytes, viewers_bytes, track_byte
 ghost use Rattle.desk_image.specs.Image.{look_bytes, cell_bytes, kept_bytes, optional};
 ghost use Rattle.desk_image.specs.Image.{InWord, AreSome, IsSpellable};
 ghost use Rattle.desk_core.specs.Kept.{kept};
-ghost use Rattle.desk_imaging.specs.Images.{AreReady};
+ghost use Rattle.desk_imaging.specs.Images.{AreReady, CanBePut};
 
 use crate::image_size::image_len;
 use char_file::Fault;
@@ -37,13 +37,6 @@ fn all_of(text: &Text) -> Cursor<'_>
     ensures { result.left ≡ text.now }
 {
     text.cursor(0)
-}
-
-/// All pieces of a buffer.
-fn all_in(buffer: &Buffer) -> Cursor<'_>
-    ensures { result.left ≡ buffer.now }
-{
-    buffer.cursor(0)
 }
 
 /// Puts pieces that are left, after how many there are. Once they were put none was empty.
@@ -78,8 +71,7 @@ fn put_text<K: ByteSink>(sink: &mut K, number: u16, text: &Text) -> Result<(), F
 
 /// Puts texts with their numbers, after how many there are. Once they were put no piece was empty.
 fn put_texts<K: ByteSink>(sink: &mut K, texts: &Texts) -> Result<(), Fault>
-    requires few { length texts.now.entries < 2 ^ 16 }
-    requires looks { All AreLooks (values_of (seen_table [] texts.now.entries)) }
+    requires can { CanBePut texts.now.entries }
     ensures puts { Puts K.ByteSink result (listed word text_bytes texts.now.entries) sink.old sink.new }
     ensures some { OnOk result (All AreSome (values_of texts.now.entries)) }
     ensures numbers { OnOk result (All InWord (keys_of texts.now.entries)) }
@@ -103,8 +95,7 @@ fn put_file<K: ByteSink>(sink: &mut K, name: &Name, text: &Text) -> Result<(), F
 
 /// Puts files, after how many there are. Once they were put no piece was empty.
 fn put_files<K: ByteSink>(sink: &mut K, files: &Files) -> Result<(), Fault>
-    requires few { length files.now.entries < 2 ^ 16 }
-    requires looks { All AreLooks (values_of (seen_table [] files.now.entries)) }
+    requires can { CanBePut files.now.entries }
     ensures puts { Puts K.ByteSink result (listed word file_bytes files.now.entries) sink.old sink.new }
     ensures some { OnOk result (All AreSome (values_of files.now.entries)) }
 {
@@ -113,6 +104,13 @@ fn put_files<K: ByteSink>(sink: &mut K, files: &Files) -> Result<(), Fault>
         put_file(sink, name, text)?;
     }
     Ok(())
+}
+
+/// All pieces of a buffer.
+fn all_in(buffer: &Buffer) -> Cursor<'_>
+    ensures { result.left ≡ buffer.now }
+{
+    buffer.cursor(0)
 }
 
 /// Puts a buffer. Once it was put no piece was empty.

@@ -166,10 +166,10 @@ fn stands_once(user: &[Stretches], system: &[Stretches], kept: Option<Kept>, id:
 
 /// Whether each viewer does.
 fn stand_once(
+    viewers: &ViewerTable,
     user: &[Stretches],
     system: &[Stretches],
     kept: Option<Kept>,
-    viewers: &ViewerTable,
 ) -> bool
     requires user { length user.now < 2 ^ 8 }
     requires system { length system.now < 2 ^ 8 }
@@ -192,7 +192,7 @@ pub fn are_placed(
     requires system { length system.now < 2 ^ 8 }
     ensures { result ≡ are_placed (levels_of user.now) (levels_of system.now) kept viewers.now.items }
 {
-    stand_once(user, system, kept, viewers)
+    stand_once(viewers, user, system, kept)
         && are_known(viewers, user)
         && are_known(viewers, system)
         && is_kept_known(viewers, kept)

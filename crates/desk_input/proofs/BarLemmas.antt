@@ -1,6 +1,6 @@
 -- What a scroll bar does, by where the line begins that comes first.
-use Rattle.std.specs.Prelude.{◌≡◌, ℕ, ◌==◌, Bool, true, false, if◌then◌else◌, Some, None}
-use Rattle.std.proofs.Common.{refl, ap}
+use Rattle.std.specs.Prelude.{◌≡◌, ℕ, ◌==◌, Bool, true, false, if◌then◌else◌, Option, Some, None, IfSome}
+use Rattle.std.proofs.Common.{refl, sym, ap, subst}
 use Rattle.text_frames.specs.Cells.{row_of}
 use Rattle.desktop_definitions.specs.Desktop.{Desktop}
 use Rattle.desktop_definitions.specs.Viewers.{viewer_of, main_of, with_org}
@@ -35,3 +35,9 @@ pub share_is : (d : Desktop) (v row start : ℕ) → start ≡ start_of_share d 
     → with_org d v start ≡ scrolled_to_share d v row
 unfolding start_of_share scrolled_to_share
 share_is d v row start is = ap (λ org. with_org d v org) is
+
+-- what holds of a place holds of it where it is told
+pub some_if : (P : ℕ → Type 0) (there : Bool) (p : ℕ) (told : Option ℕ) → told ≡ (if there then Some p else None) → P p
+    → IfSome told P
+some_if P true p told is holds = subst (λ (o : Option ℕ). IfSome o P) (sym is) holds
+some_if P false p told is holds = subst (λ (o : Option ℕ). IfSome o P) (sym is) tt

@@ -1,23 +1,16 @@
 //! What the mouse does in a scroll bar.
-ghost use Rattle.std.specs.Prelude.{◌≡◌, ◌==◌, ◌*◌, ◌/◌, ◌<◌, ◌≤◌, length, false, IfOk, IfSome, Ok};
+ghost use Rattle.std.specs.Prelude.{◌≡◌, ◌==◌, ◌*◌, ◌/◌, ◌<◌, ◌≤◌, false, if◌then◌else◌, Some, None, IfOk, IfSome, Ok};
 ghost use Rattle.std.specs.Option.{option_map, unwrap_or};
-ghost use Rattle.sector_disk.specs.Trail.{CountsFault};
-ghost use Rattle.char_file.specs.Source.{OnlyReads};
-ghost use Rattle.piece_ring.specs.Flat.{flat};
-ghost use Rattle.viewer_tracks.specs.Columns.{IsOnTop};
-ghost use Rattle.desktop_definitions.specs.Viewers.{text_in, viewer_or_none};
-ghost use Rattle.desktop_definitions.specs.Seen.{seen};
-ghost use Rattle.desktop_definitions.specs.Sound.{IsOver};
-ghost use Rattle.desk_core.specs.Kept.{kept};
-ghost use Rattle.desk_core.specs.Row.{Settles, SettlesUnread, Uses};
-ghost use Rattle.desk_core.specs.Mouse.{start_of_row, start_of_share};
-ghost use Rattle.desktop_definitions.specs.Viewers.{with_org, rows_of};
+ghost use Rattle.desktop_definitions.specs.Viewers.{with_org};
 ghost use Rattle.desktop_definitions.specs.Gesture.{scrolled_to_row, scrolled_to_share};
+ghost use Rattle.desk_core.specs.Mouse.{start_of_row, start_of_share};
+ghost use Rattle.desk_core.specs.Words.{IsOnTop, IsOver, kept, IsPosition, Settles, SettlesUnread, Uses};
+ghost use Rattle.desk_input.specs.Reads.{IsRow, Tells};
 
-use crate::places::{position_in, text_width};
-use char_file::{CharSource, Fault};
+use crate::places::{Read, position_in, text_width};
+use char_file::CharSource;
 use desk_core::desk::Desk;
-use desk_core::stop::Stop;
+use desk_core::stop::StepResult;
 use desk_core::viewers::set_org;
 use desktop_definitions::Reply;
 use text_frames::line_start;
@@ -41,52 +34,35 @@ fn is_in_row(cell: Option<(u8, u8)>, row: u8) -> bool
     }
 }
 
-/// Where the line begins that a viewer shows in a row of its main frame. None where it shows none there. Fault: the
-/// source failed in this call.
-fn start_of_row<S: CharSource>(
-    desk: &Desk,
-    id: u16,
-    row: u8,
-    source: &mut S,
-) -> Result<Option<u32>, Fault>
-    requires over { IsOver (S.characters source.old) (kept desk.now) }
-    requires placed { IsOnTop id (kept desk.now).columns }
-    requires row { row < rows_of (kept desk.now) id }
-    ensures exact { IfOk result (λ start. S.honest source.old
-        → start ≡ start_of_row (seen (S.characters source.old) (kept desk.now)) id row) }
-    ensures within { IfOk result (λ start. IfSome start (λ p. p ≤ length (flat (text_in (kept desk.now).texts
-        (viewer_or_none (kept desk.now).viewers id).main)))) }
-    ensures reads { OnlyReads S.characters S.failures S.honest S.same_ground source.old source.new }
-    ensures cause { CountsFault result (S.failures source.old) (S.failures source.new) }
+/// Where a line begins whose beginning is shown at that cell, if it is one of the row.
+fn line_in_row(begin: u32, cell: Option<(u8, u8)>, row: u8) -> Option<u32>
+    ensures { result ≡ (if unwrap_or (option_map (λ c. c.1 == row) cell) false then Some begin else None) }
+{
+    if is_in_row(cell, row) {
+        Some(begin)
+    } else {
+        None
+    }
+}
+
+/// Where the line begins that a viewer shows in a row of its main frame. None where it shows none there.
+fn start_of_row<S: CharSource>(desk: &Desk, id: u16, row: u8, source: &mut S) -> Read<Option<u32>>
+    requires at { IsRow (S.characters source.old) (kept desk.now) id row }
+    ensures told { Tells S.CharSource result (λ d. start_of_row d id row) source.old source.new (kept desk.now) }
+    ensures within { IfOk result (λ start. IfSome start (IsPosition (kept desk.now) id)) }
 {
     let begin = position_in(desk, id, 0, row, source)?;
     let frame = desk.main_frame(id);
     let text = desk.main_text(id);
     let cell = frame.cell_of(text, text_width(desk, id), desk.rows_of(id), begin, source)?;
-    if is_in_row(cell, row) {
-        Ok(Some(begin))
-    } else {
-        Ok(None)
-    }
+    Ok(line_in_row(begin, cell, row))
 }
 
-/// Where the line begins that stands as far down in a viewer's main text as a row in its main frame. Fault: the
-/// source failed in this call.
-fn start_of_share<S: CharSource>(
-    desk: &Desk,
-    id: u16,
-    row: u8,
-    source: &mut S,
-) -> Result<u32, Fault>
-    requires over { IsOver (S.characters source.old) (kept desk.now) }
-    requires placed { IsOnTop id (kept desk.now).columns }
-    requires row { row < rows_of (kept desk.now) id }
-    ensures exact { IfOk result (λ start. S.honest source.old
-        → start ≡ start_of_share (seen (S.characters source.old) (kept desk.now)) id row) }
-    ensures within { IfOk result (λ start. start ≤ length (flat (text_in (kept desk.now).texts
-        (viewer_or_none (kept desk.now).viewers id).main))) }
-    ensures reads { OnlyReads S.characters S.failures S.honest S.same_ground source.old source.new }
-    ensures cause { CountsFault result (S.failures source.old) (S.failures source.new) }
+/// Where the line begins that stands as far down in a viewer's main text as a row in its main frame.
+fn start_of_share<S: CharSource>(desk: &Desk, id: u16, row: u8, source: &mut S) -> Read<u32>
+    requires at { IsRow (S.characters source.old) (kept desk.now) id row }
+    ensures told { Tells S.CharSource result (λ d. start_of_share d id row) source.old source.new (kept desk.now) }
+    ensures within { IfOk result (IsPosition (kept desk.now) id) }
 {
     let text = desk.main_text(id);
     let pos = share(text.len(), row, desk.rows_of(id));
@@ -102,15 +78,8 @@ fn begin_at(desk: &mut Desk, id: u16, org: u32)
 }
 
 /// The line in that row of a viewer comes first, where there is one.
-pub fn scroll_to_row<S: CharSource>(
-    desk: &mut Desk,
-    id: u16,
-    row: u8,
-    source: &mut S,
-) -> Result<Reply, Stop>
-    requires placed { IsOnTop id (kept desk.old).columns }
-    requires row { row < rows_of (kept desk.old) id }
-    requires over { IsOver (S.characters source.old) (kept desk.old) }
+pub fn scroll_row<S: CharSource>(desk: &mut Desk, id: u16, row: u8, source: &mut S) -> StepResult
+    requires at { IsRow (S.characters source.old) (kept desk.old) id row }
     ensures answered { IfOk result (Settles S.CharSource (λ d. Ok (scrolled_to_row d id row))
         source.old source.new (kept desk.old) (kept desk.new)) }
     ensures uses { Uses S.CharSource result source.old source.new }
@@ -123,15 +92,8 @@ pub fn scroll_to_row<S: CharSource>(
 }
 
 /// The line comes first that stands as far down in the text as the row in the frame.
-pub fn scroll_to_share<S: CharSource>(
-    desk: &mut Desk,
-    id: u16,
-    row: u8,
-    source: &mut S,
-) -> Result<Reply, Stop>
-    requires placed { IsOnTop id (kept desk.old).columns }
-    requires row { row < rows_of (kept desk.old) id }
-    requires over { IsOver (S.characters source.old) (kept desk.old) }
+pub fn scroll_share<S: CharSource>(desk: &mut Desk, id: u16, row: u8, source: &mut S) -> StepResult
+    requires at { IsRow (S.characters source.old) (kept desk.old) id row }
     ensures answered { IfOk result (Settles S.CharSource (λ d. Ok (scrolled_to_share d id row))
         source.old source.new (kept desk.old) (kept desk.new)) }
     ensures uses { Uses S.CharSource result source.old source.new }
@@ -142,7 +104,7 @@ pub fn scroll_to_share<S: CharSource>(
 }
 
 /// A viewer shows its text from the beginning.
-pub fn scroll_to_top<S: CharSource>(desk: &mut Desk, id: u16, source: &mut S) -> Result<Reply, Stop>
+pub fn scroll_top<S: CharSource>(desk: &mut Desk, id: u16, source: &mut S) -> StepResult
     requires placed { IsOnTop id (kept desk.old).columns }
     requires over { IsOver (S.characters source.old) (kept desk.old) }
     ensures answered { IfOk result (Settles S.CharSource (λ d. Ok (with_org d id 0))

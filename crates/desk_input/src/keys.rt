@@ -1,17 +1,14 @@
 //! What typing and the keys do.
 ghost use Rattle.std.specs.Prelude.{◌≡◌, ◌+◌, ◌<◌, IfOk, is_none, true};
-ghost use Rattle.event_bytes.specs.declared.keys.Key.TheVariants.{Back, Copy, Paste, Cut, Escape};
+ghost use Rattle.event_bytes.specs.declared.keys.Key.TheVariants.{Back, Copy, Cut, Escape};
 ghost use Rattle.desktop_definitions.specs.Keys.{typed, pressed};
 ghost use Rattle.desktop_definitions.specs.Unread.{key_needs_no_byte};
-ghost use Rattle.desktop_definitions.specs.Viewers.{newest};
-ghost use Rattle.desktop_definitions.specs.Sound.{IsOver};
-ghost use Rattle.desk_core.specs.Kept.{kept};
-ghost use Rattle.desk_core.specs.Row.{Settles, SettlesUnread, Uses};
+ghost use Rattle.desk_core.specs.Words.{newest, IsOver, kept, Settles, SettlesUnread, Uses};
 
 use char_file::CharSource;
 use desk_core::desk::Desk;
 use desk_core::edits::buffer_of_run;
-use desk_core::stop::Stop;
+use desk_core::stop::StepResult;
 use desktop_definitions::{Reply, Selection, codes};
 use event_bytes::{Key, TypedBytes};
 use std::alloc::Global;
@@ -24,8 +21,8 @@ pub fn type_bytes<S: CharSource>(
     alloc: Global,
     bytes: &TypedBytes,
     source: &mut S,
-) -> Result<Reply, Stop>
-    requires over { IsOver (S.characters source.old) (kept desk.old) }
+) -> StepResult
+    requires { IsOver (S.characters source.old) (kept desk.old) }
     ensures answered { IfOk result (Settles S.CharSource (λ d. typed d bytes.now)
         source.old source.new (kept desk.old) (kept desk.new)) }
     ensures unread { is_none (kept desk.old).caret ≡ true
@@ -48,13 +45,8 @@ pub fn type_bytes<S: CharSource>(
 
 /// Does what a key means.
 #[tactic(auto, unfolding(desktop_definitions::specs::Unread::key_needs_no_byte))]
-pub fn press<S: CharSource>(
-    desk: &mut Desk,
-    alloc: Global,
-    key: Key,
-    source: &mut S,
-) -> Result<Reply, Stop>
-    requires over { IsOver (S.characters source.old) (kept desk.old) }
+pub fn press<S: CharSource>(desk: &mut Desk, alloc: Global, key: Key, source: &mut S) -> StepResult
+    requires { IsOver (S.characters source.old) (kept desk.old) }
     ensures answered { IfOk result (Settles S.CharSource (λ d. pressed d key)
         source.old source.new (kept desk.old) (kept desk.new)) }
     ensures unread { key_needs_no_byte (kept desk.old) key ≡ true
@@ -64,15 +56,15 @@ pub fn press<S: CharSource>(
     match key {
         Key::Back => take_back(desk, alloc, source),
         Key::Copy => copy(desk, alloc, source),
-        Key::Paste => paste(desk, alloc, source),
+        Key::Paste => desk.put_buffer(alloc, false, source),
         Key::Cut => cut(desk, alloc, source),
         Key::Escape => escape(desk, source),
     }
 }
 
 /// The character before the caret is taken out, where there is one. Refused without a caret.
-fn take_back<S: CharSource>(desk: &mut Desk, alloc: Global, source: &mut S) -> Result<Reply, Stop>
-    requires over { IsOver (S.characters source.old) (kept desk.old) }
+fn take_back<S: CharSource>(desk: &mut Desk, alloc: Global, source: &mut S) -> StepResult
+    requires { IsOver (S.characters source.old) (kept desk.old) }
     ensures answered { IfOk result (Settles S.CharSource (λ d. pressed d Back)
         source.old source.new (kept desk.old) (kept desk.new)) }
     ensures unread { is_none (kept desk.old).caret ≡ true
@@ -95,8 +87,8 @@ fn take_back<S: CharSource>(desk: &mut Desk, alloc: Global, source: &mut S) -> R
 }
 
 /// The newest selection goes into the copied buffer. Refused without a selection.
-fn copy<S: CharSource>(desk: &mut Desk, alloc: Global, source: &mut S) -> Result<Reply, Stop>
-    requires over { IsOver (S.characters source.old) (kept desk.old) }
+fn copy<S: CharSource>(desk: &mut Desk, alloc: Global, source: &mut S) -> StepResult
+    requires { IsOver (S.characters source.old) (kept desk.old) }
     ensures answered { IfOk result (Settles S.CharSource (λ d. pressed d Copy)
         source.old source.new (kept desk.old) (kept desk.new)) }
     ensures unread { IfOk result (SettlesUnread (λ d. pressed d Copy) (kept desk.old) (kept desk.new)) }
@@ -113,22 +105,10 @@ fn copy<S: CharSource>(desk: &mut Desk, alloc: Global, source: &mut S) -> Result
     Ok(Reply::Done)
 }
 
-/// What was copied last is put in at the caret. Refused without a caret.
-fn paste<S: CharSource>(desk: &mut Desk, alloc: Global, source: &mut S) -> Result<Reply, Stop>
-    requires over { IsOver (S.characters source.old) (kept desk.old) }
-    ensures answered { IfOk result (Settles S.CharSource (λ d. pressed d Paste)
-        source.old source.new (kept desk.old) (kept desk.new)) }
-    ensures unread { is_none (kept desk.old).caret ≡ true
-        → IfOk result (SettlesUnread (λ d. pressed d Paste) (kept desk.old) (kept desk.new)) }
-    ensures uses { Uses S.CharSource result source.old source.new }
-{
-    desk.put_buffer(alloc, false, source)
-}
-
 /// The newest selection goes out of its text into the copied buffer, and the caret to where it was. Refused without
 /// a selection.
-fn cut<S: CharSource>(desk: &mut Desk, alloc: Global, source: &mut S) -> Result<Reply, Stop>
-    requires over { IsOver (S.characters source.old) (kept desk.old) }
+fn cut<S: CharSource>(desk: &mut Desk, alloc: Global, source: &mut S) -> StepResult
+    requires { IsOver (S.characters source.old) (kept desk.old) }
     ensures answered { IfOk result (Settles S.CharSource (λ d. pressed d Cut)
         source.old source.new (kept desk.old) (kept desk.new)) }
     ensures unread { is_none (newest (kept desk.old)) ≡ true
@@ -145,8 +125,8 @@ fn cut<S: CharSource>(desk: &mut Desk, alloc: Global, source: &mut S) -> Result<
 }
 
 /// Caret, selections and marker go.
-fn escape<S: CharSource>(desk: &mut Desk, source: &mut S) -> Result<Reply, Stop>
-    requires over { IsOver (S.characters source.old) (kept desk.old) }
+fn escape<S: CharSource>(desk: &mut Desk, source: &mut S) -> StepResult
+    requires { IsOver (S.characters source.old) (kept desk.old) }
     ensures answered { IfOk result (Settles S.CharSource (λ d. pressed d Escape)
         source.old source.new (kept desk.old) (kept desk.new)) }
     ensures unread { IfOk result (SettlesUnread (λ d. pressed d Escape) (kept desk.old) (kept desk.new)) }

@@ -1,22 +1,16 @@
 //! Where cells of the display lie, and what is shown there.
 ghost use Rattle.std.specs.Prelude.{◌≡◌, ◌==◌, ◌+◌, ◌<◌, ◌≤◌, min, max, length, true, IfOk, if◌then◌else◌};
-ghost use Rattle.sector_disk.specs.Trail.{CountsFault};
-ghost use Rattle.char_file.specs.Source.{OnlyReads};
-ghost use Rattle.piece_ring.specs.Flat.{flat};
-ghost use Rattle.viewer_tracks.specs.declared.display.TheConstants.{ROWS, COLUMNS};
 ghost use Rattle.viewer_tracks.specs.declared.display.Track.{Track as ATrack};
 ghost use Rattle.viewer_tracks.specs.Display.{left_of};
-ghost use Rattle.viewer_tracks.specs.Columns.{IsOnTop};
 ghost use Rattle.screen_pictures.specs.Picture.{width_of};
 ghost use Rattle.desktop_definitions.specs.declared.region.Region.TheVariants.{Menu, Bar, Body};
-ghost use Rattle.desktop_definitions.specs.Viewers.{text_in, viewer_or_none, rows_of};
 ghost use Rattle.desktop_definitions.specs.Gesture.{region_at, frame_row, width, menu_column, text_column, text_row};
 ghost use Rattle.desktop_definitions.specs.Gesture.{text_position, stretch_drawn, menu_position, IsRegionOf};
+ghost use Rattle.desktop_definitions.specs.Viewers.{rows_of};
 ghost use Rattle.desktop_definitions.specs.Call.{text_called};
-ghost use Rattle.desktop_definitions.specs.Seen.{seen};
-ghost use Rattle.desktop_definitions.specs.Sound.{IsOver};
-ghost use Rattle.desk_core.specs.Kept.{kept};
 ghost use Rattle.desk_core.specs.Mouse.{position_in};
+ghost use Rattle.desk_core.specs.Words.{flat, ROWS, COLUMNS, IsOnTop, viewer_or_none, IsOver, kept, IsPosition};
+ghost use Rattle.desk_input.specs.Reads.{IsRow, Tells};
 
 use char_file::{CharSource, Fault};
 use desk_core::desk::Desk;
@@ -24,6 +18,9 @@ use desk_core::viewers::viewer_or_none;
 use desktop_definitions::{Region, Selection};
 use text_frames::Frame;
 use viewer_tracks::{COLUMNS, Place, SYSTEM_LEFT, ViewerId};
+
+/// What a call reads. Fault: the source failed in that call.
+pub type Read<T> = Result<T, Fault>;
 
 /// The part of a viewer in which a cell of its place lies.
 fn part_of(id: u16, place: Place, x: u8, y: u8) -> Region
@@ -130,76 +127,36 @@ fn text_row(desk: &Desk, id: u16, y: u8) -> u8
     frame_row(desk, id, y.min(place.top - 2).max(place.bottom))
 }
 
-/// The position in a viewer's main text at a column and a row of its main frame. Fault: the source failed in this
-/// call.
-pub fn position_in<S: CharSource>(
-    desk: &Desk,
-    id: u16,
-    column: u8,
-    row: u8,
-    source: &mut S,
-) -> Result<u32, Fault>
-    requires over { IsOver (S.characters source.old) (kept desk.now) }
-    requires placed { IsOnTop id (kept desk.now).columns }
-    requires row { row < rows_of (kept desk.now) id }
-    ensures exact { IfOk result (λ p. S.honest source.old
-        → p ≡ position_in (seen (S.characters source.old) (kept desk.now)) id column row) }
+/// The position in a viewer's main text at column `x` and a row of its main frame.
+pub fn position_in<S: CharSource>(desk: &Desk, id: u16, x: u8, row: u8, source: &mut S) -> Read<u32>
+    requires at { IsRow (S.characters source.old) (kept desk.now) id row }
+    ensures told { Tells S.CharSource result (λ d. position_in d id x row) source.old source.new (kept desk.now) }
     ensures from { IfOk result (λ p. (viewer_or_none (kept desk.now).viewers id).org ≤ p) }
-    ensures within { IfOk result (λ p. p ≤ length (flat (text_in (kept desk.now).texts
-        (viewer_or_none (kept desk.now).viewers id).main))) }
-    ensures reads { OnlyReads S.characters S.failures S.honest S.same_ground source.old source.new }
-    ensures cause { CountsFault result (S.failures source.old) (S.failures source.new) }
+    ensures within { IfOk result (IsPosition (kept desk.now) id) }
 {
     let frame = desk.main_frame(id);
     let text = desk.main_text(id);
-    let pos = frame.pos_at(
-        text,
-        text_width(desk, id),
-        desk.rows_of(id),
-        column,
-        row,
-        source,
-    )?;
+    let pos = frame.pos_at(text, text_width(desk, id), desk.rows_of(id), x, row, source)?;
     Ok(pos)
 }
 
-/// The position in a viewer's main text that is shown nearest to a cell. Fault: the source failed in this call.
-pub fn text_position<S: CharSource>(
-    desk: &Desk,
-    id: u16,
-    x: u8,
-    y: u8,
-    source: &mut S,
-) -> Result<u32, Fault>
-    requires over { IsOver (S.characters source.old) (kept desk.now) }
-    requires placed { IsOnTop id (kept desk.now).columns }
-    requires some { 0 < rows_of (kept desk.now) id }
-    ensures exact { IfOk result (λ p. S.honest source.old
-        → p ≡ text_position (seen (S.characters source.old) (kept desk.now)) id x y) }
-    ensures within { IfOk result (λ p. p ≤ length (flat (text_in (kept desk.now).texts
-        (viewer_or_none (kept desk.now).viewers id).main))) }
-    ensures reads { OnlyReads S.characters S.failures S.honest S.same_ground source.old source.new }
-    ensures cause { CountsFault result (S.failures source.old) (S.failures source.new) }
+/// The position in a viewer's main text that is shown nearest to a cell.
+pub fn text_position<S: CharSource>(desk: &Desk, id: u16, x: u8, y: u8, source: &mut S) -> Read<u32>
+    requires at { IsRow (S.characters source.old) (kept desk.now) id 0 }
+    ensures told { Tells S.CharSource result (λ d. text_position d id x y) source.old source.new (kept desk.now) }
+    ensures within { IfOk result (IsPosition (kept desk.now) id) }
 {
     let column = text_column(desk, id, x);
     let row = text_row(desk, id, y);
     position_in(desk, id, column, row, source)
 }
 
-/// The position in a viewer's menu that is shown nearest to a column. Fault: the source failed in this call.
-pub fn menu_position<S: CharSource>(
-    desk: &Desk,
-    id: u16,
-    x: u8,
-    source: &mut S,
-) -> Result<u32, Fault>
-    requires over { IsOver (S.characters source.old) (kept desk.now) }
+/// The position in a viewer's menu that is shown nearest to a column.
+pub fn menu_position<S: CharSource>(desk: &Desk, id: u16, x: u8, source: &mut S) -> Read<u32>
     requires placed { IsOnTop id (kept desk.now).columns }
-    ensures exact { IfOk result (λ p. S.honest source.old
-        → p ≡ menu_position (seen (S.characters source.old) (kept desk.now)) id x) }
+    requires over { IsOver (S.characters source.old) (kept desk.now) }
+    ensures told { Tells S.CharSource result (λ d. menu_position d id x) source.old source.new (kept desk.now) }
     ensures within { IfOk result (λ p. p ≤ length (flat (text_called (kept desk.now) id true))) }
-    ensures reads { OnlyReads S.characters S.failures S.honest S.same_ground source.old source.new }
-    ensures cause { CountsFault result (S.failures source.old) (S.failures source.new) }
 {
     let viewer = viewer_or_none(&desk.viewers, id);
     let frame = Frame {
@@ -214,25 +171,19 @@ pub fn menu_position<S: CharSource>(
     frame.pos_at(menu, width, 1, column, 0, source)
 }
 
-/// The stretch of a viewer's main text that was drawn between two cells, each as column and row. Fault: the source
-/// failed in this call.
+/// The stretch of a viewer's main text that was drawn between two cells, each as column and row.
 pub fn stretch_drawn<S: CharSource>(
     desk: &Desk,
     id: u16,
     from: (u8, u8),
     to: (u8, u8),
     source: &mut S,
-) -> Result<Selection, Fault>
-    requires over { IsOver (S.characters source.old) (kept desk.now) }
-    requires placed { IsOnTop id (kept desk.now).columns }
-    requires some { 0 < rows_of (kept desk.now) id }
-    ensures exact { IfOk result (λ s. S.honest source.old
-        → s ≡ stretch_drawn (seen (S.characters source.old) (kept desk.now)) id from.0 from.1 to.0 to.1) }
+) -> Read<Selection>
+    requires at { IsRow (S.characters source.old) (kept desk.now) id 0 }
+    ensures told { Tells S.CharSource result (λ d. stretch_drawn d id from.0 from.1 to.0 to.1) source.old source.new
+        (kept desk.now) }
     ensures viewer { IfOk result (λ s. s.viewer ≡ id) }
-    ensures within { IfOk result (λ s. s.end ≤ length (flat (text_in (kept desk.now).texts
-        (viewer_or_none (kept desk.now).viewers id).main))) }
-    ensures reads { OnlyReads S.characters S.failures S.honest S.same_ground source.old source.new }
-    ensures cause { CountsFault result (S.failures source.old) (S.failures source.new) }
+    ensures within { IfOk result (λ s. IsPosition (kept desk.now) s.viewer s.end) }
 {
     let first = text_position(desk, id, from.0, from.1, source)?;
     let last = text_position(desk, id, to.0, to.1, source)?;

@@ -1,18 +1,12 @@
 //! What the mouse does with stretches of texts.
 ghost use Rattle.std.specs.Prelude.{◌≡◌, ◌≤◌, length, IfOk, is_none, true};
-ghost use Rattle.piece_ring.specs.Flat.{flat};
 ghost use Rattle.text_core.specs.Attributes.{look_at};
 ghost use Rattle.desktop_definitions.specs.Gesture.{copied_to, looks_taken, taken_out, sent_to_caret};
-ghost use Rattle.desktop_definitions.specs.Viewers.{newest};
-ghost use Rattle.desktop_definitions.specs.Sound.{IsOver};
-ghost use Rattle.desktop_laws.specs.RowPartLaws.{kept_main};
-ghost use Rattle.desk_core.specs.Kept.{kept};
-ghost use Rattle.desk_core.specs.Positions.{IsPosition};
-ghost use Rattle.desk_core.specs.Row.{Settles, SettlesUnread, Uses};
+ghost use Rattle.desk_core.specs.Words.{flat, newest, IsOver, kept_main, kept, IsPosition, Settles, SettlesUnread, Uses};
 
 use char_file::CharSource;
 use desk_core::desk::Desk;
-use desk_core::stop::Stop;
+use desk_core::stop::StepResult;
 use desk_core::viewers::select;
 use desktop_definitions::{Caret, Reply, Selection, codes};
 use piece_ring::{DEFAULT_LOOK, Look};
@@ -27,7 +21,7 @@ pub fn copy_to<S: CharSource>(
     id: u16,
     pos: u32,
     source: &mut S,
-) -> Result<Reply, Stop>
+) -> StepResult
     requires at { IsPosition (kept desk.old) id pos }
     requires over { IsOver (S.characters source.old) (kept desk.old) }
     ensures answered { IfOk result (Settles S.CharSource (λ d. copied_to d id pos)
@@ -56,7 +50,7 @@ pub fn take_looks<S: CharSource>(
     id: u16,
     pos: u32,
     source: &mut S,
-) -> Result<Reply, Stop>
+) -> StepResult
     requires at { IsPosition (kept desk.old) id pos }
     requires over { IsOver (S.characters source.old) (kept desk.old) }
     ensures answered { IfOk result (Settles S.CharSource (λ d. looks_taken d id pos)
@@ -84,7 +78,7 @@ pub fn take_out<S: CharSource>(
     alloc: Global,
     drawn: Selection,
     source: &mut S,
-) -> Result<Reply, Stop>
+) -> StepResult
     requires at { IsPosition (kept desk.old) drawn.viewer drawn.end }
     requires over { IsOver (S.characters source.old) (kept desk.old) }
     ensures answered { IfOk result (Settles S.CharSource (λ d. taken_out d drawn)
@@ -106,7 +100,7 @@ pub fn send_to_caret<S: CharSource>(
     alloc: Global,
     drawn: Selection,
     source: &mut S,
-) -> Result<Reply, Stop>
+) -> StepResult
     requires at { IsPosition (kept desk.old) drawn.viewer drawn.end }
     requires over { IsOver (S.characters source.old) (kept desk.old) }
     ensures answered { IfOk result (Settles S.CharSource (λ d. sent_to_caret d drawn)

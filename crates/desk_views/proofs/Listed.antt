@@ -1,6 +1,6 @@
 -- The list of a column: those of its tracks, from the lowest up.
 use Rattle.std.proofs.Common.{◌≡◌, ℕ, zero, suc, ◌+◌, ◌≤◌, List, [], ◌∷◌, ◌++◌, length, map, refl, sym, ap, ◌∙◌}
-use Rattle.std.proofs.Common.{append_assoc, arith, if◌then◌else◌, ◌==◌, false}
+use Rattle.std.proofs.Common.{append_assoc, append-nil, arith, if◌then◌else◌, ◌==◌, false}
 use Rattle.std.proofs.lemmas.Bool.Decides.{nat_tests}
 use Rattle.std.proofs.lemmas.List.{map-append}
 use Rattle.viewer_tracks.specs.declared.display.Track.{Track}
@@ -10,7 +10,12 @@ use Rattle.viewer_tracks.specs.Columns.{track_on}
 use Rattle.viewer_tracks.proofs.StackLemmas.{level_under, level_topmost}
 use Rattle.desktop_definitions.specs.declared.entry.Entry.{Entry}
 use Rattle.desktop_definitions.specs.declared.entry.Entry.TheVariants.{Over}
-use Rattle.desktop_definitions.specs.Desktop.{Desktop}
+use Rattle.char_file.specs.declared.source.CharSource.{Ghosts}
+use Rattle.char_file.specs.Source.{OnlyReads}
+use Rattle.char_file.proofs.Reading.{no_read, read_on}
+use Rattle.desktop_definitions.specs.Desktop.{Desktop, KeptDesktop}
+use Rattle.desktop_definitions.specs.Seen.{seen}
+use Rattle.desktop_definitions.specs.Unread.{without_name}
 use Rattle.desktop_definitions.specs.Listing.{track_entries, over_entry, stack_entries}
 
 -- the entry before the viewers of a track over so many others
@@ -88,3 +93,32 @@ module _ (d : Desktop) (k : Track) (s : List (List Standing)) (n : ℕ) (start b
       told_more f so_far
       (grown ∙ ap (λ m. map f middle ++ map f (track_entries d k (track_on s m))) (sym next_level))
       ∙ ap (λ m. map f start ++ map f (lowest_entries d k s m)) next_level
+
+-- What is known of entries that were put behind others, from a source that was only read: which they are of the desktop
+-- as it is seen, and, without the names, whatever the source told.
+module _ {S : Type 0} (s : Ghosts S) where
+  pub record HasListed (old new : S) (d : KeptDesktop) (before now : List Entry) (listed bare : Desktop → List Entry) : Type 0 where
+    pub reads : OnlyReads s.characters s.failures s.honest s.same_ground old new
+    pub calm : s.failures new ≡ s.failures old
+    pub so_far : s.honest old → now ≡ before ++ listed (seen (s.characters old) d)
+    pub unread : (all : List ℕ) → length all ≡ d.written
+        → map without_name now ≡ map without_name before ++ bare (seen all d)
+
+  -- before the first
+  pub none_listed : ((a : S) → s.same_ground a a) → (old : S) (d : KeptDesktop) (before : List Entry)
+      (listed bare : Desktop → List Entry) → ((x : Desktop) → listed x ≡ []) → ((x : Desktop) → bare x ≡ [])
+      → HasListed old old d before before listed bare
+  none_listed ground_self old d before listed bare none no_bare = record {
+    reads = no_read s.characters s.failures s.honest s.same_ground ground_self old;
+    calm = refl;
+    so_far = λ honest. sym (ap (λ l. before ++ l) (none _) ∙ append-nil before);
+    unread = λ all long. sym (ap (λ l. map without_name before ++ l) (no_bare _) ∙ append-nil (map without_name before));
+  }
+
+  -- what a call more leaves that only reads
+  pub reads_then : ((a b c : S) → s.same_ground a b → s.same_ground b c → s.same_ground a c) → (old mid new : S)
+      → OnlyReads s.characters s.failures s.honest s.same_ground old mid
+      → OnlyReads s.characters s.failures s.honest s.same_ground mid new
+      → OnlyReads s.characters s.failures s.honest s.same_ground old new
+  reads_then ground_through old mid new first second =
+      read_on s.characters s.failures s.honest s.same_ground ground_through old mid new first second

@@ -1,24 +1,17 @@
 //! What a desk shows and lists of its viewers.
 ghost use Rattle.std.specs.Prelude.{◌≡◌, ◌<◌, ◌≤◌, ◌+◌, ◌==◌, ◌++◌, ◌∷◌, [], ℕ, List};
 ghost use Rattle.std.specs.Prelude.{if◌then◌else◌, length, map, All, IfOk, OnOk};
-ghost use Rattle.sector_disk.specs.Faults.{FailsAs};
-ghost use Rattle.char_file.specs.Source.{OnlyReads};
-ghost use Rattle.piece_ring.specs.Flat.{flat};
-ghost use Rattle.piece_ring.specs.Offsets.{AreWithin};
-ghost use Rattle.readers_scanners.specs.Reading.{contents};
-ghost use Rattle.viewer_tracks.specs.declared.display.TheConstants.{DEPTH};
+ghost use Rattle.readers_scanners.specs.Words.{contents};
 ghost use Rattle.viewer_tracks.specs.Display.{left_of};
-ghost use Rattle.viewer_tracks.specs.Columns.{IsPlaced, stack_of, track_on};
+ghost use Rattle.viewer_tracks.specs.Columns.{track_on};
 ghost use Rattle.desktop_definitions.specs.declared.entry.Entry.TheVariants.{Over};
-ghost use Rattle.desktop_definitions.specs.Seen.{seen};
 ghost use Rattle.desktop_definitions.specs.Listing.{listed_name, viewer_entry, track_entries, column_entries};
-ghost use Rattle.desktop_definitions.specs.Unread.{without_name};
 ghost use Rattle.desktop_definitions.specs.Shown.{selection_in, shown_screen};
-ghost use Rattle.desktop_definitions.specs.Sound.{IsOver};
+ghost use Rattle.desktop_definitions.specs.Unread.{without_name};
 ghost use Rattle.desktop_definitions.specs.Viewers.{text_of};
 ghost use Rattle.screen_cells.specs.Lines.{AreLinesOf};
-ghost use Rattle.desk_core.specs.Kept.{kept};
-ghost use Rattle.desk_core.specs.Stops.{IsStop};
+ghost use Rattle.desk_core.specs.Words.{FailsAs, OnlyReads, flat, AreWithin, DEPTH, IsPlaced, stack_of, seen, IsOver};
+ghost use Rattle.desk_core.specs.Words.{kept, IsStop};
 ghost use Rattle.desk_views.specs.Views.{view_in, kept_view, shown_view, AreThere};
 
 use char_file::CharSource;

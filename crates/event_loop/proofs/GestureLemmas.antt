@@ -1,5 +1,5 @@
 -- The table of gestures, region by region.
-use Rattle.std.specs.Prelude.{◌≡◌, ◌||◌, not, ℕ, Bool, true, List, [], Option, Some, None, is_none}
+use Rattle.std.specs.Prelude.{◌≡◌, ◌<◌, ◌&&◌, ◌||◌, not, ℕ, Bool, true, List, [], Option, Some, None, is_none}
 use Rattle.std.specs.Prelude.{Result, Ok, IfOk}
 use Rattle.std.proofs.lemmas.Result.{IfOk-weaker}
 use Rattle.std.proofs.Common.{refl, sym, ap, subst, ◌∙◌}
@@ -19,11 +19,20 @@ use Rattle.desktop_definitions.specs.Seen.{seen}
 use Rattle.desktop_definitions.specs.Step.{settled}
 use Rattle.desktop_definitions.specs.Outcome.{IsAnswered}
 use Rattle.desktop_definitions.specs.Gesture.{region_at, frame_row, pointed, scrolled_to_row, scrolled_to_share}
+use Rattle.desktop_definitions.specs.Gesture.{is_on_display}
+use Rattle.viewer_tracks.specs.declared.display.TheConstants.{COLUMNS, ROWS}
 use Rattle.desk_core.specs.Mouse.{done_in_filler, done_in_menu, done_in_bar, done_at, done_with}
 use Rattle.desktop_definitions.specs.Viewers.{newest}
 use Rattle.desktop_laws.specs.KeyLaws.{copied_to_none, looks_taken_none}
 use Rattle.desk_core.specs.declared.stop.Stop.{Stop}
+use Rattle.desk_core.proofs.MarkLemmas.{both_inside}
 use Rattle.desk_core.proofs.PositionLemmas.{region_seen}
+
+-- ---- where both cells are on the display
+
+pub cells_inside : (from to : ℕ × ℕ) {both : Bool} → both ≡ (is_on_display from.0 from.1 && is_on_display to.0 to.1)
+    → both ≡ true → ((from.0 < COLUMNS) × (from.1 < ROWS)) × ((to.0 < COLUMNS) × (to.1 < ROWS))
+cells_inside from to same is = both_inside from.0 from.1 to.0 to.1 (sym same ∙ is)
 
 -- ---- what isn't in the table
 

@@ -1,28 +1,20 @@
 //! The desktop.
 ghost use Rattle.std.specs.Prelude.{◌≡◌, ℕ, List, [], length, Ok, IfOk, IfSome, OnOk, IsErrOf, option_map};
-ghost use Rattle.sector_disk.specs.Faults.{FailsAs};
-ghost use Rattle.char_file.specs.Source.{OnlyReads};
-ghost use Rattle.piece_ring.specs.Flat.{flat};
-ghost use Rattle.piece_ring.specs.Offsets.{AreWithin};
-ghost use Rattle.readers_scanners.specs.Reading.{contents};
-ghost use Rattle.desk_image.specs.Image.{Spells};
-ghost use Rattle.desk_image.specs.Passing.{OnlyGets};
-ghost use Rattle.desk_image.specs.Streams.{IsImageFault};
+ghost use Rattle.readers_scanners.specs.Words.{contents};
+ghost use Rattle.command_table.specs.Versions.{version_number, newest_version};
 ghost use Rattle.desktop_definitions.specs.declared.reply.Reply.TheVariants.{No};
 ghost use Rattle.desktop_definitions.specs.Desktop.{KeptDesktop, empty_desktop, file_of};
-ghost use Rattle.desktop_definitions.specs.Seen.{seen};
 ghost use Rattle.desktop_definitions.specs.Step.{step_in};
-ghost use Rattle.command_table.specs.Versions.{version_number, newest_version};
 ghost use Rattle.desktop_definitions.specs.Unread.{StepsUnread, ListsUnread};
-ghost use Rattle.desktop_definitions.specs.Sound.{IsKeptWhole, IsOver};
 ghost use Rattle.desktop_definitions.specs.Outcome.{IsReply, IsUnchanged, IsSameSource};
 ghost use Rattle.desktop_definitions.specs.Listing.{entries_of};
 ghost use Rattle.desktop_definitions.specs.Shown.{shown_screen};
-ghost use Rattle.desk_image.specs.Streams.{Puts};
-ghost use Rattle.desk_image.specs.Image.{image_of, image_bytes, IsSpellable};
-ghost use Rattle.desk_core.specs.Stops.{IsStop};
+ghost use Rattle.desk_image.specs.Streams.{Puts, IsImageFault};
+ghost use Rattle.desk_image.specs.Image.{Spells, image_of, image_bytes, IsSpellable};
+ghost use Rattle.desk_image.specs.Passing.{OnlyGets};
 ghost use Rattle.desktop_definitions.specs.Viewers.{text_of};
 ghost use Rattle.screen_cells.specs.Lines.{AreLinesOf};
+ghost use Rattle.desk_core.specs.Words.{FailsAs, OnlyReads, flat, AreWithin, seen, IsKeptWhole, IsOver, IsStop};
 
 use crate::events::act;
 use crate::stale::{forget, stale_from, stale_of};

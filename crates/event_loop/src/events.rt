@@ -1,21 +1,10 @@
 //! What each kind of event does.
-ghost use Rattle.std.specs.Prelude.{◌<◌, IfOk};
+ghost use Rattle.std.specs.Prelude.{◌≡◌, ◌+◌, ◌<◌, ◌≤◌, ◌^◌, ℕ, List, length, IsTrue, IfOk};
 ghost use Rattle.event_bytes.specs.declared.event.Event.TheVariants.{File};
-ghost use Rattle.desktop_definitions.specs.Limits.{newest_version};
-ghost use Rattle.command_table.specs.Versions.{version_number};
-ghost use Rattle.desktop_definitions.specs.Step.{raw};
+ghost use Rattle.command_table.specs.Versions.{version_number, newest_version};
+ghost use Rattle.desktop_definitions.specs.Step.{raw, fits, filed};
 ghost use Rattle.desktop_definitions.specs.Unread.{StepsUnread};
-ghost use Rattle.desktop_definitions.specs.Sound.{IsOver};
-ghost use Rattle.desk_core.specs.Kept.{kept};
-ghost use Rattle.desk_core.specs.Row.{Settles, Uses};
-ghost use Rattle.std.specs.Prelude.{◌+◌};
-ghost use Rattle.std.specs.Prelude.{◌≡◌, ◌≤◌, ◌^◌, ℕ, List, length, IsTrue};
-ghost use Rattle.piece_ring.specs.Text.{Text as AText};
-ghost use Rattle.desktop_definitions.specs.Limits.{most_written};
-ghost use Rattle.desktop_definitions.specs.Desktop.{held};
-ghost use Rattle.desktop_definitions.specs.Seen.{seen};
-ghost use Rattle.desktop_definitions.specs.Step.{fits, filed};
-ghost use Rattle.desktop_definitions.specs.Sound.{IsKeptWhole};
+ghost use Rattle.desk_core.specs.Words.{Text as AText, most_written, seen, IsKeptWhole, IsOver, kept, Settles, Uses};
 
 use crate::gestures::point;
 use char_file::CharSource;
@@ -23,7 +12,7 @@ use command_table::Version;
 use desk_core::desk::Desk;
 use desk_core::files::{has_room, length_of, put};
 use desk_core::held::within_limits;
-use desk_core::stop::Stop;
+use desk_core::stop::StepResult;
 use desk_input::keys::{press, type_bytes};
 use desktop_definitions::{Reply, codes};
 use event_bytes::{Event, FileBytes, Name};
@@ -32,13 +21,14 @@ use std::alloc::Global;
 use text_core::Text;
 
 /// Does the event, in a version of the table of commands.
+#[tactic(auto, unfolding(desktop_definitions::specs::Step::raw))]
 pub fn act<S: CharSource>(
     desk: &mut Desk,
     version: Version,
     alloc: Global,
     event: &Event,
     source: &mut S,
-) -> Result<Reply, Stop>
+) -> StepResult
     requires { IsOver (S.characters source.old) (kept desk.old) }
     ensures answered { IfOk result (Settles S.CharSource (λ d. raw (version_number version) d event.now)
         source.old source.new (kept desk.old) (kept desk.new)) }
@@ -67,7 +57,7 @@ fn put_file<S: CharSource>(
     name: &Name,
     bytes: &FileBytes,
     source: &mut S,
-) -> Result<Reply, Stop>
+) -> StepResult
     requires { IsOver (S.characters source.old) (kept desk.old) }
     ensures answered { IfOk result (Settles S.CharSource (λ d. raw newest_version d (File name.now bytes.now))
         source.old source.new (kept desk.old) (kept desk.new)) }

@@ -1,23 +1,17 @@
 //! What the mouse does, by the region in which its keys went down. A gesture that isn't in the table is done and
 //! changes nothing.
-ghost use Rattle.std.specs.Prelude.{◌≡◌, ◌<◌, ◌≤◌, ◌&&◌, ◌||◌, not, length, true, false, IfOk};
-ghost use Rattle.piece_ring.specs.Flat.{flat};
-ghost use Rattle.viewer_tracks.specs.declared.display.TheConstants.{ROWS, COLUMNS};
-ghost use Rattle.viewer_tracks.specs.Columns.{IsOnTop};
+ghost use Rattle.std.specs.Prelude.{◌≡◌, ◌<◌, ◌≤◌, ◌&&◌, ◌||◌, not, true, false, IfOk};
 ghost use Rattle.desktop_definitions.specs.declared.region.Region.TheVariants.{Filler, Menu, Bar, Body};
-ghost use Rattle.desktop_definitions.specs.Needs.{unless};
 ghost use Rattle.desktop_definitions.specs.Limits.{outside};
-ghost use Rattle.command_table.specs.Versions.{version_number};
-ghost use Rattle.desktop_definitions.specs.Viewers.{text_in, viewer_or_none, rows_of};
-ghost use Rattle.desktop_definitions.specs.Commands.{called};
 ghost use Rattle.desktop_definitions.specs.Gesture.{is_on_display, region_at, menu_position, text_position};
 ghost use Rattle.desktop_definitions.specs.Gesture.{stretch_drawn, pointed};
-ghost use Rattle.desktop_definitions.specs.Seen.{seen};
+ghost use Rattle.desktop_definitions.specs.Commands.{called};
 ghost use Rattle.desktop_definitions.specs.Unread.{gesture_needs_no_byte, gesture_brings};
-ghost use Rattle.desktop_definitions.specs.Sound.{IsOver};
-ghost use Rattle.desk_core.specs.Kept.{kept};
-ghost use Rattle.desk_core.specs.Row.{Settles, SettlesUnread, SettlesBringing, Uses};
 ghost use Rattle.desk_core.specs.Mouse.{done_in_filler, done_in_menu, done_in_bar, done_at, done_with};
+ghost use Rattle.desk_core.specs.Words.{COLUMNS, ROWS, IsOnTop, unless, seen, IsOver, kept, IsPosition, Settles, Uses};
+ghost use Rattle.desk_core.specs.Words.{SettlesUnread, SettlesBringing};
+ghost use Rattle.desk_commands.specs.Words.{version_number};
+ghost use Rattle.desk_input.specs.Reads.{IsRow};
 
 use char_file::CharSource;
 use command_table::Version;
@@ -25,8 +19,8 @@ use desk_commands::calls::call;
 use desk_commands::documents::open_tool;
 use desk_core::desk::Desk;
 use desk_core::marks::are_on_display;
-use desk_core::stop::Stop;
-use desk_input::bars::{scroll_to_row, scroll_to_share, scroll_to_top};
+use desk_core::stop::StepResult;
+use desk_input::bars::{scroll_row, scroll_share, scroll_top};
 use desk_input::places::{frame_row, menu_position, region_under, stretch_drawn, text_position};
 use desk_input::stretches::{copy_to, send_to_caret, take_looks, take_out};
 use desktop_definitions::{Region, Reply, Selection, codes};
@@ -43,7 +37,7 @@ pub fn point<S: CharSource>(
     from: (u8, u8),
     to: (u8, u8),
     source: &mut S,
-) -> Result<Reply, Stop>
+) -> StepResult
     requires over { IsOver (S.characters source.old) (kept desk.old) }
     ensures answered { IfOk result (Settles S.CharSource (λ d.
         unless (is_on_display from.0 from.1 && is_on_display to.0 to.1) outside
@@ -80,10 +74,9 @@ fn point_filler<S: CharSource>(
     keys: Keys,
     cell: (u8, u8),
     source: &mut S,
-) -> Result<Reply, Stop>
-    requires column { cell.0 < COLUMNS }
-    requires row { cell.1 < ROWS }
+) -> StepResult
     requires over { IsOver (S.characters source.old) (kept desk.old) }
+    requires cell { (cell.0 < COLUMNS) × (cell.1 < ROWS) }
     ensures answered { IfOk result (Settles S.CharSource (λ d. done_in_filler d keys cell.0 cell.1)
         source.old source.new (kept desk.old) (kept desk.new)) }
     ensures unread { IfOk result (SettlesBringing (gesture_brings Filler keys)
@@ -106,11 +99,10 @@ fn point_menu<S: CharSource>(
     id: u16,
     cell: (u8, u8),
     source: &mut S,
-) -> Result<Reply, Stop>
-    requires column { cell.0 < COLUMNS }
-    requires row { cell.1 < ROWS }
-    requires placed { IsOnTop id (kept desk.old).columns }
+) -> StepResult
     requires over { IsOver (S.characters source.old) (kept desk.old) }
+    requires cell { (cell.0 < COLUMNS) × (cell.1 < ROWS) }
+    requires placed { IsOnTop id (kept desk.old).columns }
     ensures answered { IfOk result
         (Settles S.CharSource (λ d. done_in_menu (version_number version) d keys id cell.0 cell.1)
         source.old source.new (kept desk.old) (kept desk.new)) }
@@ -135,9 +127,9 @@ fn call_in_menu<S: CharSource>(
     id: u16,
     x: u8,
     source: &mut S,
-) -> Result<Reply, Stop>
-    requires placed { IsOnTop id (kept desk.old).columns }
+) -> StepResult
     requires over { IsOver (S.characters source.old) (kept desk.old) }
+    requires placed { IsOnTop id (kept desk.old).columns }
     ensures answered { IfOk result (Settles S.CharSource
         (λ d. called (version_number version) d id true (menu_position d id x))
         source.old source.new (kept desk.old) (kept desk.new)) }
@@ -155,10 +147,8 @@ fn point_bar<S: CharSource>(
     id: u16,
     row: u8,
     source: &mut S,
-) -> Result<Reply, Stop>
-    requires placed { IsOnTop id (kept desk.old).columns }
-    requires row { row < rows_of (kept desk.old) id }
-    requires over { IsOver (S.characters source.old) (kept desk.old) }
+) -> StepResult
+    requires at { IsRow (S.characters source.old) (kept desk.old) id row }
     ensures answered { IfOk result (Settles S.CharSource (λ d. done_in_bar d keys id row)
         source.old source.new (kept desk.old) (kept desk.new)) }
     ensures unread { gesture_needs_no_byte (kept desk.old) (Bar id) keys ≡ true
@@ -167,9 +157,9 @@ fn point_bar<S: CharSource>(
     ensures uses { Uses S.CharSource result source.old source.new }
 {
     match keys {
-        Keys::Left => scroll_to_row(desk, id, row, source),
-        Keys::Middle => scroll_to_share(desk, id, row, source),
-        Keys::Right => scroll_to_top(desk, id, source),
+        Keys::Left => scroll_row(desk, id, row, source),
+        Keys::Middle => scroll_share(desk, id, row, source),
+        Keys::Right => scroll_top(desk, id, source),
         _ => Ok(Reply::Done),
     }
 }
@@ -185,10 +175,8 @@ fn point_text<S: CharSource>(
     from: (u8, u8),
     to: (u8, u8),
     source: &mut S,
-) -> Result<Reply, Stop>
-    requires placed { IsOnTop id (kept desk.old).columns }
-    requires some { 0 < rows_of (kept desk.old) id }
-    requires over { IsOver (S.characters source.old) (kept desk.old) }
+) -> StepResult
+    requires at { IsRow (S.characters source.old) (kept desk.old) id 0 }
     ensures answered { IfOk result (Settles S.CharSource
         (λ d. pointed (version_number version) d (Body id) keys from.0 from.1 to.0 to.1)
         source.old source.new (kept desk.old) (kept desk.new)) }
@@ -217,10 +205,8 @@ fn point_cell<S: CharSource>(
     id: u16,
     cell: (u8, u8),
     source: &mut S,
-) -> Result<Reply, Stop>
-    requires placed { IsOnTop id (kept desk.old).columns }
-    requires some { 0 < rows_of (kept desk.old) id }
-    requires over { IsOver (S.characters source.old) (kept desk.old) }
+) -> StepResult
+    requires at { IsRow (S.characters source.old) (kept desk.old) id 0 }
     ensures answered { IfOk result (Settles S.CharSource
         (λ d. done_at (version_number version) d keys id (text_position d id cell.0 cell.1))
         source.old source.new (kept desk.old) (kept desk.new)) }
@@ -243,11 +229,9 @@ fn point_position<S: CharSource>(
     id: u16,
     pos: u32,
     source: &mut S,
-) -> Result<Reply, Stop>
-    requires placed { IsOnTop id (kept desk.old).columns }
-    requires place { pos ≤ length (flat (text_in (kept desk.old).texts
-        (viewer_or_none (kept desk.old).viewers id).main)) }
+) -> StepResult
     requires over { IsOver (S.characters source.old) (kept desk.old) }
+    requires at { IsPosition (kept desk.old) id pos }
     ensures answered { IfOk result (Settles S.CharSource (λ d. done_at (version_number version) d keys id pos)
         source.old source.new (kept desk.old) (kept desk.new)) }
     ensures unread { gesture_needs_no_byte (kept desk.old) (Body id) keys ≡ true → IfOk result (SettlesUnread
@@ -263,28 +247,6 @@ fn point_position<S: CharSource>(
     }
 }
 
-/// With the stretch that was drawn between two cells of a viewer.
-fn draw<S: CharSource>(
-    desk: &mut Desk,
-    alloc: Global,
-    keys: Keys,
-    id: u16,
-    from: (u8, u8),
-    to: (u8, u8),
-    source: &mut S,
-) -> Result<Reply, Stop>
-    requires placed { IsOnTop id (kept desk.old).columns }
-    requires some { 0 < rows_of (kept desk.old) id }
-    requires over { IsOver (S.characters source.old) (kept desk.old) }
-    ensures answered { IfOk result (Settles S.CharSource (λ d.
-        done_with d keys (stretch_drawn d id from.0 from.1 to.0 to.1))
-        source.old source.new (kept desk.old) (kept desk.new)) }
-    ensures uses { Uses S.CharSource result source.old source.new }
-{
-    let drawn = stretch_drawn(desk, id, from, to, source)?;
-    point_stretch(desk, alloc, keys, drawn, source)
-}
-
 /// With a stretch of a viewer's main text.
 #[tactic(auto, unfolding(desk_core::specs::Mouse::done_with))]
 fn point_stretch<S: CharSource>(
@@ -293,11 +255,9 @@ fn point_stretch<S: CharSource>(
     keys: Keys,
     drawn: Selection,
     source: &mut S,
-) -> Result<Reply, Stop>
-    requires placed { IsOnTop drawn.viewer (kept desk.old).columns }
-    requires place { drawn.end ≤ length (flat (text_in (kept desk.old).texts
-        (viewer_or_none (kept desk.old).viewers drawn.viewer).main)) }
+) -> StepResult
     requires over { IsOver (S.characters source.old) (kept desk.old) }
+    requires at { IsPosition (kept desk.old) drawn.viewer drawn.end }
     ensures answered { IfOk result (Settles S.CharSource (λ d. done_with d keys drawn)
         source.old source.new (kept desk.old) (kept desk.new)) }
     ensures uses { Uses S.CharSource result source.old source.new }
@@ -308,4 +268,24 @@ fn point_stretch<S: CharSource>(
         Keys::RightMiddle => send_to_caret(desk, alloc, drawn, source),
         _ => Ok(Reply::Done),
     }
+}
+
+/// With the stretch that was drawn between two cells of a viewer.
+fn draw<S: CharSource>(
+    desk: &mut Desk,
+    alloc: Global,
+    keys: Keys,
+    id: u16,
+    from: (u8, u8),
+    to: (u8, u8),
+    source: &mut S,
+) -> StepResult
+    requires at { IsRow (S.characters source.old) (kept desk.old) id 0 }
+    ensures answered { IfOk result (Settles S.CharSource (λ d.
+        done_with d keys (stretch_drawn d id from.0 from.1 to.0 to.1))
+        source.old source.new (kept desk.old) (kept desk.new)) }
+    ensures uses { Uses S.CharSource result source.old source.new }
+{
+    let drawn = stretch_drawn(desk, id, from, to, source)?;
+    point_stretch(desk, alloc, keys, drawn, source)
 }

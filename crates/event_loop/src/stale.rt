@@ -32,11 +32,11 @@ pub fn stale_of(desk: &Desk, event: &Event) -> Stale
         Event::Mark { x: _, y: _ } => Stale::Nothing,
         Event::Point {
             keys,
-            x0,
-            y0,
-            x1,
-            y1,
-        } => stale_by_point(desk, *keys, (*x0, *y0), (*x1, *y1)),
+            x0: from_x,
+            y0: from_y,
+            x1: to_x,
+            y1: to_y,
+        } => stale_by_point(desk, *keys, (*from_x, *from_y), (*to_x, *to_y)),
         Event::File { name: _, bytes: _ } => Stale::Nothing,
     }
 }

@@ -2,7 +2,7 @@
 use Rattle.std.proofs.Common.{◌≡◌, ℕ, ◌+◌, ◌-◌, ◌<◌, ◌≤◌, List, [], ◌++◌, Option, refl, sym, ap, ◌∙◌, arith, subst}
 use Rattle.std.proofs.Common.{append-nil, drop, length, get_or, add-one, suc}
 use Rattle.std.proofs.Math.Seq.{drop-cons}
-use Rattle.std.specs.Prelude.{Bool, true, if◌then◌else◌, OnErr, OnOk, Result}
+use Rattle.std.specs.Prelude.{Bool, true, if◌then◌else◌, IsErrAnd, Result, Ok, Err}
 use Rattle.std.specs.Io.KnownBytes.{Appends, Keeps}
 use Rattle.std.proofs.KnownBytes.{Appends-kept, Keeps-refl}
 use Rattle.std.specs.List.{flat_map, range_with_len}
@@ -11,17 +11,20 @@ use Rattle.output_bytes.specs.Sent.{AppendsFront}
 use Rattle.output_bytes.proofs.Taking.{HasTaken, front_part, taken_all, taken_none, taken_part}
 use Rattle.terminal_painting.specs.declared.face.Face.{Face}
 use Rattle.terminal_painting.specs.declared.pen.Pen.{Pen}
+use Rattle.screen_drawing.specs.Draws.{Draws}
 use Rattle.screen_drawing.specs.Drawn.{drawn_start, drawn_stretch, is_start, pen_at, stretch_at}
 use Rattle.screen_drawing.specs.Spelling.{joined}
 
 -- the same text in other words
-pub sent_as : {T E : Type 0} (r : Result T E) (old new : Option (List ℕ)) (text same : List ℕ) → text ≡ same
-    → OnOk r (Appends old new text) → OnOk r (Appends old new same)
-sent_as r old new text same is sent = subst (λ t. OnOk r (Appends old new t)) is sent
+pub drawn_as : {T E : Type 0} (r : Result T E) (old new : Option (List ℕ)) (text same : List ℕ) → text ≡ same
+    → Draws r old new text → Draws r old new same
+drawn_as r old new text same is drawn = subst (λ t. Draws r old new t) is drawn
 
-pub front_as : {T E : Type 0} (r : Result T E) (old new : Option (List ℕ)) (text same : List ℕ) → text ≡ same
-    → OnErr r (AppendsFront old new text) → OnErr r (AppendsFront old new same)
-front_as r old new text same is front = subst (λ t. OnErr r (AppendsFront old new t)) is front
+-- where a part wasn't drawn whole
+pub front_drawn : {T E : Type 0} (r : Result T E) (Q : E → Type 0) (old new : Option (List ℕ)) (text : List ℕ)
+    → IsErrAnd r Q → AppendsFront old new text → Draws r old new text
+front_drawn (Ok x) Q old new text is front = absurd is
+front_drawn (Err e) Q old new text is front = front
 
 -- a part more of what is left, or a front of it
 pub next_taken : (old mid new : Option (List ℕ)) (text left part rest : List ℕ) → left ≡ part ++ rest
@@ -80,6 +83,12 @@ whole_front old mid new text now kept = record {
   parts = sym (append-nil text);
   taken = Appends-kept old mid new text now kept;
 }
+
+-- the second of two parts, once the first was drawn
+pub then_drawn : {T E : Type 0} (r : Result T E) (old mid new : Option (List ℕ)) (first second : List ℕ)
+    → Appends old mid first → Draws r mid new second → Draws r old new (first ++ second)
+then_drawn (Ok x) old mid new first second one two = both_taken old mid new first second one two
+then_drawn (Err e) old mid new first second one two = second_front old mid new first second one two
 
 -- the pieces from an index on
 pub next_piece : (pieces : List (Bor (List ℕ))) (i : ℕ) (d : Bor (List ℕ)) → i < length pieces

@@ -9,8 +9,9 @@ ghost use Rattle.screen_drawing.specs.Drawn.{drawn_rows, drawn_paper, drawn_star
 ghost use Rattle.screen_drawing.specs.Drawn.{is_bare, is_in_another, is_ruled, is_start, pen_at, stretch_at};
 ghost use Rattle.screen_drawing.specs.Drawn.{are_spaces, stretch_length};
 ghost use Rattle.screen_drawing.specs.Spelling.{caret_width, cell_height, cell_width};
+ghost use Rattle.screen_drawing.specs.Draws.{Draws};
 
-use crate::pieces::send_all;
+use crate::pieces::{Drawing, send_all};
 use crate::shapes::{Area, paper_cells, rectangle, text_cells};
 use crate::spelling::{CARET_WIDTH, CELL_HEIGHT, CELL_WIDTH, digits};
 use output_bytes::{OutputFault, flush, send};
@@ -22,6 +23,9 @@ use viewer_tracks::{COLUMNS, ROWS};
 const COLUMN_COUNT: usize = COLUMNS as usize;
 
 const ROW_COUNT: usize = ROWS as usize;
+
+/// The rows of a screen, from the bottom up.
+type Rows = [[Cell; COLUMN_COUNT]; ROW_COUNT];
 
 /// The width of the drawing, in units.
 const WIDTH: u16 = 720;
@@ -49,9 +53,8 @@ pub fn draw<W: Write>(
 }
 
 /// Begins the drawing: its size, and the font.
-fn draw_heading<W: Write>(writer: &mut W) -> Result<(), OutputFault>
-    ensures drawn { OnOk result (Appends (W.contents writer.old) (W.contents writer.new) heading) }
-    ensures front { OnErr result (AppendsFront (W.contents writer.old) (W.contents writer.new) heading) }
+fn draw_heading<W: Write>(writer: &mut W) -> Drawing
+    ensures { Draws result (W.contents writer.old) (W.contents writer.new) heading }
 {
     let width = digits(WIDTH);
     let height = digits(HEIGHT);
@@ -72,9 +75,8 @@ fn draw_heading<W: Write>(writer: &mut W) -> Result<(), OutputFault>
 }
 
 /// Draws white paper.
-fn draw_background<W: Write>(writer: &mut W) -> Result<(), OutputFault>
-    ensures drawn { OnOk result (Appends (W.contents writer.old) (W.contents writer.new) background) }
-    ensures front { OnErr result (AppendsFront (W.contents writer.old) (W.contents writer.new) background) }
+fn draw_background<W: Write>(writer: &mut W) -> Drawing
+    ensures { Draws result (W.contents writer.old) (W.contents writer.new) background }
 {
     let area = Area {
         x: 0,
@@ -86,13 +88,8 @@ fn draw_background<W: Write>(writer: &mut W) -> Result<(), OutputFault>
 }
 
 /// Draws the rows, from the top.
-fn draw_rows<W: Write>(
-    writer: &mut W,
-    screen: &[[Cell; COLUMN_COUNT]; ROW_COUNT],
-) -> Result<(), OutputFault>
-    ensures drawn { OnOk result (Appends (W.contents writer.old) (W.contents writer.new) (drawn_rows screen.now)) }
-    ensures front { OnErr result
-        (AppendsFront (W.contents writer.old) (W.contents writer.new) (drawn_rows screen.now)) }
+fn draw_rows<W: Write>(writer: &mut W, screen: &Rows) -> Drawing
+    ensures { Draws result (W.contents writer.old) (W.contents writer.new) (drawn_rows screen.now) }
 {
     for y in 0..ROWS {
         draw_row(writer, y, screen)?;
@@ -102,31 +99,17 @@ fn draw_rows<W: Write>(
 
 /// Draws a row, given from the top.
 #[tactic(auto, unfolding(crate::specs::Drawn::drawn_row))]
-fn draw_row<W: Write>(
-    writer: &mut W,
-    y: u8,
-    screen: &[[Cell; COLUMN_COUNT]; ROW_COUNT],
-) -> Result<(), OutputFault>
+fn draw_row<W: Write>(writer: &mut W, y: u8, screen: &Rows) -> Drawing
     requires { y < rows }
-    ensures drawn { OnOk result (Appends (W.contents writer.old) (W.contents writer.new) (drawn_row screen.now y)) }
-    ensures front { OnErr result
-        (AppendsFront (W.contents writer.old) (W.contents writer.new) (drawn_row screen.now y)) }
+    ensures { Draws result (W.contents writer.old) (W.contents writer.new) (drawn_row screen.now y) }
 {
     let cells = &screen[usize::from(ROWS - 1 - y)];
     draw_cells(writer, y, cells, &row_of_cells(cells))
 }
 
 /// Draws the cells of a row, from the left.
-fn draw_cells<W: Write>(
-    writer: &mut W,
-    y: u8,
-    cells: &[Cell; COLUMN_COUNT],
-    row: &Row,
-) -> Result<(), OutputFault>
-    ensures drawn { OnOk result
-        (Appends (W.contents writer.old) (W.contents writer.new) (drawn_cells y cells.now row.now)) }
-    ensures front { OnErr result
-        (AppendsFront (W.contents writer.old) (W.contents writer.new) (drawn_cells y cells.now row.now)) }
+fn draw_cells<W: Write>(writer: &mut W, y: u8, cells: &[Cell; COLUMN_COUNT], row: &Row) -> Drawing
+    ensures { Draws result (W.contents writer.old) (W.contents writer.new) (drawn_cells y cells.now row.now) }
 {
     for x in 0..COLUMNS {
         draw_column(writer, (x, y), cells, row)?;
@@ -140,12 +123,10 @@ fn draw_column<W: Write>(
     place: (u8, u8),
     cells: &[Cell; COLUMN_COUNT],
     row: &Row,
-) -> Result<(), OutputFault>
+) -> Drawing
     requires { place.0 < columns }
-    ensures drawn { OnOk result (Appends (W.contents writer.old) (W.contents writer.new)
-        (drawn_column place.1 cells.now row.now place.0)) }
-    ensures front { OnErr result (AppendsFront (W.contents writer.old) (W.contents writer.new)
-        (drawn_column place.1 cells.now row.now place.0)) }
+    ensures { Draws result (W.contents writer.old) (W.contents writer.new)
+        (drawn_column place.1 cells.now row.now place.0) }
 {
     draw_start(writer, place, row)?;
     draw_caret(writer, place, mark_at(cells, place.0))
@@ -160,12 +141,9 @@ fn mark_at(cells: &[Cell; COLUMN_COUNT], x: u8) -> Mark
 }
 
 /// Draws the stretch of cells in one pen that begins at a column, if one does.
-fn draw_start<W: Write>(writer: &mut W, place: (u8, u8), row: &Row) -> Result<(), OutputFault>
+fn draw_start<W: Write>(writer: &mut W, place: (u8, u8), row: &Row) -> Drawing
     requires { place.0 < columns }
-    ensures drawn { OnOk result (Appends (W.contents writer.old) (W.contents writer.new)
-        (drawn_start place.1 row.now place.0)) }
-    ensures front { OnErr result (AppendsFront (W.contents writer.old) (W.contents writer.new)
-        (drawn_start place.1 row.now place.0)) }
+    ensures { Draws result (W.contents writer.old) (W.contents writer.new) (drawn_start place.1 row.now place.0) }
 {
     if !is_start(row, place.0) {
         return Ok(());
@@ -221,33 +199,18 @@ fn other_pen(faces: &[Face], pen: Pen) -> Option<usize>
 }
 
 /// Draws cells of one pen from a column on: their paper where it isn't white, and their text where there is one.
-fn draw_stretch<W: Write>(
-    writer: &mut W,
-    place: (u8, u8),
-    faces: &[Face],
-    pen: Pen,
-) -> Result<(), OutputFault>
+fn draw_stretch<W: Write>(writer: &mut W, place: (u8, u8), faces: &[Face], pen: Pen) -> Drawing
     requires { length faces.now ≤ 80 }
-    ensures drawn { OnOk result (Appends (W.contents writer.old) (W.contents writer.new)
-        (drawn_stretch place.0 place.1 faces.now pen)) }
-    ensures front { OnErr result (AppendsFront (W.contents writer.old) (W.contents writer.new)
-        (drawn_stretch place.0 place.1 faces.now pen)) }
+    ensures { Draws result (W.contents writer.old) (W.contents writer.new)
+        (drawn_stretch place.0 place.1 faces.now pen) }
 {
     draw_paper(writer, place, faces.len() as u8, pen.paper)?;
     draw_text(writer, place, faces, pen)
 }
 
 /// Draws the background of cells, if it isn't white.
-fn draw_paper<W: Write>(
-    writer: &mut W,
-    place: (u8, u8),
-    columns: u8,
-    paper: u8,
-) -> Result<(), OutputFault>
-    ensures drawn { OnOk result (Appends (W.contents writer.old) (W.contents writer.new)
-        (drawn_paper place.0 place.1 columns paper)) }
-    ensures front { OnErr result (AppendsFront (W.contents writer.old) (W.contents writer.new)
-        (drawn_paper place.0 place.1 columns paper)) }
+fn draw_paper<W: Write>(writer: &mut W, place: (u8, u8), columns: u8, paper: u8) -> Drawing
+    ensures { Draws result (W.contents writer.old) (W.contents writer.new) (drawn_paper place.0 place.1 columns paper) }
 {
     if paper == WHITE {
         return Ok(());
@@ -256,17 +219,9 @@ fn draw_paper<W: Write>(
 }
 
 /// Draws the characters of cells of one pen, if there is anything to see of them.
-fn draw_text<W: Write>(
-    writer: &mut W,
-    place: (u8, u8),
-    faces: &[Face],
-    pen: Pen,
-) -> Result<(), OutputFault>
+fn draw_text<W: Write>(writer: &mut W, place: (u8, u8), faces: &[Face], pen: Pen) -> Drawing
     requires { length faces.now ≤ 80 }
-    ensures drawn { OnOk result (Appends (W.contents writer.old) (W.contents writer.new)
-        (drawn_text place.0 place.1 faces.now pen)) }
-    ensures front { OnErr result (AppendsFront (W.contents writer.old) (W.contents writer.new)
-        (drawn_text place.0 place.1 faces.now pen)) }
+    ensures { Draws result (W.contents writer.old) (W.contents writer.new) (drawn_text place.0 place.1 faces.now pen) }
 {
     if is_bare(faces, pen) {
         return Ok(());
@@ -299,11 +254,8 @@ fn are_spaces(faces: &[Face]) -> bool
 }
 
 /// Draws the caret, if there is one.
-fn draw_caret<W: Write>(writer: &mut W, place: (u8, u8), mark: Mark) -> Result<(), OutputFault>
-    ensures drawn { OnOk result (Appends (W.contents writer.old) (W.contents writer.new)
-        (drawn_caret place.0 place.1 mark)) }
-    ensures front { OnErr result (AppendsFront (W.contents writer.old) (W.contents writer.new)
-        (drawn_caret place.0 place.1 mark)) }
+fn draw_caret<W: Write>(writer: &mut W, place: (u8, u8), mark: Mark) -> Drawing
+    ensures { Draws result (W.contents writer.old) (W.contents writer.new) (drawn_caret place.0 place.1 mark) }
 {
     match mark {
         Mark::Caret => rectangle(writer, caret_area(place), BLACK),

@@ -1,13 +1,11 @@
 //! Rectangles and texts of a drawing.
-ghost use Rattle.std.specs.Prelude.{◌≡◌, ◌<◌, ◌≤◌, length, OnOk, OnErr};
-ghost use Rattle.std.specs.Io.KnownBytes.{Appends};
-ghost use Rattle.output_bytes.specs.Sent.{AppendsFront};
+ghost use Rattle.std.specs.Prelude.{◌≡◌, ◌<◌, ◌≤◌, length};
 ghost use Rattle.terminal_painting.specs.declared.face.Face.{Face as AFace};
+ghost use Rattle.screen_drawing.specs.Draws.{Draws};
 ghost use Rattle.screen_drawing.specs.Drawn.{paper_cells, rectangle, rule_text, slant_text, text_cells, weight_text};
 
-use crate::pieces::send_all;
+use crate::pieces::{Drawing, send_all};
 use crate::spelling::{BASELINE, CELL_HEIGHT, CELL_WIDTH, colour_code, digits, escaped};
-use output_bytes::OutputFault;
 use std::io::Write;
 use terminal_painting::{Face, Pen, Rule, Weight};
 
@@ -21,11 +19,9 @@ pub(crate) struct Area {
 }
 
 /// Draws a rectangle in a colour of the terminal.
-pub(crate) fn rectangle<W: Write>(writer: &mut W, area: Area, colour: u8) -> Result<(), OutputFault>
-    ensures drawn { OnOk result (Appends (W.contents writer.old) (W.contents writer.new)
-        (rectangle area.x area.y area.width area.height colour)) }
-    ensures front { OnErr result (AppendsFront (W.contents writer.old) (W.contents writer.new)
-        (rectangle area.x area.y area.width area.height colour)) }
+pub(crate) fn rectangle<W: Write>(writer: &mut W, area: Area, colour: u8) -> Drawing
+    ensures { Draws result (W.contents writer.old) (W.contents writer.new)
+        (rectangle area.x area.y area.width area.height colour) }
 {
     send_all(
         writer,
@@ -51,11 +47,8 @@ pub(crate) fn paper_cells<W: Write>(
     place: (u8, u8),
     columns: u8,
     paper: u8,
-) -> Result<(), OutputFault>
-    ensures drawn { OnOk result (Appends (W.contents writer.old) (W.contents writer.new)
-        (paper_cells place.0 place.1 columns paper)) }
-    ensures front { OnErr result (AppendsFront (W.contents writer.old) (W.contents writer.new)
-        (paper_cells place.0 place.1 columns paper)) }
+) -> Drawing
+    ensures { Draws result (W.contents writer.old) (W.contents writer.new) (paper_cells place.0 place.1 columns paper) }
 {
     let area = Area {
         x: CELL_WIDTH * u16::from(place.0),
@@ -72,12 +65,9 @@ pub(crate) fn text_cells<W: Write>(
     place: (u8, u8),
     faces: &[Face],
     pen: Pen,
-) -> Result<(), OutputFault>
+) -> Drawing
     requires { length faces.now ≤ 80 }
-    ensures drawn { OnOk result (Appends (W.contents writer.old) (W.contents writer.new)
-        (text_cells place.0 place.1 faces.now pen)) }
-    ensures front { OnErr result (AppendsFront (W.contents writer.old) (W.contents writer.new)
-        (text_cells place.0 place.1 faces.now pen)) }
+    ensures { Draws result (W.contents writer.old) (W.contents writer.new) (text_cells place.0 place.1 faces.now pen) }
 {
     let x = CELL_WIDTH * u16::from(place.0);
     let y = CELL_HEIGHT * u16::from(place.1) + BASELINE;

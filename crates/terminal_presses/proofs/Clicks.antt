@@ -184,3 +184,5 @@ pub control_click : (sight : Sight) (start end : Corner)
     (clicked (Keys keys.Right) sight start end ∷ [])
 unfolding handled unpasted fresh reported gone_down begun meant gone_up rested released released_at
 control_click sight start end = record { hand_is = refl; events_are = refl }
+
+pub ruleset clicks_of_one = (held_click, control_click)

@@ -63,3 +63,5 @@ pub name_called_off : (sight : Sight) (hand : Hand) (name : List ℕ)
     → handled sight Escape (asking name hand) ≡ (idle hand, Nothing)
 unfolding handled unpasted answered
 name_called_off sight hand name = refl
+
+pub ruleset names_said = (name_entered, name_called_off)

@@ -36,3 +36,5 @@ posted_of_both sight hand (press ∷ more) second =
     (posted_of_both sight (handled sight press hand).0 more second)
     ∙ sym (append_assoc (events_of (handled sight press hand).1) (posted sight (handled sight press hand).0 more)
     (posted sight (hand_after sight (handled sight press hand).0 more) second))
+
+pub ruleset of_both = (pressed_of_both, parser_of_both, posted_of_both, hand_of_both)

@@ -25,3 +25,5 @@ unfolding spot_in
 row_there sight column row is least most =
     let in_display = is.rows_in in
     omega (arith, in_display)
+
+pub ruleset spots_seen = (column_seen, row_seen, column_there, row_there)

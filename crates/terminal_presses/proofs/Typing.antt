@@ -254,21 +254,16 @@ goes_on (Some press) = not (ends_paste press)
 abbrev IsTyped : ℕ → Type 0
 IsTyped b = (option_map as_typed (said (single b)) ≡ typed_byte b) × (goes_on (single b) ≡ true)
 
-typed_27 : IsTyped 27
-unfolding single pasted_byte in_profile is_text_byte
-typed_27 = (refl, refl)
+-- the bytes of which each has a rule of its own
+record FollowTheirRules : Type 0 where
+  escape : IsTyped 27
+  back : IsTyped 8
+  delete : IsTyped 127
+  feed : IsTyped 10
 
-typed_8 : IsTyped 8
+ruled : FollowTheirRules
 unfolding single pasted_byte in_profile is_text_byte
-typed_8 = (refl, refl)
-
-typed_127 : IsTyped 127
-unfolding single pasted_byte in_profile is_text_byte
-typed_127 = (refl, refl)
-
-typed_10 : IsTyped 10
-unfolding single pasted_byte in_profile is_text_byte
-typed_10 = (refl, refl)
+ruled = record { escape = (refl, refl); back = (refl, refl); delete = (refl, refl); feed = (refl, refl) }
 
 text_profile : (b : ℕ) → is_text_byte b ≡ true → in_profile b ≡ b
 unfolding in_profile
@@ -302,16 +297,7 @@ typed_low : (b : ℕ) → nat_eq b 27 ≡ false → is_text_byte b ≡ false →
     → nat_lt b 32 ≡ true → nat_eq b 10 ≡ false → IsTyped b
 unfolding single pasted_byte
 typed_low b no_escape no_text no_back no_delete low no_feed = (
-  rw (
-    no_escape,
-    no_text,
-    no_back,
-    no_delete,
-    low,
-    no_feed,
-    low_no_follower b low,
-    other_profile b no_text,
-  ) refl,
+  rw (no_escape, no_text, no_back, no_delete, low, no_feed, low_no_follower b low, other_profile b no_text) refl,
   rw (no_escape, no_text, no_back, no_delete, low) refl,
 )
 
@@ -347,12 +333,12 @@ at_number b n is same = subst IsTyped (sym (eqb-true b n same)) is
 
 byte_typed : (b : ℕ) → IsTyped b
 byte_typed b =
-    by_test (nat_eq b 27) (at_number b 27 typed_27) (λ no_escape.
+    by_test (nat_eq b 27) (at_number b 27 ruled.escape) (λ no_escape.
     by_test (is_text_byte b) (typed_text b no_escape) (λ no_text.
-    by_test (nat_eq b 8) (at_number b 8 typed_8) (λ no_back.
-    by_test (nat_eq b 127) (at_number b 127 typed_127) (λ no_delete.
+    by_test (nat_eq b 8) (at_number b 8 ruled.back) (λ no_back.
+    by_test (nat_eq b 127) (at_number b 127 ruled.delete) (λ no_delete.
     by_test (nat_lt b 32) (λ low.
-    by_test (nat_eq b 10) (at_number b 10 typed_10) (typed_low b no_escape no_text no_back no_delete low)) (λ high.
+    by_test (nat_eq b 10) (at_number b 10 ruled.feed) (typed_low b no_escape no_text no_back no_delete low)) (λ high.
     by_test (nat_lt b 192) (typed_follower b no_escape no_text no_back no_delete high)
     (typed_high b no_escape no_text no_back no_delete high))))))
 

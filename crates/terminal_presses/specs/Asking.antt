@@ -40,16 +40,9 @@ controlled_name b name =
     (if b == 17 then (Some name, Leave) else (Some name, Ring))))
 
 unfoldable pub by_function_amid : FunctionKey → Action
-by_function_amid F1 = Ring
-by_function_amid F2 = Ring
-by_function_amid F3 = Ring
-by_function_amid F4 = Ring
-by_function_amid F5 = Ring
-by_function_amid F6 = Ring
-by_function_amid F7 = Ring
-by_function_amid F8 = Ring
 by_function_amid F9 = LookAnew
 by_function_amid F10 = Leave
+by_function_amid key = Ring
 
 -- what a press comes to while a name is asked for
 unfoldable pub answered : Press → List ℕ → Asked

@@ -53,29 +53,25 @@ pub record Makes (sight : Sight) (hand : Hand) (presses : List Press) (next : Ha
 abbrev pub Corner : Type 0
 Corner = ℕ × ℕ
 
--- a button goes down, with the keys Alt and Ctrl or without them
-abbrev pub down_with : Bool → Bool → Button → Corner → Press
-down_with alt control button at = Mouse (record {
+-- a button goes down or up, with the keys Alt and Ctrl or without them
+abbrev pub moved_with : Bool → Bool → Bool → Button → Corner → Press
+moved_with down alt control button at = Mouse (record {
   button = button;
-  is_down = true;
+  is_down = down;
   with_alt = alt;
   with_control = control;
   column = at.0;
   row = at.1;
 })
 
+abbrev pub down_with : Bool → Bool → Button → Corner → Press
+down_with alt control button at = moved_with true alt control button at
+
 abbrev pub down : Button → Corner → Press
 down button at = down_with false false button at
 
 abbrev pub up : Button → Corner → Press
-up button at = Mouse (record {
-  button = button;
-  is_down = false;
-  with_alt = false;
-  with_control = false;
-  column = at.0;
-  row = at.1;
-})
+up button at = moved_with false false false button at
 
 abbrev pub alone : Button → MouseKeys
 alone button.Left = Left

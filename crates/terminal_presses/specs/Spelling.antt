@@ -26,6 +26,11 @@ abbrev pub value_from : ℕ → List ℕ → ℕ
 value_from n [] = n
 value_from n (b ∷ bs) = value_from (n * 10 + (b - 48)) bs
 
+abbrev pub button_number : Button → ℕ
+button_number Left = 0
+button_number Middle = 1
+button_number Right = 2
+
 -- decimal digits, and the number that they spell
 pub record IsNumeral (n : ℕ) (digits : List ℕ) : Type 0 where
   pub small : n < 2 ^ 16
@@ -34,20 +39,15 @@ pub record IsNumeral (n : ℕ) (digits : List ℕ) : Type 0 where
 
 -- ---- forms of several numbers
 
--- the number of a button, and 4 more with Shift, 8 with Alt, 16 with Ctrl
-abbrev pub button_number : Button → ℕ
-button_number Left = 0
-button_number Middle = 1
-button_number Right = 2
+-- M for down, m for up
+abbrev pub report_end : Bool → ℕ
+report_end down = if down then 77 else 109
 
+-- the number of a button, and 4 more with Shift, 8 with Alt, 16 with Ctrl
 abbrev pub report_number : MouseReport → Bool → ℕ
 report_number report shift =
     button_number report.button + (if shift then 4 else 0) + (if report.with_alt then 8 else 0)
     + (if report.with_control then 16 else 0)
-
--- M for down, m for up
-abbrev pub report_end : Bool → ℕ
-report_end down = if down then 77 else 109
 
 -- an escape byte, [ and <, the number of what is pressed, the column, the row, and the end
 pub record IsReport (report : MouseReport) (text : List ℕ) : Type 0 where

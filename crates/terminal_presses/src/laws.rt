@@ -27,6 +27,7 @@ ghost use Rattle.terminal_presses.specs.Runs.{clicked, says, AreThree, paste_of,
 
 /// It is one whether what is heard comes in one piece or in two, and so in many: what is pressed of both is what is
 /// pressed of the first, and then what the parser that has heard it makes of the second. So are the events of presses.
+#[tactic(auto, using(crate::proofs::Pieces::of_both))]
 pub fn pieces_do_not_matter()
     ensures presses { (parser : Parser) (first second : List Heard)
         → pressed parser (first ++ second) ≡ pressed parser first ++ pressed (parser_after parser first) second }
@@ -51,6 +52,7 @@ pub fn spelled_presses_are_found()
 {}
 
 /// The cell that a terminal's column and row mean is in sight; where they show a cell, it is that one.
+#[tactic(auto, using(crate::proofs::Spots::spots_seen))]
 pub fn spots_are_in_sight()
     ensures column { (sight : Sight) (column row : ℕ) → (spot_in sight column row).x < COLUMNS }
     ensures row { (sight : Sight) (column row : ℕ) → IsSight sight → (spot_in sight column row).y ≤ sight.top
@@ -80,6 +82,7 @@ pub fn buttons_make_one_point()
 
 /// With the left button alone there is every click: with Alt it is the middle one, with Ctrl the right one, and after a
 /// function key it is what that says.
+#[tactic(auto, using(crate::proofs::Clicks::clicks_of_one))]
 pub fn one_button_is_enough()
     ensures alt { (sight : Sight) (control : Bool) (start end : Corner)
         → Makes sight new_hand (down_with true control Left start ∷ up Left end ∷ []) new_hand
@@ -110,6 +113,7 @@ pub fn pastes_are_typed()
 
 /// The bytes of a host file's name that is asked for are typed one after another, and make no event. A carriage return
 /// then says that the file is typed; the key Escape calls it off. The hand asks no more then.
+#[tactic(auto, using(crate::proofs::Names::names_said))]
 pub fn names_are_typed()
     ensures typed { (sight : Sight) (hand : Hand) (name : List ℕ) → IsTrue (is_host_name name)
         → Makes sight (asking [] hand) (map Character name) (asking name hand) [] }

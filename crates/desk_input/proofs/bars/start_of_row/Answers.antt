@@ -1,21 +1,25 @@
+use Rattle.std.proofs.Common.{◌∙◌, refl}
 use Rattle.desk_core.proofs.PositionLemmas.{offsets_kept}
+use Rattle.desk_core.proofs.ReadLemmas.{reads_on}
 use Rattle.desk_core.proofs.StretchLemmas.{start_shown}
+use Rattle.desk_input.proofs.BarLemmas.{some_if}
 use Rattle.desk_input.proofs.bars.start_of_row.Goals as goal
 
 pub cell_of-requires-clause-offsets : goal.cell_of-requires-clause-offsets
 cell_of-requires-clause-offsets g c =
-    offsets_kept _ _ _ _ _ c.main_text-text.ensures c.in_ok-begin.ensures.reads.as_long c.requires.over
+    offsets_kept _ _ _ _ _ c.main_text-text.ensures c.in_ok-begin.ensures.told.reads.as_long c.requires.at.over
 
-pub returns-then-is_in_row-clause-exact : goal.returns-then-is_in_row-clause-exact
-returns-then-is_in_row-clause-exact g c =
-    let begin = c.in_ok-begin.ensures in
-    λ h. start_shown _ _ c.main_frame-frame.ensures c.main_text-text.ensures c.text_width.ensures.some
-    c.rows_of.ensures.rows c.requires.row begin.from (begin.exact h) (begin.reads.same h)
-    (c.in_ok-cell.ensures.cell.exact (begin.reads.still h)) c.is_in_row.ensures c.if-is_in_row.true
+pub returns-clause-told : goal.returns-clause-told
+returns-clause-told g c =
+    let begin = c.in_ok-begin.ensures.told in
+    record {
+      exact = λ h. c.line_in_row.ensures
+          ∙ start_shown _ _ c.main_frame-frame.ensures c.main_text-text.ensures c.text_width.ensures.some
+          c.rows_of.ensures.rows c.requires.at.within c.in_ok-begin.ensures.from (begin.exact h) (begin.reads.same h)
+          (c.in_ok-cell.ensures.cell.exact (begin.reads.still h)) refl refl;
+      reads = reads_on _ _ _ _ g.met.S.CharSource.ground_through _ _ _ begin.reads c.in_ok-cell.ensures.reads;
+      cause = c.in_ok-cell.ensures.cause ∙ begin.cause;
+    }
 
-pub returns-else-is_in_row-clause-exact : goal.returns-else-is_in_row-clause-exact
-returns-else-is_in_row-clause-exact g c =
-    let begin = c.in_ok-begin.ensures in
-    λ h. start_shown _ _ c.main_frame-frame.ensures c.main_text-text.ensures c.text_width.ensures.some
-    c.rows_of.ensures.rows c.requires.row begin.from (begin.exact h) (begin.reads.same h)
-    (c.in_ok-cell.ensures.cell.exact (begin.reads.still h)) c.is_in_row.ensures c.if-is_in_row.false
+pub returns-clause-within : goal.returns-clause-within
+returns-clause-within g c = some_if _ _ _ _ c.line_in_row.ensures c.in_ok-begin.ensures.within

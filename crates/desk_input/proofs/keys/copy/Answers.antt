@@ -11,18 +11,18 @@ use Rattle.desk_input.proofs.keys.copy.Goals as goal
 pub returns-in_default-clause-answered : goal.returns-in_default-clause-answered
 unfolding seen
 returns-in_default-clause-answered g c =
-    refused_row c.requires.over known_no_selection (copy_none _ (sym c.selection.ensures.is ∙ c.in_default.is))
+    refused_row c.requires known_no_selection (copy_none _ (sym c.selection.ensures.is ∙ c.in_default.is))
 
 pub returns-then-not-fits_more-clause-answered : goal.returns-then-not-fits_more-clause-answered
 returns-then-not-fits_more-clause-answered g c =
     let s = c.in-Some.selection in
-    copy_full _ _ _ c.requires.over s (sym c.in-Some.ensures.is) c.in-Some.ensures.some c.in-Some.ensures.stands.place
+    copy_full _ _ _ c.requires s (sym c.in-Some.ensures.is) c.in-Some.ensures.some c.in-Some.ensures.stands.place
     (ap (has_space _ 0 (s.end - s.beg)) (sym c.len.ensures) ∙ sym (c.fits_more.ensures _) ∙ c.if-not-fits_more.true)
 
 pub returns-clause-answered : goal.returns-clause-answered
 returns-clause-answered g c =
     let s = c.in-Some.selection in
-    copy_answered _ _ _ s _ c.requires.over (sym c.in-Some.ensures.is) c.in-Some.ensures.some
+    copy_answered _ _ _ s _ c.requires (sym c.in-Some.ensures.is) c.in-Some.ensures.some
     c.in-Some.ensures.stands.place c.in_ok-desk.ensures.is
     (λ all. ap (has_space (seen all (kept c.args.desk.now)) 0 (s.end - s.beg)) (sym c.len.ensures)
     ∙ sym (c.fits_more.ensures all) ∙ c.if-not-fits_more.false)
@@ -36,7 +36,7 @@ pub returns-then-not-fits_more-clause-unread : goal.returns-then-not-fits_more-c
 returns-then-not-fits_more-clause-unread g c = λ all long.
     let s = c.in-Some.selection in
     let d = kept c.args.desk.now in
-    (copy_full ⊤ all d (over_all c.requires.over all long) s (sym c.in-Some.ensures.is) c.in-Some.ensures.some
+    (copy_full ⊤ all d (over_all c.requires all long) s (sym c.in-Some.ensures.is) c.in-Some.ensures.some
     c.in-Some.ensures.stands.place (ap (has_space (seen all d) 0 (s.end - s.beg)) (sym c.len.ensures)
     ∙ sym (c.fits_more.ensures all) ∙ c.if-not-fits_more.true)).exact tt
 
@@ -44,7 +44,7 @@ pub returns-clause-unread : goal.returns-clause-unread
 returns-clause-unread g c = λ all long.
     let s = c.in-Some.selection in
     let d = kept c.args.desk.now in
-    (copy_answered ⊤ all d s _ (over_all c.requires.over all long) (sym c.in-Some.ensures.is) c.in-Some.ensures.some
+    (copy_answered ⊤ all d s _ (over_all c.requires all long) (sym c.in-Some.ensures.is) c.in-Some.ensures.some
     c.in-Some.ensures.stands.place c.in_ok-desk.ensures.is
     (λ now. ap (has_space (seen now d) 0 (s.end - s.beg)) (sym c.len.ensures)
     ∙ sym (c.fits_more.ensures now) ∙ c.if-not-fits_more.false)).exact tt

@@ -23,7 +23,7 @@ returns-clause-answered g c =
     (record d { caret = None; selections = selections; marker = None })
     (settled (seen old d) (pressed (seen old d) Escape)) Done)
     (sym c.clear.ensures.items)
-    (escape_answered _ old d c.requires.over)
+    (escape_answered _ old d c.requires)
 
 pub returns-clause-unread : goal.returns-clause-unread
 unfolding escaped
@@ -33,4 +33,4 @@ returns-clause-unread g c = λ all long.
     (record d { caret = None; selections = selections; marker = None })
     (settled (seen all d) (pressed (seen all d) Escape)) Done)
     (sym c.clear.ensures.items)
-    (escape_answered ⊤ all d (over_all c.requires.over all long)) in answered.exact tt
+    (escape_answered ⊤ all d (over_all c.requires all long)) in answered.exact tt

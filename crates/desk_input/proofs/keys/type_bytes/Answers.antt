@@ -21,7 +21,7 @@ use Rattle.desk_input.proofs.keys.type_bytes.Goals as goal
 pub returns-in_default-clause-answered : goal.returns-in_default-clause-answered
 unfolding seen
 returns-in_default-clause-answered g c =
-    refused_row c.requires.over known_no_caret (typed_none _ (sym c.caret_place.ensures.is ∙ c.in_default.is) _)
+    refused_row c.requires known_no_caret (typed_none _ (sym c.caret_place.ensures.is ∙ c.in_default.is) _)
 
 pub returns-then-not-fits_more-clause-answered : goal.returns-then-not-fits_more-clause-answered
 returns-then-not-fits_more-clause-answered g c =
@@ -30,7 +30,7 @@ returns-then-not-fits_more-clause-answered g c =
     subst (λ (b : List ℕ). IsAnswered (g.S.CharSource.honest c.args.source.now) old
     old d d
     (settled (seen old d) (typed (seen old d) b)) (No full)) c.as_bytes-bytes.ensures.value
-    (typed_full _ old d c.requires.over c.in-Some.caret (sym c.in-Some.ensures.is)
+    (typed_full _ old d c.requires c.in-Some.caret (sym c.in-Some.ensures.is)
     c.in-Some.ensures.stands.placed c.as_bytes-bytes.result.now
     (sym (c.fits_more.ensures old) ∙ c.if-not-fits_more.true))
 
@@ -44,7 +44,7 @@ pub append-requires : goal.append-requires
 unfolding seen
 append-requires g c =
     let low = space_written _ _ _ 0 (sym (c.fits_more.ensures []) ∙ c.if-not-fits_more.false) in
-    omega (arith, low, c.requires.over.counted)
+    omega (arith, low, c.requires.counted)
 
 pub put_at_caret-requires-clause-built : goal.put_at_caret-requires-clause-built
 put_at_caret-requires-clause-built g c =
@@ -53,7 +53,7 @@ put_at_caret-requires-clause-built g c =
     let grown : length (g.S.CharSource.characters c.append.new.self) ≡ length old + length c.as_bytes-bytes.result.now =
     ap length c.in_ok-append.ensures.added ∙ length-append old c.as_bytes-bytes.result.now in
     built_longer (length old) (length (g.S.CharSource.characters c.append.new.self)) d
-    (omega (arith, grown)) (over_built old d c.requires.over)
+    (omega (arith, grown)) (over_built old d c.requires)
 
 pub put_at_caret-requires-clause-goes : goal.put_at_caret-requires-clause-goes
 unfolding seen
@@ -68,12 +68,12 @@ put_at_caret-requires-clause-goes g c =
     record {
       short =
           let low = space_written (seen [] d) n n 0 (sym (c.fits_more.ensures []) ∙ c.if-not-fits_more.false) in
-          let main = main_small old d c.in-Some.caret.viewer c.requires.over in
+          let main = main_small old d c.in-Some.caret.viewer c.requires in
           omega (arith, low, main, size);
       within = subst (AreWithin _) (sym c.in_ok-buffer.ensures)
-          (run-AreWithin _ d.written n d.look (omega (arith, grown, c.requires.over.counted)));
+          (run-AreWithin _ d.written n d.look (omega (arith, grown, c.requires.counted)));
       looks = subst AreLooks (sym c.in_ok-buffer.ensures)
-          (run_looks d.written n d.look (kept_look (length old) d (over_built old d c.requires.over)));
+          (run_looks d.written n d.look (kept_look (length old) d (over_built old d c.requires)));
     }
 
 pub overflow_add-desk : goal.overflow_add-desk
@@ -93,7 +93,7 @@ returns-clause-answered g c =
     (more_written (kept c.put_at_caret.new.self) (length c.as_bytes-bytes.result.now))
     (settled (seen old d) (typed (seen old d) b)) Done) c.as_bytes-bytes.ensures.value
     (typed_answered _ old c.as_bytes-bytes.result.now (g.S.CharSource.characters c.append.new.self)
-    (g.S.CharSource.characters c.put_at_caret.new.source) d (kept c.put_at_caret.new.self) c.requires.over
+    (g.S.CharSource.characters c.put_at_caret.new.source) d (kept c.put_at_caret.new.self) c.requires
     c.in_ok-append.ensures.added reads.as_long (λ h. reads.same (premise.1 h)) c.in-Some.caret
     (sym c.in-Some.ensures.is) c.in_ok-buffer.buffer c.in_ok-buffer.ensures
     (changed_under (λ h. premise.1 h) c.in_ok-put_at_caret.ensures.changed)

@@ -17,14 +17,18 @@ pos_at-requires-clause-offsets g c =
     subst (λ (t : List Piece). AreWithin (length old) (flat t)) (sym c.text_called-menu.ensures)
     (called_place old d c.args.id true 0 c.requires.over (omega arith)).offsets
 
-pub returns-clause-exact : goal.returns-clause-exact
-returns-clause-exact g c =
+pub returns-clause-told : goal.returns-clause-told
+returns-clause-told g c =
     let s = g.S.CharSource in
     let old = s.characters c.args.source.now in
     let d = kept c.args.desk.now in
-    IfOk-weaker c.pos_at.result _ _ (λ p fact h. fact.exact h
-    ∙ (λ k. position_at (bytes old (flat (c.text_called-menu.ensures k))) 0 (c.menu_column-column.ensures k) 0)
-    ∙ menu_read old d c.args.id c.args.x) c.pos_at.ensures.position
+    record {
+      exact = IfOk-weaker c.pos_at.result _ _ (λ p fact h. fact.exact h
+          ∙ (λ k. position_at (bytes old (flat (c.text_called-menu.ensures k))) 0 (c.menu_column-column.ensures k) 0)
+          ∙ menu_read old d c.args.id c.args.x) c.pos_at.ensures.position;
+      reads = c.pos_at.ensures.reads;
+      cause = c.pos_at.ensures.cause;
+    }
 
 pub returns-clause-within : goal.returns-clause-within
 returns-clause-within g c =

@@ -1,24 +1,16 @@
-use Rattle.std.proofs.Common.{◌≡◌, ◌∙◌, ◌++◌, ◌+◌, List, length, map, sym, ap, refl, append-nil, arith, inl}
+use Rattle.std.proofs.Common.{◌≡◌, ◌∙◌, ◌++◌, ◌+◌, List, length, map, ap, refl, arith, inl}
 use Rattle.std.proofs.lemmas.Result.{err_from_is_err_and}
 use Rattle.viewer_tracks.specs.Columns.{stack_of, track_on}
-use Rattle.char_file.proofs.Reading.{no_read, read_on}
 use Rattle.desktop_definitions.specs.declared.entry.Entry.{Entry}
 use Rattle.desktop_definitions.specs.Listing.{track_entries}
 use Rattle.desktop_definitions.specs.Unread.{without_name}
 use Rattle.desktop_definitions.specs.Seen.{seen}
 use Rattle.desk_core.specs.Kept.{kept}
-use Rattle.desk_views.proofs.Listed.{lowest_entries, all_tracks, listed_track, told_track}
+use Rattle.desk_views.proofs.Listed.{lowest_entries, all_tracks, listed_track, told_track, none_listed, reads_then}
 use Rattle.desk_views.proofs.views.list_column.Goals as goal
 
 pub loop-below-init : goal.loop-below-init
-loop-below-init g c =
-    let C = g.S.CharSource in
-    record {
-      reads = no_read C.characters C.failures C.honest C.same_ground g.met.S.CharSource.ground_self c.args.source.now;
-      calm = refl;
-      so_far = λ honest. sym (append-nil c.args.entries.now.items);
-      unread = λ all long. sym (append-nil (map without_name c.args.entries.now.items));
-    }
+loop-below-init g c = none_listed g.S.CharSource g.met.S.CharSource.ground_self _ _ _ _ _ (λ x. refl) (λ x. refl)
 
 pub list_level-requires-clause-over : goal.list_level-requires-clause-over
 list_level-requires-clause-over g c = record {
@@ -37,8 +29,7 @@ loop-below-preserved g c =
     let characters = C.characters c.args.source.now in
     let stack = stack_of d.columns k in
     record {
-      reads = read_on C.characters C.failures C.honest C.same_ground g.met.S.CharSource.ground_through
-          c.args.source.now c.loop-below.source c.list_level.new.source i.reads e.reads;
+      reads = reads_then C g.met.S.CharSource.ground_through _ _ _ i.reads e.reads;
       calm = e.faults.calm (λ wrong. absurd cc) ∙ i.calm;
       so_far = λ honest.
           listed_track (seen characters d) k stack n c.args.entries.now.items c.loop-below.entries.items
@@ -63,9 +54,8 @@ returns-in_err-list_over-clause-faults g c =
 
 pub returns-in_err-list_level-clause-reads : goal.returns-in_err-list_level-clause-reads
 returns-in_err-list_level-clause-reads g c =
-    let C = g.S.CharSource in
-    read_on C.characters C.failures C.honest C.same_ground g.met.S.CharSource.ground_through c.args.source.now
-    c.loop-below.source c.list_level.new.source c.loop-below.invariant.reads c.in_err-list_level.ensures.reads
+    reads_then g.S.CharSource g.met.S.CharSource.ground_through _ _ _ c.loop-below.invariant.reads
+    c.in_err-list_level.ensures.reads
 
 pub returns-clause-entries : goal.returns-clause-entries
 unfolding seen

@@ -1,11 +1,11 @@
-use Rattle.std.proofs.Common.{◌∙◌, ◌++◌, List, map, sym, ap, refl, append-nil, arith, [], ◌∷◌, Option}
+use Rattle.std.proofs.Common.{◌∙◌, ◌++◌, List, map, sym, ap, refl, arith, [], ◌∷◌, Option}
 use Rattle.std.specs.Option.{option_map}
 use Rattle.std.proofs.lemmas.List.{map-append}
 use Rattle.std.proofs.lemmas.Simd.{map-map}
 use Rattle.desktop_definitions.specs.declared.entry.Entry.{Entry}
 use Rattle.viewer_tracks.specs.Viewers.{Entry as Standing}
 use Rattle.viewer_tracks.specs.Columns.{stack_of, track_on}
-use Rattle.char_file.proofs.Reading.{no_read, read_on}
+use Rattle.desk_views.proofs.Listed.{none_listed, reads_then}
 use Rattle.desktop_definitions.specs.Listing.{viewer_entry}
 use Rattle.desktop_definitions.specs.Unread.{without_name}
 use Rattle.desktop_definitions.specs.Seen.{seen}
@@ -14,14 +14,7 @@ use Rattle.desk_core.specs.Kept.{kept}
 use Rattle.desk_views.proofs.views.list_level.Goals as goal
 
 pub loop-index-init : goal.loop-index-init
-loop-index-init g c =
-    let C = g.S.CharSource in
-    record {
-      reads = no_read C.characters C.failures C.honest C.same_ground g.met.S.CharSource.ground_self c.args.source.now;
-      calm = refl;
-      so_far = λ honest. sym (append-nil c.args.entries.now.items);
-      unread = λ all long. sym (append-nil (map without_name c.args.entries.now.items));
-    }
+loop-index-init g c = none_listed g.S.CharSource g.met.S.CharSource.ground_self _ _ _ _ _ (λ x. refl) (λ x. refl)
 
 pub entry_of-requires-clause-over : goal.entry_of-requires-clause-over
 entry_of-requires-clause-over g c = record {
@@ -31,18 +24,17 @@ entry_of-requires-clause-over g c = record {
 
 pub loop-index-preserved : goal.loop-index-preserved
 loop-index-preserved g c =
+    let d = kept c.args.desk.now in
     let C = g.S.CharSource in
+    let characters = C.characters c.args.source.now in
     let i = c.loop-index.invariant in
     let e = c.in_ok-entry.ensures in
-    let d = kept c.args.desk.now in
-    let characters = C.characters c.args.source.now in
     let standing = track_on (stack_of d.columns c.args.track) c.args.level in
     let v = c.entry_in.result.0.0 in
     let here = sym (ap (λ (o : Option Standing). option_map (λ (x : Standing). x.viewer) o) c.entry_in.ensures.entry) in
     let entry = viewer_entry (seen characters d) c.args.track in
     record {
-      reads = read_on C.characters C.failures C.honest C.same_ground g.met.S.CharSource.ground_through
-          c.args.source.now c.loop-index.source c.entry_of.new.source i.reads e.reads;
+      reads = reads_then C g.met.S.CharSource.ground_through _ _ _ i.reads e.reads;
       calm = e.faults.calm (λ wrong. absurd cc) ∙ i.calm;
       so_far = λ honest.
           listed_more entry standing c.loop-index.index v c.args.entries.now.items
@@ -58,12 +50,6 @@ loop-index-preserved g c =
           (ap (map without_name) c.in_ok-push.ensures.items
           ∙ map-append without_name c.loop-index.entries.items (c.in_ok-entry.entry ∷ []));
     }
-
-pub returns-in_err-push-clause-reads : goal.returns-in_err-push-clause-reads
-returns-in_err-push-clause-reads g c =
-    let C = g.S.CharSource in
-    read_on C.characters C.failures C.honest C.same_ground g.met.S.CharSource.ground_through c.args.source.now
-    c.loop-index.source c.entry_of.new.source c.loop-index.invariant.reads c.in_ok-entry.ensures.reads
 
 pub returns-clause-entries : goal.returns-clause-entries
 unfolding seen
@@ -85,3 +71,8 @@ returns-clause-unread g c = λ all long.
     (c.loop-index.invariant.unread all long)
     ∙ ap (λ (l : List Entry). map without_name c.args.entries.now.items ++ l)
     (sym (map-map without_name (λ (e : Standing). entry e.viewer) standing))
+
+pub returns-in_err-push-clause-reads : goal.returns-in_err-push-clause-reads
+returns-in_err-push-clause-reads g c =
+    reads_then g.S.CharSource g.met.S.CharSource.ground_through _ _ _ c.loop-index.invariant.reads
+    c.in_ok-entry.ensures.reads

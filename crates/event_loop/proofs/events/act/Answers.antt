@@ -5,30 +5,13 @@ use Rattle.desktop_definitions.specs.Unread.{needs_no_byte, brought}
 use Rattle.event_loop.proofs.UnreadEvents.{unread_event, bringing_event, file_unread}
 use Rattle.event_loop.proofs.events.act.Goals as goal
 
-pub returns-in-Typed-clause-answered : goal.returns-in-Typed-clause-answered
-unfolding raw
-returns-in-Typed-clause-answered g c = rw c.in-Typed.is c.type_bytes.ensures.answered
-
-pub returns-in-Key-clause-answered : goal.returns-in-Key-clause-answered
-unfolding raw
-returns-in-Key-clause-answered g c = rw c.in-Key.is c.press.ensures.answered
-
-pub returns-in-Mark-clause-answered : goal.returns-in-Mark-clause-answered
-unfolding raw
-returns-in-Mark-clause-answered g c = rw c.in-Mark.is c.mark.ensures.answered
-
-pub returns-in-Point-clause-answered : goal.returns-in-Point-clause-answered
-unfolding raw
-returns-in-Point-clause-answered g c = rw c.in-Point.is c.point.ensures.answered
-
-pub returns-in-File-clause-answered : goal.returns-in-File-clause-answered
-unfolding raw
-returns-in-File-clause-answered g c = rw c.in-File.is c.put_file.ensures.answered
-
 pub returns-in-Typed-clause-unread : goal.returns-in-Typed-clause-unread
 unfolding raw needs_no_byte brought
 returns-in-Typed-clause-unread g c = rw c.in-Typed.is
     (unread_event _ _ _ (Typed _) c.type_bytes.result refl c.type_bytes.ensures.unread)
+
+pub returns-in-File-clause-unread : goal.returns-in-File-clause-unread
+returns-in-File-clause-unread g c = rw c.in-File.is (file_unread _ _ _ _ _ c.put_file.result c.put_file.ensures.unread)
 
 pub returns-in-Key-clause-unread : goal.returns-in-Key-clause-unread
 unfolding raw needs_no_byte brought
@@ -44,6 +27,3 @@ pub returns-in-Point-clause-unread : goal.returns-in-Point-clause-unread
 unfolding raw needs_no_byte brought
 returns-in-Point-clause-unread g c = rw c.in-Point.is
     (bringing_event _ _ _ (Point _ _ _ c.in-Point.x1 c.in-Point.y1) _ c.point.result refl c.point.ensures.unread)
-
-pub returns-in-File-clause-unread : goal.returns-in-File-clause-unread
-returns-in-File-clause-unread g c = rw c.in-File.is (file_unread _ _ _ _ _ c.put_file.result c.put_file.ensures.unread)

@@ -1,9 +1,5 @@
-use Rattle.std.proofs.Common.{◌≤◌, length, subst, sym}
-use Rattle.piece_ring.specs.Flat.{flat}
-use Rattle.viewer_tracks.specs.Columns.{IsOnTop}
 use Rattle.desktop_definitions.specs.declared.viewer.Selection.{Selection}
 use Rattle.desktop_definitions.specs.Desktop.{Desktop}
-use Rattle.desktop_definitions.specs.Viewers.{text_in, viewer_or_none}
 use Rattle.desktop_definitions.specs.Gesture.{stretch_drawn}
 use Rattle.desk_core.specs.Mouse.{done_with}
 use Rattle.desk_core.specs.Kept.{kept}
@@ -12,27 +8,16 @@ use Rattle.event_loop.proofs.gestures.draw.Goals as goal
 
 pub point_stretch-requires-clause-over : goal.point_stretch-requires-clause-over
 point_stretch-requires-clause-over g c =
-    over_after g.S.CharSource _ _ (kept c.args.desk.now) c.in_ok-drawn.ensures.reads c.requires.over
-
-pub point_stretch-requires-clause-placed : goal.point_stretch-requires-clause-placed
-point_stretch-requires-clause-placed g c =
-    let d = kept c.args.desk.now in
-    subst (λ v. IsOnTop v d.columns) (sym c.in_ok-drawn.ensures.viewer) c.requires.placed
-
-pub point_stretch-requires-clause-place : goal.point_stretch-requires-clause-place
-point_stretch-requires-clause-place g c =
-    let d = kept c.args.desk.now in
-    subst (λ v. c.in_ok-drawn.drawn.end ≤ length (flat (text_in d.texts (viewer_or_none d.viewers v).main)))
-    (sym c.in_ok-drawn.ensures.viewer) c.in_ok-drawn.ensures.within
+    over_after g.S.CharSource _ _ (kept c.args.desk.now) c.in_ok-drawn.ensures.told.reads c.requires.at.over
 
 pub returns-clause-answered : goal.returns-clause-answered
 returns-clause-answered g c =
     settles_after g.S.CharSource (λ (x : Desktop) (s : Selection). done_with x c.args.keys s)
     (λ x. stretch_drawn x c.args.id c.args.from.0 c.args.from.1 c.args.to.0 c.args.to.1) c.in_ok-drawn.drawn _ _
     c.point_stretch.new.source (kept c.args.desk.now) (kept c.point_stretch.new.desk) c.point_stretch.result
-    c.in_ok-drawn.ensures.reads c.in_ok-drawn.ensures.exact c.point_stretch.ensures.answered
+    c.in_ok-drawn.ensures.told.reads c.in_ok-drawn.ensures.told.exact c.point_stretch.ensures.answered
 
 pub returns-clause-uses : goal.returns-clause-uses
 returns-clause-uses g c =
     uses_after g.S.CharSource g.met.S.CharSource.ground_through _ _ _ c.point_stretch.result
-    c.in_ok-drawn.ensures.reads c.in_ok-drawn.ensures.cause c.point_stretch.ensures.uses
+    c.in_ok-drawn.ensures.told.reads c.in_ok-drawn.ensures.told.cause c.point_stretch.ensures.uses

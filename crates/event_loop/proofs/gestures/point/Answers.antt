@@ -3,7 +3,7 @@ use Rattle.std.proofs.Common.{◌∙◌, refl, sym}
 use Rattle.desktop_definitions.specs.Seen.{seen}
 use Rattle.desk_core.specs.Kept.{kept}
 use Rattle.event_loop.proofs.GestureLemmas.{pointed_filler, pointed_menu, pointed_bar, pointed_there}
-use Rattle.event_loop.proofs.GestureLemmas.{unread_there}
+use Rattle.event_loop.proofs.GestureLemmas.{unread_there, cells_inside}
 use Rattle.desktop_definitions.specs.declared.region.Region.TheVariants.{Body}
 use Rattle.desktop_definitions.specs.Desktop.{Desktop}
 use Rattle.desktop_definitions.specs.Gesture.{pointed}
@@ -11,7 +11,7 @@ use Rattle.command_table.specs.Versions.{version_number}
 use Rattle.desktop_definitions.specs.Unread.{gesture_brings}
 use Rattle.desk_core.specs.Mouse.{done_in_filler, done_in_menu, done_in_bar}
 use Rattle.desk_core.proofs.UnreadLemmas.{over_all, brings_none}
-use Rattle.desk_core.proofs.MarkLemmas.{both_inside, outside_answered}
+use Rattle.desk_core.proofs.MarkLemmas.{outside_answered}
 use Rattle.event_loop.proofs.gestures.point.Goals as goal
 
 pub returns-then-not-are_on_display-clause-answered : goal.returns-then-not-are_on_display-clause-answered
@@ -24,33 +24,11 @@ returns-then-not-are_on_display-clause-answered g c =
 
 pub region_under-requires-clause-column : goal.region_under-requires-clause-column
 region_under-requires-clause-column g c =
-    (both_inside c.args.from.0 c.args.from.1 c.args.to.0 c.args.to.1
-    (sym c.are_on_display.ensures ∙ c.if-not-are_on_display.false)).0.0
+    (cells_inside c.args.from c.args.to c.are_on_display.ensures c.if-not-are_on_display.false).0.0
 
 pub region_under-requires-clause-row : goal.region_under-requires-clause-row
 region_under-requires-clause-row g c =
-    (both_inside c.args.from.0 c.args.from.1 c.args.to.0 c.args.to.1
-    (sym c.are_on_display.ensures ∙ c.if-not-are_on_display.false)).0.1
-
-pub point_filler-requires-clause-column : goal.point_filler-requires-clause-column
-point_filler-requires-clause-column g c =
-    (both_inside c.args.from.0 c.args.from.1 c.args.to.0 c.args.to.1
-    (sym c.are_on_display.ensures ∙ c.if-not-are_on_display.false)).0.0
-
-pub point_filler-requires-clause-row : goal.point_filler-requires-clause-row
-point_filler-requires-clause-row g c =
-    (both_inside c.args.from.0 c.args.from.1 c.args.to.0 c.args.to.1
-    (sym c.are_on_display.ensures ∙ c.if-not-are_on_display.false)).0.1
-
-pub point_menu-requires-clause-column : goal.point_menu-requires-clause-column
-point_menu-requires-clause-column g c =
-    (both_inside c.args.from.0 c.args.from.1 c.args.to.0 c.args.to.1
-    (sym c.are_on_display.ensures ∙ c.if-not-are_on_display.false)).1.0
-
-pub point_menu-requires-clause-row : goal.point_menu-requires-clause-row
-point_menu-requires-clause-row g c =
-    (both_inside c.args.from.0 c.args.from.1 c.args.to.0 c.args.to.1
-    (sym c.are_on_display.ensures ∙ c.if-not-are_on_display.false)).1.1
+    (cells_inside c.args.from c.args.to c.are_on_display.ensures c.if-not-are_on_display.false).0.1
 
 pub returns-in-Filler-clause-answered : goal.returns-in-Filler-clause-answered
 returns-in-Filler-clause-answered g c =
@@ -64,6 +42,10 @@ returns-in-Menu-clause-answered g c =
     let inside = sym c.are_on_display.ensures ∙ c.if-not-are_on_display.false in
     pointed_there _ _ _ _ _ _ _ _ _ _ _ c.point_menu.result inside c.in-Menu.ensures.region (pointed_menu _ _ _ _ _ _ _ _)
     c.point_menu.ensures.answered
+
+pub point_menu-requires-clause-cell : goal.point_menu-requires-clause-cell
+point_menu-requires-clause-cell g c =
+    (cells_inside c.args.from c.args.to c.are_on_display.ensures c.if-not-are_on_display.false).1
 
 pub returns-in-Bar-clause-answered : goal.returns-in-Bar-clause-answered
 unfolding seen
@@ -130,3 +112,7 @@ returns-in-Body-clause-unread g c h =
     c.args.to.0 c.args.to.1
     c.point_text.result row inside c.in-Body.ensures.region h (λ all. refl)
     (λ none. brings_none row d (kept c.point_text.new.desk) c.point_text.result (c.point_text.ensures.unread none))
+
+pub point_filler-requires-clause-cell : goal.point_filler-requires-clause-cell
+point_filler-requires-clause-cell g c =
+    (cells_inside c.args.from c.args.to c.are_on_display.ensures c.if-not-are_on_display.false).0

@@ -9,19 +9,19 @@ use Rattle.event_loop.proofs.gestures.point_cell.Goals as goal
 
 pub point_position-requires-clause-over : goal.point_position-requires-clause-over
 point_position-requires-clause-over g c =
-    over_after g.S.CharSource _ _ (kept c.args.desk.now) c.in_ok-pos.ensures.reads c.requires.over
+    over_after g.S.CharSource _ _ (kept c.args.desk.now) c.in_ok-pos.ensures.told.reads c.requires.at.over
 
 pub returns-clause-answered : goal.returns-clause-answered
 returns-clause-answered g c =
     settles_after g.S.CharSource (λ (x : Desktop) p. done_at (version_number c.args.version) x c.args.keys c.args.id p)
     (λ x. text_position x c.args.id c.args.cell.0 c.args.cell.1) c.in_ok-pos.pos _ _ c.point_position.new.source
-    (kept c.args.desk.now) (kept c.point_position.new.desk) c.point_position.result c.in_ok-pos.ensures.reads
-    c.in_ok-pos.ensures.exact c.point_position.ensures.answered
+    (kept c.args.desk.now) (kept c.point_position.new.desk) c.point_position.result c.in_ok-pos.ensures.told.reads
+    c.in_ok-pos.ensures.told.exact c.point_position.ensures.answered
 
 pub returns-clause-uses : goal.returns-clause-uses
 returns-clause-uses g c =
     uses_after g.S.CharSource g.met.S.CharSource.ground_through _ _ _ c.point_position.result
-    c.in_ok-pos.ensures.reads c.in_ok-pos.ensures.cause c.point_position.ensures.uses
+    c.in_ok-pos.ensures.told.reads c.in_ok-pos.ensures.told.cause c.point_position.ensures.uses
 
 pub returns-clause-unread : goal.returns-clause-unread
 returns-clause-unread g c h =

@@ -22,12 +22,12 @@ returns-in-Right-clause-answered g c = search rules
 pub returns-in_default-clause-answered : goal.returns-in_default-clause-answered
 returns-in_default-clause-answered g c =
     let other = c.in_default in
-    rest_done c.requires.over (pointed_rest _ _ _ _ _ _ _ _ other.not-Left other.not-LeftMiddle other.not-LeftRight
+    rest_done c.requires.at.over (pointed_rest _ _ _ _ _ _ _ _ other.not-Left other.not-LeftMiddle other.not-LeftRight
     other.not-Right other.not-RightLeft other.not-RightMiddle other.not-Middle)
 
 pub returns-in_default-clause-unread : goal.returns-in_default-clause-unread
 returns-in_default-clause-unread g c h = λ all long.
     let other = c.in_default in
-    (rest_done {H = ⊤} (over_all c.requires.over all long)
+    (rest_done {H = ⊤} (over_all c.requires.at.over all long)
     (pointed_rest _ _ _ _ _ _ _ _ other.not-Left other.not-LeftMiddle other.not-LeftRight
     other.not-Right other.not-RightLeft other.not-RightMiddle other.not-Middle)).exact tt

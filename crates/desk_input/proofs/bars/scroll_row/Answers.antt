@@ -1,17 +1,17 @@
 use Rattle.std.proofs.Common.{sym, ◌∙◌}
 use Rattle.desk_input.proofs.BarLemmas.{row_none, row_some}
 use Rattle.desk_core.proofs.ReadLemmas.{org_answered, unchanged_answered}
-use Rattle.desk_input.proofs.bars.scroll_to_row.Goals as goal
+use Rattle.desk_input.proofs.bars.scroll_row.Goals as goal
 
 pub returns-in_default-clause-answered : goal.returns-in_default-clause-answered
 returns-in_default-clause-answered g c =
-    let start = c.in_ok-start.ensures in
-    unchanged_answered _ _ _ _ _ c.requires.over start.reads.as_long start.reads.same
+    let start = c.in_ok-start.ensures.told in
+    unchanged_answered _ _ _ _ _ c.requires.at.over start.reads.as_long start.reads.same
     (λ h. row_none _ c.args.id c.args.row (sym c.in_default.is ∙ start.exact h))
 
 pub returns-clause-answered : goal.returns-clause-answered
 returns-clause-answered g c =
-    let start = c.in_ok-start.ensures in
-    org_answered _ _ _ _ _ c.args.id c.in-Some.start _ c.requires.over (rw c.in-Some.is at start.within)
+    let start = c.in_ok-start.ensures.told in
+    org_answered _ _ _ _ _ c.args.id c.in-Some.start _ c.requires.at.over (rw c.in-Some.is at c.in_ok-start.ensures.within).place
     start.reads.as_long start.reads.same c.begin_at.ensures
     (λ h. row_some _ c.args.id c.args.row c.in-Some.start (sym c.in-Some.is ∙ start.exact h))

@@ -3,7 +3,7 @@ use Rattle.desk_core.specs.Kept.{kept}
 use Rattle.std.specs.Prelude.{⊤}
 use Rattle.desk_core.proofs.ReadLemmas.{org_answered}
 use Rattle.desk_core.proofs.UnreadLemmas.{over_all}
-use Rattle.desk_input.proofs.bars.scroll_to_top.Goals as goal
+use Rattle.desk_input.proofs.bars.scroll_top.Goals as goal
 
 pub returns-clause-answered : goal.returns-clause-answered
 returns-clause-answered g c =

@@ -1,9 +1,0 @@
-use Rattle.desk_input.proofs.BarLemmas.{share_is}
-use Rattle.desk_core.proofs.ReadLemmas.{org_answered}
-use Rattle.desk_input.proofs.bars.scroll_to_share.Goals as goal
-
-pub returns-clause-answered : goal.returns-clause-answered
-returns-clause-answered g c =
-    let start = c.in_ok-start.ensures in
-    org_answered _ _ _ _ _ c.args.id c.in_ok-start.start _ c.requires.over start.within start.reads.as_long
-    start.reads.same c.begin_at.ensures (λ h. share_is _ c.args.id c.args.row c.in_ok-start.start (start.exact h))
