@@ -41,8 +41,9 @@ impl FileBytes {
         if !is_file_bytes(bytes) {
             return None;
         }
-        let bytes = ArrayVec::try_from(bytes).ok()?;
-        Some(FileBytes { bytes })
+        let mut taken = ArrayVec::new();
+        taken.try_extend_from_slice(bytes).ok()?;
+        Some(FileBytes { bytes: taken })
     }
 
     /// The bytes, 0 to 900.
@@ -84,8 +85,9 @@ impl TypedBytes {
         if bytes.is_empty() || !is_file_bytes(bytes) {
             return None;
         }
-        let bytes = ArrayVec::try_from(bytes).ok()?;
-        Some(TypedBytes { bytes })
+        let mut taken = ArrayVec::new();
+        taken.try_extend_from_slice(bytes).ok()?;
+        Some(TypedBytes { bytes: taken })
     }
 
     /// The bytes, 1 to 900.
