@@ -60,7 +60,7 @@ impl FileBytes {
 /// A clause sees the list of them.
 #[derive(Debug, PartialEq, Eq, Drop)]
 pub struct TypedBytes {
-    bytes: ArrayVec<u8, MOST>,
+    bytes: FileBytes,
 }
 
 impl Model for TypedBytes {
@@ -69,11 +69,11 @@ impl Model for TypedBytes {
 
     ghost Value = { List ℕ };
 
-    ghost view = { λ t. t.bytes.items };
+    ghost view = { λ t. t.bytes };
 
-    ghost invariant = { λ t. IsTrue (is_typed_bytes t.bytes.items) };
+    ghost invariant = { λ t. IsTrue (is_typed_bytes t.bytes) };
 
-    ghost inverse = { λ bytes. record { bytes = record { items = bytes } } };
+    ghost inverse = { λ bytes. record { bytes = bytes } };
 }
 
 impl TypedBytes {
@@ -81,10 +81,10 @@ impl TypedBytes {
     pub fn new(bytes: &[u8]) -> Option<TypedBytes>
         ensures { result ≡ (if typed_bytes bytes.now then Some bytes.now else None) }
     {
-        if bytes.is_empty() || !is_file_bytes(bytes) {
+        if bytes.is_empty() {
             return None;
         }
-        let bytes = ArrayVec::try_from(bytes).ok()?;
+        let bytes = FileBytes::new(bytes)?;
         Some(TypedBytes { bytes })
     }
 
@@ -93,7 +93,7 @@ impl TypedBytes {
         ensures value { result.now ≡ self.now }
         ensures valid { IsTrue (typed_bytes self.now) }
     {
-        self.bytes.as_slice()
+        self.bytes.as_bytes()
     }
 }
 
