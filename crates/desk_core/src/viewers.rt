@@ -1,7 +1,7 @@
 //! The table of viewers by their ids, and what a change of a text does to them.
 ghost use Rattle.std.specs.Prelude.{◌≡◌, ◌⊎◌, ◌∷◌, [], ◌++◌, ◌+◌, ◌<◌, ◌≤◌, ◌==◌, length, IfOk, OnOk, All, IsSome};
 ghost use Rattle.std.specs.Map.{set_value};
-ghost use Rattle.text_frames.specs.Rules.{changed_org, shown_org};
+ghost use Rattle.text_frames.specs.Rules.{shown_org};
 ghost use Rattle.desktop_definitions.specs.Viewers.{viewer_in};
 ghost use Rattle.desktop_laws.specs.ShapeLaws.{IsMoved};
 ghost use Rattle.desk_core.specs.Movable.{IsMovable};
@@ -15,7 +15,7 @@ use desktop_definitions::{Caret, Selection, Viewer};
 use std::collections::BTreeMap;
 use std::vec::Vec;
 use text_core::Text;
-use text_frames::Frame;
+use text_frames::{org_after, org_to_show};
 
 /// Viewers by rising ids.
 pub type ViewerTable = Vec<(u16, Viewer)>;
@@ -102,65 +102,6 @@ pub fn select(selections: &mut Vec<Selection>, newest: Selection) -> Result<(), 
     selections.retain(|s| s.viewer != id);
     selections.push(newest)?;
     Ok(())
-}
-
-/// Where a frame that began at `org` begins after a change of its text. `Fault`: the source failed in this call.
-fn org_after<S: CharSource>(
-    org: u32,
-    text: &Text,
-    pos: u32,
-    more: u32,
-    fewer: u32,
-    source: &mut S,
-) -> Result<u32, Fault>
-    requires one { (more ≡ 0) ⊎ (fewer ≡ 0) }
-    requires some { 0 < more + fewer }
-    requires place { pos + more ≤ length (flat text.now) }
-    requires org { org + more ≤ length (flat text.now) + fewer }
-    requires offsets { AreWithin (length (S.characters source.old)) (flat text.now) }
-    ensures exact { IfOk result (λ new. S.honest source.old
-        → new ≡ changed_org (bytes (S.characters source.old) (flat text.now)) pos more fewer org) }
-    ensures within { IfOk result (λ new. new ≤ length (flat text.now)) }
-    ensures reads { OnlyReads S.characters S.failures S.honest S.same_ground source.old source.new }
-    ensures cause { CountsFault result (S.failures source.old) (S.failures source.new) }
-{
-    let mut frame = Frame {
-        text: 0,
-        org,
-        caret: None,
-        selection: None,
-    };
-    frame.update(text, pos, more, fewer, source)?;
-    Ok(frame.org)
-}
-
-/// Where a frame of `rows` rows that began at `org` begins so that a position is shown. `Fault`: the source failed in
-/// this call.
-fn org_to_show<S: CharSource>(
-    org: u32,
-    text: &Text,
-    rows: u8,
-    pos: u32,
-    source: &mut S,
-) -> Result<u32, Fault>
-    requires rows { rows ≤ 31 }
-    requires place { pos ≤ length (flat text.now) }
-    requires org { org ≤ length (flat text.now) }
-    requires offsets { AreWithin (length (S.characters source.old)) (flat text.now) }
-    ensures exact { IfOk result (λ new. S.honest source.old
-        → new ≡ shown_org (bytes (S.characters source.old) (flat text.now)) rows pos org) }
-    ensures within { IfOk result (λ new. new ≤ length (flat text.now)) }
-    ensures reads { OnlyReads S.characters S.failures S.honest S.same_ground source.old source.new }
-    ensures cause { CountsFault result (S.failures source.old) (S.failures source.new) }
-{
-    let mut frame = Frame {
-        text: 0,
-        org,
-        caret: None,
-        selection: None,
-    };
-    frame.show(text, rows, pos, source)?;
-    Ok(frame.org)
 }
 
 /// The change rule at one viewer: where its main frame shows the text of that number, it follows its first character.

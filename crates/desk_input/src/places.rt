@@ -136,7 +136,7 @@ pub fn position_in<S: CharSource>(desk: &Desk, id: u16, x: u8, row: u8, source: 
 {
     let frame = desk.main_frame(id);
     let text = desk.main_text(id);
-    let pos = frame.pos_at(text, text_width(desk, id), desk.rows_of(id), x, row, source)?;
+    let pos = frame.pos_at(text, x, row, source)?;
     Ok(pos)
 }
 
@@ -166,9 +166,8 @@ pub fn menu_position<S: CharSource>(desk: &Desk, id: u16, x: u8, source: &mut S)
         selection: None,
     };
     let menu = desk.text_called(id, true);
-    let width = text_width(desk, id) + 1;
     let column = menu_column(desk, id, x);
-    frame.pos_at(menu, width, 1, column, 0, source)
+    frame.pos_at(menu, column, 0, source)
 }
 
 /// The stretch of a viewer's main text that was drawn between two cells, each as column and row.

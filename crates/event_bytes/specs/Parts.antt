@@ -54,6 +54,14 @@ counted_at number_at bytes = do
   n ← number_at bytes
   bytes_at n.0 n.1
 
+-- three values, one after another, and what is made of them
+abbrev pub three_at : {A B C X : Type 0} → Reader A → Reader B → Reader C → (A → B → C → X) → Reader X
+three_at first second third made bytes = do
+  a ← first bytes
+  b ← second a.1
+  c ← third b.1
+  Some (made a.0 b.0 c.0, c.1)
+
 -- what a function over a slice returned, as a reader returns it: the value, and the slice that is left
 abbrev pub value_and_rest : {A : Type 0} → Option (A × Bor (List ℕ)) → Option (A × List ℕ)
 value_and_rest r = option_map (λ x. (x.0, x.1.now)) r

@@ -2,7 +2,7 @@
 use Rattle.std.specs.Prelude.{ℕ, if◌then◌else◌, ◌==◌, List, Some, None}
 use Rattle.event_bytes.specs.Bytes.{is_name, is_file_bytes, is_typed_bytes}
 use Rattle.event_bytes.specs.Keys.{key_of, keys_of}
-use Rattle.event_bytes.specs.Parts.{Reader, ◌>>=◌, when, byte_at, pair_at, counted_at}
+use Rattle.event_bytes.specs.Parts.{Reader, ◌>>=◌, when, byte_at, pair_at, counted_at, three_at}
 use Rattle.event_bytes.specs.declared.keys.Key.{Key as KeyOf}
 use Rattle.event_bytes.specs.declared.keys.Keys.{Keys}
 use Rattle.event_bytes.specs.declared.event.Cell.{Cell}
@@ -46,11 +46,9 @@ cell_at bytes = do
 
 -- keys, and the cells where they were pressed and released
 unfoldable pub drag_at : Reader Drag
-drag_at bytes = do
-  keys ← keys_at bytes
-  pressed ← cell_at keys.1
-  released ← cell_at pressed.1
-  Some (record { keys = keys.0; pressed = pressed.0; released = released.0 }, released.1)
+drag_at bytes =
+    three_at keys_at cell_at cell_at
+    (λ keys pressed released. record { keys = keys; pressed = pressed; released = released }) bytes
 
 -- the bodies of the five kinds
 unfoldable pub typed_body_at : Reader Event

@@ -41,9 +41,8 @@ impl FileBytes {
         if !is_file_bytes(bytes) {
             return None;
         }
-        let mut taken = ArrayVec::new();
-        taken.try_extend_from_slice(bytes).ok()?;
-        Some(FileBytes { bytes: taken })
+        let bytes = ArrayVec::try_from(bytes).ok()?;
+        Some(FileBytes { bytes })
     }
 
     /// The bytes, 0 to 900.
@@ -61,7 +60,7 @@ impl FileBytes {
 /// A clause sees the list of them.
 #[derive(Debug, PartialEq, Eq, Drop)]
 pub struct TypedBytes {
-    bytes: ArrayVec<u8, MOST>,
+    bytes: FileBytes,
 }
 
 impl Model for TypedBytes {
@@ -70,11 +69,11 @@ impl Model for TypedBytes {
 
     ghost Value = { List ℕ };
 
-    ghost view = { λ t. t.bytes.items };
+    ghost view = { λ t. t.bytes };
 
-    ghost invariant = { λ t. IsTrue (is_typed_bytes t.bytes.items) };
+    ghost invariant = { λ t. IsTrue (is_typed_bytes t.bytes) };
 
-    ghost inverse = { λ bytes. record { bytes = record { items = bytes } } };
+    ghost inverse = { λ bytes. record { bytes = bytes } };
 }
 
 impl TypedBytes {
@@ -82,12 +81,11 @@ impl TypedBytes {
     pub fn new(bytes: &[u8]) -> Option<TypedBytes>
         ensures { result ≡ (if typed_bytes bytes.now then Some bytes.now else None) }
     {
-        if bytes.is_empty() || !is_file_bytes(bytes) {
+        if bytes.is_empty() {
             return None;
         }
-        let mut taken = ArrayVec::new();
-        taken.try_extend_from_slice(bytes).ok()?;
-        Some(TypedBytes { bytes: taken })
+        let bytes = FileBytes::new(bytes)?;
+        Some(TypedBytes { bytes })
     }
 
     /// The bytes, 1 to 900.
@@ -95,7 +93,7 @@ impl TypedBytes {
         ensures value { result.now ≡ self.now }
         ensures valid { IsTrue (typed_bytes self.now) }
     {
-        self.bytes.as_slice()
+        self.bytes.as_bytes()
     }
 }
 

@@ -30,13 +30,7 @@ impl Key {
     pub(crate) fn number(self) -> u8
         ensures { result ≡ key_number self }
     {
-        match self {
-            Key::Back => 0,
-            Key::Copy => 1,
-            Key::Paste => 2,
-            Key::Cut => 3,
-            Key::Escape => 4,
-        }
+        self as u8
     }
 }
 
@@ -77,16 +71,6 @@ impl Keys {
     pub(crate) fn number(self) -> u8
         ensures { result ≡ keys_number self }
     {
-        match self {
-            Keys::Left => 0,
-            Keys::LeftMiddle => 1,
-            Keys::LeftRight => 2,
-            Keys::Middle => 3,
-            Keys::MiddleLeft => 4,
-            Keys::MiddleRight => 5,
-            Keys::Right => 6,
-            Keys::RightLeft => 7,
-            Keys::RightMiddle => 8,
-        }
+        self as u8
     }
 }

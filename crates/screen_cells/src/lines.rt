@@ -16,7 +16,7 @@ use crate::strip::{Filled, StripLine};
 use crate::walk::Walk;
 use std::alloc::{AllocError, Global};
 use std::vec::Vec;
-use text_frames::{CharSource, Fault, Frame};
+use text_frames::{CharSource, Fault, cells_of_row};
 use viewer_tracks::ROWS;
 
 /// Which line it is: of the text of that number, in that row of a frame of so many columns that shows the text from
@@ -253,13 +253,7 @@ pub(crate) fn keep_menu<S: CharSource>(
     if is_kept(slot, key) {
         return Ok(());
     }
-    let frame = Frame {
-        text: 0,
-        org: 0,
-        caret: None,
-        selection: None,
-    };
-    let cells = frame.line(shown.menu, width, 1, 0, source)?;
+    let cells = cells_of_row(shown.menu, 0, width, 0, source)?;
     *slot = Some(KeptLine { key, cells });
     Ok(())
 }

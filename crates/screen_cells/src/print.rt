@@ -36,7 +36,7 @@ impl Screen {
             (AppendsFront (W.contents writer.old) (W.contents writer.new) (character_lines self.now)) }
     {
         for y in (0..ROWS).rev() {
-            let row = &self.rows()[usize::from(y)];
+            let row = self.row(y);
             send(writer, character_line(y, row).as_slice())?;
         }
         Ok(())
@@ -50,7 +50,7 @@ impl Screen {
             (AppendsFront (W.contents writer.old) (W.contents writer.new) (mark_lines self.now)) }
     {
         for y in (0..ROWS).rev() {
-            let row = &self.rows()[usize::from(y)];
+            let row = self.row(y);
             if has_mark_line(row) {
                 send(writer, mark_line(y, row).as_slice())?;
             }

@@ -6,7 +6,7 @@ ghost use Rattle.sector_disk.specs.Trail.{CountsFault};
 ghost use Rattle.char_file.specs.Source.{OnlyReads};
 ghost use Rattle.screen_pictures.specs.Picture.{filler, is_at, with_marker, picture};
 ghost use Rattle.screen_cells.specs.Shown.{IsShowable, as_read, strip_cell};
-ghost use Rattle.screen_pictures.specs.Screen.{screen_of, cell_at, column_at, values};
+ghost use Rattle.screen_pictures.specs.Screen.{screen_of, cell_at, column_at, row_at, values};
 ghost use Rattle.screen_cells.specs.Rows.{painted_row, strips_cell};
 ghost use Rattle.screen_cells.specs.Walks.{AreKept};
 ghost use Rattle.screen_cells.specs.Lines.{AreLinesOf, IsNumbered, AreReady};
@@ -63,6 +63,14 @@ impl Screen {
         ensures { result ≡ cell_at self.now x y }
     {
         cell_of(&self.rows[usize::from(y)], x)
+    }
+
+    /// The row `y`.
+    pub(crate) fn row(&self, y: u8) -> &Row
+        requires { y < ROWS }
+        ensures { result.now ≡ row_at self.now y }
+    {
+        &self.rows[usize::from(y)]
     }
 
     /// The rows from the bottom up, each with its cells from the left.

@@ -70,12 +70,10 @@ fn index_of(shown: &[Shown<'_>], viewer: ViewerId) -> usize
         .unwrap_or(shown.len())
 }
 
-/// The menu row `y` of a viewer of that width whose rows begin at `bottom`.
+/// The menu row of a viewer of that width, whatever rows are below it.
 fn menu_strip<S: CharSource>(
     shown: &Shown<'_>,
     width: u8,
-    bottom: u8,
-    y: u8,
     slot: &mut Slot,
     source: &mut S,
 ) -> Result<Strip, Fault>
@@ -83,15 +81,13 @@ fn menu_strip<S: CharSource>(
     requires showable { IsShowable (length (S.characters source.old)) shown.now }
     ensures strip { IfOk result (λ strip. S.honest source.old → (texts : ℕ → AText ℕ)
         → IsNumbered texts (S.characters source.old) shown.now → IsSlotOf texts slot.old
-        → (column : ℕ) → strip_cell strip (kept_cells slot.new) column
+        → (bottom column y : ℕ) → strip_cell strip (kept_cells slot.new) column
         ≡ viewer_cell (as_read (S.characters source.old) shown.now) width bottom (y + 1) column y) }
     ensures slot { S.honest source.old → (texts : ℕ → AText ℕ)
         → IsNumbered texts (S.characters source.old) shown.now → IsSlotOf texts slot.old → IsSlotOf texts slot.new }
     ensures reads { OnlyReads S.characters S.failures S.honest S.same_ground source.old source.new }
     ensures cause { CountsFault result (S.failures source.old) (S.failures source.new) }
 {
-    let _ = bottom;
-    let _ = y;
     keep_menu(shown, width, slot, source)?;
     Ok(Strip::Menu)
 }
@@ -132,7 +128,7 @@ fn viewer_strip<S: CharSource>(
     ensures cause { CountsFault result (S.failures source.old) (S.failures source.new) }
 {
     if y + 1 == top {
-        return menu_strip(&walk.shown, width, bottom, y, slot, source);
+        return menu_strip(&walk.shown, width, slot, source);
     }
     let row = top - 2 - y;
     let frame = walk.shown.frame;

@@ -1,8 +1,9 @@
 -- How colours, places and characters are spelled in a drawing.
-use Rattle.std.specs.Prelude.{ℕ, ◌+◌, ◌-◌, ◌*◌, ◌/◌, ◌%◌, ◌==◌, nat_le, nat_lt, if◌then◌else◌, List, [], ◌∷◌, ◌++◌}
+use Rattle.std.specs.Prelude.{ℕ, ◌+◌, ◌-◌, ◌*◌, ◌/◌, ◌%◌, ◌==◌, nat_le, if◌then◌else◌, List, [], ◌∷◌, ◌++◌}
 use Rattle.std.specs.Prelude.{codes}
 use denote.Bor.{Bor}
 use Rattle.std.specs.List.{flat_map}
+use Rattle.output_bytes.specs.Digits.{hex_digit}
 
 -- the width and the height of a cell, how far below its upper edge its characters stand, and the width of a caret, in
 -- units of the drawing
@@ -32,9 +33,6 @@ step_strength step = if step == 0 then 0 else 55 + 40 * step
 abbrev pub strength : ℕ → ℕ → ℕ
 strength one_step colour =
     if nat_le 232 colour then 8 + 10 * (colour - 232) else step_strength ((colour - 16) / one_step % 6)
-
-abbrev pub hex_digit : ℕ → ℕ
-hex_digit n = if nat_lt n 10 then 48 + n else 87 + n
 
 abbrev pub colour_text : ℕ → ℕ → ℕ → List ℕ
 colour_text red green blue =

@@ -10,7 +10,7 @@ use std::io::Write;
 use terminal_painting::{Face, Pen, Rule, Weight};
 
 /// A place and a size on the drawing, in units.
-#[derive(Clone, Copy, Debug, PartialEq, Eq)]
+#[derive(Clone, Copy)]
 pub(crate) struct Area {
     pub(crate) x: u16,
     pub(crate) y: u16,

@@ -2,11 +2,11 @@
 ghost use Rattle.std.specs.Prelude.{◌≡◌, ◌++◌, ◌+◌, ◌*◌, ◌<◌, ◌≤◌, length};
 ghost use Rattle.std.specs.Fmt.{decimal};
 ghost use Rattle.arrayvec.specs.ArrayVec.{array_vec_len};
-ghost use Rattle.screen_drawing.specs.Spelling.{colour_code, escaped_byte, hex_digit as hex_digit_of, step_strength};
-ghost use Rattle.screen_drawing.specs.Spelling.{strength};
+ghost use Rattle.screen_drawing.specs.Spelling.{colour_code, escaped_byte, step_strength, strength};
 ghost use Rattle.screen_drawing.specs.Drawn.{escaped};
 
 use arrayvec::ArrayVec;
+use output_bytes::hex_digit;
 use terminal_painting::Face;
 
 /// The width of a cell, in units of the drawing.
@@ -76,18 +76,6 @@ fn step_strength(step: u8) -> u8
     ensures { result ≡ step_strength step }
 {
     if step == 0 { 0 } else { 55 + 40 * step }
-}
-
-/// A hexadecimal digit.
-fn hex_digit(number: u8) -> u8
-    requires { number < 16 }
-    ensures { result ≡ hex_digit_of number }
-{
-    if number < 10 {
-        b'0' + number
-    } else {
-        b'a' - 10 + number
-    }
 }
 
 /// The characters of cells.

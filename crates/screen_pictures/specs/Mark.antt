@@ -15,10 +15,7 @@ abbrev pub has_letter : Mark → Bool
 has_letter Marker = true
 has_letter Caret = true
 has_letter Selected = true
-has_letter Menu = false
-has_letter Bar = false
-has_letter Text = false
-has_letter Filler = false
+has_letter _ = false
 
 -- the byte that is printed for a mark: the letter m, c or s, or a period for a part of the display
 abbrev pub letter : Mark → ℕ

@@ -1,9 +1,10 @@
 -- The lines of an answer.
-use Rattle.std.specs.Prelude.{ℕ, ◌+◌, ◌/◌, ◌%◌, Bool, ◌==◌, ◌&&◌, not, nat_lt, if◌then◌else◌, List, [], ◌∷◌, ◌++◌}
+use Rattle.std.specs.Prelude.{ℕ, ◌+◌, ◌/◌, ◌%◌, Bool, ◌==◌, ◌&&◌, not, if◌then◌else◌, List, [], ◌∷◌, ◌++◌}
 use Rattle.std.specs.Prelude.{Option, Some, None, codes}
 use Rattle.std.specs.List.{flat_map}
 use Rattle.std.specs.Fmt.{decimal, signed_decimal}
 use Rattle.std.specs.Ordering.{int_eq}
+use Rattle.output_bytes.specs.Digits.{hex_digit}
 use Rattle.piece_ring.specs.declared.piece.Look.{Look}
 use Rattle.piece_ring.specs.Text.{Text}
 use Rattle.desktop_definitions.specs.declared.reply.Reply.{Reply}
@@ -23,13 +24,10 @@ reply_line (No code) = refusal_line code
 abbrev pub end_line : List ℕ
 end_line = ended (codes "end")
 
--- a hexadecimal digit, in lower case
-abbrev pub digit : ℕ → ℕ
-digit n = if nat_lt n 10 then 48 + n else 87 + n
-
 -- a byte from the space to the tilde but the percent sign as itself, any other as a percent sign and two digits
 abbrev pub shown_byte : ℕ → List ℕ
-shown_byte b = if is_printable b && not (b == 37) then b ∷ [] else 37 ∷ digit (b / 16) ∷ digit (b % 16) ∷ []
+shown_byte b =
+    if is_printable b && not (b == 37) then b ∷ [] else 37 ∷ hex_digit (b / 16) ∷ hex_digit (b % 16) ∷ []
 
 abbrev pub shown : List ℕ → List ℕ
 shown bytes = flat_map shown_byte bytes

@@ -3,7 +3,7 @@ ghost use Rattle.std.specs.Prelude.{◌≡◌, ◌+◌, ◌<◌, ◌≤◌, [], 
 ghost use Rattle.std.specs.Fmt.{decimal, signed_decimal};
 ghost use Rattle.arrayvec.specs.ArrayVec.{array_vec_len};
 ghost use Rattle.script_lines.specs.Script.{ended};
-ghost use Rattle.script_answers.specs.Answer.{reply_line, refusal_line, digit as digit_of, shown_byte, shown};
+ghost use Rattle.script_answers.specs.Answer.{reply_line, refusal_line, shown_byte, shown};
 ghost use Rattle.script_answers.specs.Answer.{is_same_look, look_words, stretch_line, text_lines};
 ghost use Rattle.script_answers.specs.Answer.{entry_line, list_lines};
 ghost use Rattle.screen_pictures.specs.Printed.{printed};
@@ -11,6 +11,7 @@ ghost use Rattle.script_answers.specs.Stretch.{bytes_in, is_in_another, count_in
 
 use arrayvec::ArrayVec;
 use desktop_definitions::{Entry, Reply};
+use output_bytes::hex_digit;
 use piece_ring::Look;
 use screen_cells::Screen;
 use std::alloc::{AllocError, Global};
@@ -177,22 +178,10 @@ fn shown_bytes(byte: u8) -> ArrayVec<u8, 3>
         shown.push(byte);
     } else {
         shown.push(b'%');
-        shown.push(digit(byte / 16));
-        shown.push(digit(byte % 16));
+        shown.push(hex_digit(byte / 16));
+        shown.push(hex_digit(byte % 16));
     }
     shown
-}
-
-/// A hexadecimal digit, in lower case.
-fn digit(value: u8) -> u8
-    requires { value < 16 }
-    ensures { result ≡ digit_of value }
-{
-    if value < 10 {
-        b'0' + value
-    } else {
-        b'a' - 10 + value
-    }
 }
 
 /// The lines of a listing: one for each entry, and `end`.

@@ -116,7 +116,7 @@ pub plain_file : (text : List ℕ) → list_all is_itself text ≡ true → file
 unfolding file_bytes_of
 plain_file text is = ap (λ known. known >>= tested is_file_bytes) (plain text is)
 
-pub plain_typed : (text : List ℕ) → list_all is_itself text ≡ true → typed_bytes_of text ≡ tested is_typed_bytes text
+plain_typed : (text : List ℕ) → list_all is_itself text ≡ true → typed_bytes_of text ≡ tested is_typed_bytes text
 unfolding typed_bytes_of
 plain_typed text is = ap (λ known. known >>= tested is_typed_bytes) (plain text is)
 
@@ -161,4 +161,4 @@ pub ruleset spelled_exits = (spelled_none, spelled_long)
 
 pub ruleset file_exits = (plain_file, file_none, file_some)
 
-pub ruleset typed_exits = (plain_typed, typed_none, typed_some)
+pub ruleset typed_exits = (typed_none, typed_some)

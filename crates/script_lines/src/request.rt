@@ -200,9 +200,6 @@ fn show(name: &[u8]) -> Option<Request>
 fn typed_bytes(text: &[u8]) -> Option<TypedBytes>
     ensures { result ≡ typed_bytes_of text.now }
 {
-    if is_plain(text) {
-        return TypedBytes::new(text);
-    }
     TypedBytes::new(spelled(text)?.as_slice())
 }
 

@@ -125,31 +125,24 @@ reached (Some b) row column pen g wide high held =
     (λ p. λ i. record g { column = least column g.width wide i; row = least row g.height high i; pen = pen }))
 
 -- no operation changes how wide and high a grid is
+same_size : (os : List Operation) (g : Grid) → ((done os g).width ≡ g.width) × ((done os g).height ≡ g.height)
+same_size [] g = (refl, refl)
+same_size (Hold ∷ os) g = same_size os (act Hold g)
+same_size (Release ∷ os) g = same_size os (act Release g)
+same_size (Hide ∷ os) g = same_size os (act Hide g)
+same_size (Show ∷ os) g = same_size os (act Show g)
+same_size (Ring ∷ os) g = same_size os (act Ring g)
+same_size (Go c r ∷ os) g = same_size os (act (Go c r) g)
+same_size (Take p ∷ os) g = same_size os (act (Take p) g)
+same_size (Put b ∷ os) g = same_size os (act (Put b) g)
+same_size (Clear ∷ os) g = same_size os (act Clear g)
+same_size (Wipe ∷ os) g = same_size os (act Wipe g)
+
 pub same_width : (os : List Operation) (g : Grid) → (done os g).width ≡ g.width
-same_width [] g = refl
-same_width (Hold ∷ os) g = same_width os (act Hold g)
-same_width (Release ∷ os) g = same_width os (act Release g)
-same_width (Hide ∷ os) g = same_width os (act Hide g)
-same_width (Show ∷ os) g = same_width os (act Show g)
-same_width (Ring ∷ os) g = same_width os (act Ring g)
-same_width (Go c r ∷ os) g = same_width os (act (Go c r) g)
-same_width (Take p ∷ os) g = same_width os (act (Take p) g)
-same_width (Put b ∷ os) g = same_width os (act (Put b) g)
-same_width (Clear ∷ os) g = same_width os (act Clear g)
-same_width (Wipe ∷ os) g = same_width os (act Wipe g)
+same_width os g = (same_size os g).0
 
 pub same_height : (os : List Operation) (g : Grid) → (done os g).height ≡ g.height
-same_height [] g = refl
-same_height (Hold ∷ os) g = same_height os (act Hold g)
-same_height (Release ∷ os) g = same_height os (act Release g)
-same_height (Hide ∷ os) g = same_height os (act Hide g)
-same_height (Show ∷ os) g = same_height os (act Show g)
-same_height (Ring ∷ os) g = same_height os (act Ring g)
-same_height (Go c r ∷ os) g = same_height os (act (Go c r) g)
-same_height (Take p ∷ os) g = same_height os (act (Take p) g)
-same_height (Put b ∷ os) g = same_height os (act (Put b) g)
-same_height (Clear ∷ os) g = same_height os (act Clear g)
-same_height (Wipe ∷ os) g = same_height os (act Wipe g)
+same_height os g = (same_size os g).1
 
 -- tests of columns and rows
 inside : (w c : ℕ) → c ≤ w → nat_lt w c ≡ false

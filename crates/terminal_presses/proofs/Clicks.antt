@@ -11,8 +11,7 @@ use Rattle.terminal_presses.specs.Sights.{Sight, spot_in}
 use Rattle.terminal_presses.specs.declared.action.Click.{Click}
 use Rattle.terminal_presses.specs.declared.action.Click.TheVariants.{Keys}
 use Rattle.terminal_presses.specs.declared.hand.Hand.{Hand}
-use Rattle.terminal_presses.specs.Gestures.{with_left, with_middle, with_right, joined, called, pressed_more, released}
-use Rattle.terminal_presses.specs.Gestures.{released_at}
+use Rattle.terminal_presses.specs.Gestures.{joined, called, pressed_more, released, released_at}
 use Rattle.terminal_presses.specs.Hands.{new_hand, by_function, meant, begun, gone_down, rested, gone_up, reported}
 use Rattle.terminal_presses.specs.Hands.{fresh, unpasted, handled}
 use Rattle.terminal_presses.specs.Runs.{hand_after, posted, Makes, Corner, down_with, down, up, alone, together}
@@ -37,7 +36,7 @@ pub record Both (sight : Sight) (first second : Button) (start p q end : Corner)
 pub two_buttons : (sight : Sight) (first second : Button) (start p q end : Corner) → (first ≡ second → ⊥)
     → Both sight first second start p q end
 unfolding handled unpasted fresh reported gone_down begun meant gone_up rested released released_at pressed_more
-    called joined with_left with_middle with_right
+    called joined
 two_buttons sight Left Left start p q end other = absurd (other refl)
 two_buttons sight Left Middle start p q end other = record {
   in_turn = record { hand_is = refl; events_are = refl };
@@ -111,8 +110,7 @@ Falls sight start p q a b c =
     Makes sight new_hand (down a start ∷ down b p ∷ down c q ∷ []) (off sight start) []
 
 fallen : (sight : Sight) (start p q : Corner) (a b c : Button) → AreThree a b c → Falls sight start p q a b c
-unfolding handled unpasted fresh reported gone_down begun meant pressed_more called joined with_left with_middle
-    with_right
+unfolding handled unpasted fresh reported gone_down begun meant pressed_more called joined
 fallen sight start p q a b c are =
     by_orders (Falls sight start p q) (record { hand_is = refl; events_are = refl })
     (record { hand_is = refl; events_are = refl }) (record { hand_is = refl; events_are = refl })

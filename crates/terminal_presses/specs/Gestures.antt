@@ -32,33 +32,23 @@ with_button button.Left is down = record down { left = is }
 with_button button.Middle is down = record down { middle = is }
 with_button button.Right is down = record down { right = is }
 
--- ---- the keys of a gesture, in the order in which they went down; a third one calls it off
+-- ---- the keys of a gesture
 
-unfoldable pub with_left : MouseKeys → Option MouseKeys
-with_left Middle = Some MiddleLeft
-with_left Right = Some RightLeft
-with_left MiddleRight = None
-with_left RightMiddle = None
-with_left keys = Some keys
-
-unfoldable pub with_middle : MouseKeys → Option MouseKeys
-with_middle Left = Some LeftMiddle
-with_middle Right = Some RightMiddle
-with_middle LeftRight = None
-with_middle RightLeft = None
-with_middle keys = Some keys
-
-unfoldable pub with_right : MouseKeys → Option MouseKeys
-with_right Left = Some LeftRight
-with_right Middle = Some MiddleRight
-with_right LeftMiddle = None
-with_right MiddleLeft = None
-with_right keys = Some keys
-
+-- with a button more, in the order in which they went down; a third one calls the gesture off
 unfoldable pub joined : Button → MouseKeys → Option MouseKeys
-joined button.Left keys = with_left keys
-joined button.Middle keys = with_middle keys
-joined button.Right keys = with_right keys
+joined button.Left Middle = Some MiddleLeft
+joined button.Left Right = Some RightLeft
+joined button.Middle Left = Some LeftMiddle
+joined button.Middle Right = Some RightMiddle
+joined button.Right Left = Some LeftRight
+joined button.Right Middle = Some MiddleRight
+joined button.Left MiddleRight = None
+joined button.Left RightMiddle = None
+joined button.Middle LeftRight = None
+joined button.Middle RightLeft = None
+joined button.Right LeftMiddle = None
+joined button.Right MiddleLeft = None
+joined another keys = Some keys
 
 abbrev pub as_click : Option MouseKeys → Option Click
 as_click None = None

@@ -13,6 +13,7 @@ use Rattle.terminal_presses.specs.declared.press.Button.{Button}
 use Rattle.terminal_presses.specs.declared.press.Button.TheVariants as button
 use Rattle.terminal_presses.specs.declared.press.FunctionKey.{FunctionKey}
 use Rattle.terminal_presses.specs.declared.press.FunctionKey.TheVariants.{F1, F2, F3, F4, F5, F6, F7, F8, F9, F10}
+use Rattle.terminal_presses.specs.declared.press.MouseReport.{MouseReport}
 use Rattle.terminal_presses.specs.declared.press.Press.{Press}
 use Rattle.terminal_presses.specs.declared.press.Press.TheVariants.{Mouse, PasteBegins, PasteEnds}
 use Rattle.terminal_presses.specs.Sights.{Sight, spot_in}
@@ -54,15 +55,18 @@ abbrev pub Corner : Type 0
 Corner = ℕ × ℕ
 
 -- a button goes down or up, with the keys Alt and Ctrl or without them
-abbrev pub moved_with : Bool → Bool → Bool → Button → Corner → Press
-moved_with down alt control button at = Mouse (record {
+abbrev pub report_with : Bool → Bool → Bool → Button → Corner → MouseReport
+report_with down alt control button at = record {
   button = button;
   is_down = down;
   with_alt = alt;
   with_control = control;
   column = at.0;
   row = at.1;
-})
+}
+
+abbrev pub moved_with : Bool → Bool → Bool → Button → Corner → Press
+moved_with down alt control button at = Mouse (report_with down alt control button at)
 
 abbrev pub down_with : Bool → Bool → Button → Corner → Press
 down_with alt control button at = moved_with true alt control button at

@@ -1,7 +1,7 @@
 //! Gestures of the mouse: from the first button that goes down to the last that goes up.
 ghost use Rattle.std.specs.Prelude.{◌≡◌};
 ghost use Rattle.terminal_presses.specs.Gestures.{no_buttons, is_none_down as none_down, is_down as down, with_button};
-ghost use Rattle.terminal_presses.specs.Gestures.{joined as joined_keys, with_left, with_middle, with_right, called};
+ghost use Rattle.terminal_presses.specs.Gestures.{joined as joined_keys, called};
 ghost use Rattle.terminal_presses.specs.Gestures.{pressed_more, released, released_at};
 
 use crate::action::{Action, Click};
@@ -141,7 +141,6 @@ fn called(click: Option<Click>, button: Button) -> Option<Click>
 }
 
 /// The keys with a button more. None with a third one.
-#[tactic(auto, unfolding(crate::specs::Gestures::joined))]
 fn joined(keys: Keys, button: Button) -> Option<Keys>
     ensures { result ≡ joined_keys button keys }
 {
@@ -153,9 +152,9 @@ fn joined(keys: Keys, button: Button) -> Option<Keys>
 }
 
 /// The keys with the left button.
-#[tactic(auto, unfolding(crate::specs::Gestures::with_left))]
+#[tactic(auto, unfolding(crate::specs::Gestures::joined))]
 fn joined_left(keys: Keys) -> Option<Keys>
-    ensures { result ≡ with_left keys }
+    ensures { result ≡ joined_keys Button.Left keys }
 {
     match keys {
         Keys::Middle => Some(Keys::MiddleLeft),
@@ -167,9 +166,9 @@ fn joined_left(keys: Keys) -> Option<Keys>
 }
 
 /// The keys with the middle button.
-#[tactic(auto, unfolding(crate::specs::Gestures::with_middle))]
+#[tactic(auto, unfolding(crate::specs::Gestures::joined))]
 fn joined_middle(keys: Keys) -> Option<Keys>
-    ensures { result ≡ with_middle keys }
+    ensures { result ≡ joined_keys Button.Middle keys }
 {
     match keys {
         Keys::Left => Some(Keys::LeftMiddle),
@@ -184,9 +183,9 @@ fn joined_middle(keys: Keys) -> Option<Keys>
 }
 
 /// The keys with the right button.
-#[tactic(auto, unfolding(crate::specs::Gestures::with_right))]
+#[tactic(auto, unfolding(crate::specs::Gestures::joined))]
 fn joined_right(keys: Keys) -> Option<Keys>
-    ensures { result ≡ with_right keys }
+    ensures { result ≡ joined_keys Button.Right keys }
 {
     match keys {
         Keys::Left => Some(Keys::LeftRight),

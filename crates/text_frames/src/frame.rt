@@ -3,12 +3,10 @@ ghost use Rattle.std.specs.Prelude.{◌≡◌, ◌⊎◌, ◌+◌, ◌^◌, ◌<
 ghost use Rattle.std.specs.Prelude.{IfOk, IfSome, OnOk, OnErr, if◌then◌else◌};
 ghost use Rattle.readers_scanners.specs.Words.{CountsFault, OnlyReads, flat, AreWithin, bytes};
 ghost use Rattle.text_frames.specs.Cells.{IsPositionAt, IsCellOf};
-ghost use Rattle.text_frames.specs.Row.{IsRow};
-ghost use Rattle.text_frames.specs.Rules.{moved, changed_org, is_in_rows, IsFollowed, IsBrought};
+ghost use Rattle.text_frames.specs.Rules.{moved, changed_org, shown_org, is_in_rows, IsFollowed, IsBrought};
 
 use crate::lines::{ends_between, line_above, line_start};
 use crate::place::{self, cell_in, column_below};
-use crate::row::{RowCells, cells_of_row};
 use crate::{CharSource, Fault, Text};
 
 /// The characters from `beg` up to before `end`, with the rank of the selection among all.
@@ -111,57 +109,21 @@ impl Frame {
         ensures reads { OnlyReads S.characters S.failures S.honest S.same_ground source.old source.new }
         ensures cause { CountsFault result (S.failures source.old) (S.failures source.new) }
     {
-        let seen = is_shown(self.org, text, h, p, source)?;
-        if seen {
-            return Ok(());
-        }
-        let org = line_above(text, h / 2, p, source)?;
+        let org = org_to_show(self.org, text, h, p, source)?;
         self.org = org;
         Ok(())
     }
 
-    /// The filled cells of the row `row`, counted from 0, in a frame of `h` rows of `w` columns: from the left one on,
-    /// at most `w`, the byte, the look and the position of the character in each. A tabulator stands in each of its
-    /// cells, a carriage return in none. The text is read from `org` to the end of that row at most. `Fault`: the
-    /// source failed in this call.
-    pub fn line<S: CharSource>(
-        &self,
-        text: &Text,
-        w: u8,
-        h: u8,
-        row: u8,
-        source: &mut S,
-    ) -> Result<RowCells, Fault>
-        requires columns { w ≤ 50 }
-        requires rows { h ≤ 31 }
-        requires row { row < h }
-        requires org { self.now.org ≤ length (flat text.now) }
-        requires offsets { AreWithin (length (S.characters source.old)) (flat text.now) }
-        ensures cells { IfOk result (λ line. IsRow (S.honest source.old) (S.characters source.old) (flat text.now)
-            w self.now.org row line.items) }
-        ensures reads { OnlyReads S.characters S.failures S.honest S.same_ground source.old source.new }
-        ensures cause { CountsFault result (S.failures source.old) (S.failures source.new) }
-    {
-        let line = cells_of_row(text, self.org, w, row, source)?;
-        Ok(line)
-    }
-
-    /// The position at the cell of the column `col` and the row `row`, counted from 0, in a frame of `h` rows of `w`
-    /// columns: of the character whose cells hold the column; past the last character of a line the line's end; in a
-    /// row without a line the text's end. A column past the frame's is one of the line all the same. `Fault`: the
-    /// source failed in this call.
+    /// The position at the cell of the column `col` and the row `row`, counted from 0: of the character whose cells
+    /// hold the column; past the last character of a line the line's end; in a row without a line the text's end. A
+    /// column past the frame's is one of the line all the same. `Fault`: the source failed in this call.
     pub fn pos_at<S: CharSource>(
         &self,
         text: &Text,
-        w: u8,
-        h: u8,
         col: u8,
         row: u8,
         source: &mut S,
     ) -> Result<u32, Fault>
-        requires columns { w ≤ 50 }
-        requires rows { h ≤ 31 }
-        requires row { row < h }
         requires org { self.now.org ≤ length (flat text.now) }
         requires offsets { AreWithin (length (S.characters source.old)) (flat text.now) }
         ensures position { IfOk result (IsPositionAt (S.honest source.old) (S.characters source.old) (flat text.now)
@@ -203,8 +165,9 @@ impl Frame {
     }
 }
 
-/// Where a frame begins after a change of its text. `Fault`: the source failed in this call.
-fn org_after<S: CharSource>(
+/// Where a frame that began at `org` begins after a change of its text, as `update` has it. `Fault`: the source failed
+/// in this call.
+pub fn org_after<S: CharSource>(
     org: u32,
     text: &Text,
     p: u32,
@@ -247,6 +210,32 @@ fn place_after(org: u32, p: u32, inserted: u32, deleted: u32, len: u32) -> u32
     } else {
         org - deleted
     }
+}
+
+/// Where a frame of `h` rows that began at `org` begins so that the position `p` is shown, as `show` has it. `Fault`:
+/// the source failed in this call.
+pub fn org_to_show<S: CharSource>(
+    org: u32,
+    text: &Text,
+    h: u8,
+    p: u32,
+    source: &mut S,
+) -> Result<u32, Fault>
+    requires place { p ≤ length (flat text.now) }
+    requires org { org ≤ length (flat text.now) }
+    requires offsets { AreWithin (length (S.characters source.old)) (flat text.now) }
+    ensures exact { IfOk result (λ new. S.honest source.old
+        → new ≡ shown_org (bytes (S.characters source.old) (flat text.now)) h p org) }
+    ensures range { IfOk result (λ new. new ≤ length (flat text.now)) }
+    ensures reads { OnlyReads S.characters S.failures S.honest S.same_ground source.old source.new }
+    ensures cause { CountsFault result (S.failures source.old) (S.failures source.new) }
+{
+    let seen = is_shown(org, text, h, p, source)?;
+    if seen {
+        return Ok(org);
+    }
+    let above = line_above(text, h / 2, p, source)?;
+    Ok(above)
 }
 
 /// Whether the line of a position is in one of the `h` rows of a frame that begins at `org`. `Fault`: the source failed

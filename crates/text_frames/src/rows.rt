@@ -33,9 +33,9 @@ impl Frame {
         }
     }
 
-    /// The filled cells of the row `row`, as `line` gives them, where `rows` tells how far the frame's rows in this
-    /// text have been read. The text is read from there to the end of that row at most, and from `org` for a row that
-    /// was read already. `Fault`: the source failed in this call.
+    /// The filled cells of the row `row`, as `cells_of_row` gives them, where `rows` tells how far the frame's rows in
+    /// this text have been read. The text is read from there to the end of that row at most, and from `org` for a row
+    /// that was read already. `Fault`: the source failed in this call.
     pub fn read_line<S: CharSource>(
         &self,
         text: &Text,

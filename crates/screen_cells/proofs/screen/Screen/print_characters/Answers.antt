@@ -10,15 +10,13 @@ use Rattle.screen_cells.proofs.screen.Screen.print_characters.Goals as goal
 pub loop-y-preserved : goal.loop-y-preserved
 loop-y-preserved g c = line_taken
     (λ (y : ℕ). character_line y (row_at c.args.self.now y)) _ _ _ _ _ c.loop-y.y c.loop-y-test.true
-    (c.as_slice.ensures.value ∙ c.character_line.ensures
-    ∙ (λ k. character_line (c.loop-y.y - 1) (row_at (c.rows.ensures k) (c.from.ensures k))))
+    (c.as_slice.ensures.value ∙ c.character_line.ensures ∙ (λ k. character_line (c.loop-y.y - 1) (c.row-row.ensures k)))
     c.loop-y.invariant c.in_ok-send.ensures.sent
 
 pub returns-in_err-send-clause-front : goal.returns-in_err-send-clause-front
 returns-in_err-send-clause-front g c = on_err c.from_residual.result
     (line_front (λ (y : ℕ). character_line y (row_at c.args.self.now y)) _ _ _ _ _ c.loop-y.y c.loop-y-test.true
-    (c.as_slice.ensures.value ∙ c.character_line.ensures
-    ∙ (λ k. character_line (c.loop-y.y - 1) (row_at (c.rows.ensures k) (c.from.ensures k))))
+    (c.as_slice.ensures.value ∙ c.character_line.ensures ∙ (λ k. character_line (c.loop-y.y - 1) (c.row-row.ensures k)))
     c.loop-y.invariant c.in_err-send.ensures.front)
 
 pub returns-clause-printed : goal.returns-clause-printed

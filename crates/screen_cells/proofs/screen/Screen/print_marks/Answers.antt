@@ -12,28 +12,24 @@ pub loop-y-preserved-in-Continue-1 : goal.loop-y-preserved-in-Continue-1
 loop-y-preserved-in-Continue-1 g c =
     passing_taken (λ (y : ℕ). mark_line y (row_at c.args.self.now y))
     (λ (y : ℕ). has_mark_line (row_at c.args.self.now y)) _ _ _ _ _ c.loop-y.y c.loop-y-test.true
-    (c.as_slice.ensures.value ∙ c.mark_line.ensures
-    ∙ (λ k. mark_line (c.loop-y.y - 1) (row_at (c.rows.ensures k) (c.from.ensures k))))
-    (sym (c.has_mark_line.ensures ∙ (λ k. has_mark_line (row_at (c.rows.ensures k) (c.from.ensures k))))
-    ∙ c.if-has_mark_line.true)
+    (c.as_slice.ensures.value ∙ c.mark_line.ensures ∙ (λ k. mark_line (c.loop-y.y - 1) (c.row-row.ensures k)))
+    (sym (c.has_mark_line.ensures ∙ (λ k. has_mark_line (c.row-row.ensures k))) ∙ c.if-has_mark_line.true)
     c.loop-y.invariant c.in_ok-send.ensures.sent
 
 pub returns-in_err-send-clause-front : goal.returns-in_err-send-clause-front
 returns-in_err-send-clause-front g c = on_err c.from_residual.result (
     passing_front (λ (y : ℕ). mark_line y (row_at c.args.self.now y))
     (λ (y : ℕ). has_mark_line (row_at c.args.self.now y)) _ _ _ _ _ c.loop-y.y c.loop-y-test.true
-    (c.as_slice.ensures.value ∙ c.mark_line.ensures
-    ∙ (λ k. mark_line (c.loop-y.y - 1) (row_at (c.rows.ensures k) (c.from.ensures k))))
-    (sym (c.has_mark_line.ensures ∙ (λ k. has_mark_line (row_at (c.rows.ensures k) (c.from.ensures k))))
-    ∙ c.if-has_mark_line.true)
+    (c.as_slice.ensures.value ∙ c.mark_line.ensures ∙ (λ k. mark_line (c.loop-y.y - 1) (c.row-row.ensures k)))
+    (sym (c.has_mark_line.ensures ∙ (λ k. has_mark_line (c.row-row.ensures k))) ∙ c.if-has_mark_line.true)
     c.loop-y.invariant c.in_err-send.ensures.front)
 
 pub loop-y-preserved : goal.loop-y-preserved
 loop-y-preserved g c =
     no_line (λ (y : ℕ). mark_line y (row_at c.args.self.now y))
     (λ (y : ℕ). has_mark_line (row_at c.args.self.now y)) _ _ _ c.loop-y.y c.loop-y-test.true
-    (sym (c.has_mark_line.ensures ∙ (λ k. has_mark_line (row_at (c.rows.ensures k) (c.from.ensures k))))
-    ∙ c.if-has_mark_line.false) c.loop-y.invariant
+    (sym (c.has_mark_line.ensures ∙ (λ k. has_mark_line (c.row-row.ensures k))) ∙ c.if-has_mark_line.false)
+    c.loop-y.invariant
 
 pub returns-clause-printed : goal.returns-clause-printed
 returns-clause-printed g c = taken_all _ _ _ _ _ c.loop-y.invariant
