@@ -27,6 +27,7 @@ use Rattle.store_layout.specs.Meaning.{Makes, full_sectors}
 use Rattle.store_layout.specs.Kept.{IsNewSlot, IsKept}
 use Rattle.store_layout.specs.StandingLaws.{image_stays}
 use Rattle.desk_slots.specs.Written.{HasGate, IsFilled}
+use Rattle.desk_slots.proofs.NewSlot.{filled_as}
 
 -- ---- the empty desktop
 
@@ -168,15 +169,7 @@ module _ (before one two three four last : Moment) (image head_bytes shut label 
   }
 
   pub slot_started : IsFilled last 0 version 0 1 [] empty_desktop
-  slot_started = record {
-    quiet = λ n. ap (λ m. m.pending n) synced;
-    new = fresh;
-    front = record {
-      area_is = ap (λ h. h.area) here;
-      named = ap (λ h. full_sectors h.written) here;
-      same = none_stored last.reads (area_start 0);
-    };
-  }
+  slot_started = filled_as four last new_head synced fresh here refl refl (none_stored last.reads (area_start 0))
 
 -- ---- the whole
 

@@ -8,7 +8,7 @@ use Rattle.sector_disk.specs.Trail.{Moment, written, settled}
 use Rattle.sector_disk.specs.Stored.{stored, stored_same}
 use Rattle.sector_streams.proofs.Filled.{reads_here, reads_elsewhere}
 use Rattle.command_table.specs.Versions.{newest_version}
-use Rattle.desktop_definitions.specs.Desktop.{KeptDesktop}
+use Rattle.desktop_definitions.specs.Desktop.{Desktop, KeptDesktop}
 use Rattle.desktop_definitions.specs.Limits.{most_written}
 use Rattle.desktop_definitions.specs.Seen.{seen}
 use Rattle.desktop_definitions.specs.Sound.{IsOver}
@@ -33,6 +33,22 @@ all_written characters d over = as_kept characters d ∙ sym over.counted
 few_characters : (characters : List ℕ) (d : KeptDesktop) → IsOver characters d → length characters ≤ most_written
 few_characters characters d over = subst (λ n. n ≤ most_written) (all_written characters d over)
     (over.whole.sound characters).written_within
+
+-- A new slot is filled where nothing is pending, and where its head names the whole sectors of these characters.
+pub filled_as : (before last : Moment) {slot version area number : ℕ} {characters : List ℕ} {desktop : Desktop}
+    (h : Head) → last ≡ settled before → IsNewSlot last.reads slot version number desktop → head last.reads slot ≡ h
+    → h.area ≡ area → full_sectors h.written ≡ full_sectors (length characters)
+    → HasFront last.reads area (full_sectors (length characters)) characters
+    → IsFilled last slot version area number characters desktop
+filled_as before last h synced new here area_is named front = record {
+  quiet = λ n. ap (λ m. m.pending n) synced;
+  new = new;
+  front = record {
+    area_is = ap (λ h. h.area) here ∙ area_is;
+    named = ap (λ h. full_sectors h.written) here ∙ named;
+    same = front;
+  };
+}
 
 module _ (first second third last : Moment) (slot number extent count at_area : ℕ) (d : KeptDesktop)
     (characters : List ℕ)
@@ -136,12 +152,4 @@ module _ (first second third last : Moment) (slot number extent count at_area : 
   }
 
   pub slot_filled : IsFilled last slot LAYOUT at_area number characters (seen characters d)
-  slot_filled = record {
-    quiet = λ n. ap (λ m. m.pending n) synced;
-    new = fresh;
-    front = record {
-      area_is = ap (λ h. h.area) here;
-      named = ap (λ h. full_sectors h.written) here;
-      same = area_now;
-    };
-  }
+  slot_filled = filled_as third last new_head synced fresh here refl refl area_now

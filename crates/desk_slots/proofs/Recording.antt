@@ -116,13 +116,7 @@ staging size old new s k long room was run = spared (λ c. Stands size c s) was.
 -- all of a standing but the end of its journal stays where only gate k differs
 only_gate : {size : ℕ} (c c' : Content) (s : Standing) (k : ℕ) → k < JOURNAL_EVENTS → Stands size c s
     → ((n : ℕ) → n ≢ gate s.slot k → c' n ≡ c n) → (events : List Event) → IsJournal c' s.slot 0 events
-    → Stands size c' (record {
-      slot = s.slot;
-      version = s.version;
-      epoch = s.epoch;
-      start = s.start;
-      events = events;
-    })
+    → Stands size c' (record s { events = events })
 only_gate c c' s k room was same events journal = carried_on c c' s events was
     (same LABEL (omega arith))
     (ap is_open (same (slot_gate s.slot) (omega (arith, was.two))) ∙ was.live)

@@ -36,31 +36,28 @@ kept_shows size disk live version number count desktop kept = λ c image. record
   is = kept.is;
 }
 
--- what is kept stays kept where nothing is touched
-pub kept_on : (size : ℕ) (old new : Trail) (live version number count : ℕ) (desktop : Desktop)
-    → IsKept size old live version number count desktop → Touches Nowhere old new
-    → IsKept size new live version number count desktop
-kept_on size old new live version number count desktop kept run = record {
-  standing = kept.standing;
-  settled = record {
-    quiet = λ n. still_settled old new run n (λ none. none) (kept.settled.quiet n);
-    stands = subst (λ content. Stands size content kept.standing) (sym (still_all old new run)) kept.settled.stands;
-  };
-  slot = kept.slot;
-  version_is = kept.version_is;
-  epoch = kept.epoch;
-  events = kept.events;
-  is = kept.is;
-}
+module _ (size : ℕ) (old new : Trail) (live version number count : ℕ) (desktop : Desktop)
+    (kept : IsKept size old live version number count desktop) (run : Touches Nowhere old new) where
+  -- what is kept stays kept where nothing is touched
+  pub kept_on : IsKept size new live version number count desktop
+  kept_on = record {
+    standing = kept.standing;
+    settled = record {
+      quiet = λ n. still_settled old new run n (λ none. none) (kept.settled.quiet n);
+      stands = subst (λ content. Stands size content kept.standing) (sym (still_all old new run)) kept.settled.stands;
+    };
+    slot = kept.slot;
+    version_is = kept.version_is;
+    epoch = kept.epoch;
+    events = kept.events;
+    is = kept.is;
+  }
 
--- and every image still means it
-pub means_on : (size : ℕ) (old new : Trail) (live version number count : ℕ) (desktop : Desktop)
-    → IsKept size old live version number count desktop → Touches Nowhere old new
-    → LeavesOnly old new (Means size desktop)
-means_on size old new live version number count desktop kept run =
-    spared (Means size desktop) kept.settled.quiet run (λ c same. (
-      kept.standing,
-      subst (λ content. Stands size content kept.standing)
-          (sym (λ i n. same n (λ none. none) i)) kept.settled.stands,
-      kept.is,
-    ))
+  -- and every image still means it
+  pub means_on : LeavesOnly old new (Means size desktop)
+  means_on = spared (Means size desktop) kept.settled.quiet run (λ c same. (
+    kept.standing,
+    subst (λ content. Stands size content kept.standing)
+        (sym (λ i n. same n (λ none. none) i)) kept.settled.stands,
+    kept.is,
+  ))

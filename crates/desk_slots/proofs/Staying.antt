@@ -18,7 +18,7 @@ use Rattle.store_layout.specs.Layout.{area_start}
 use Rattle.store_layout.specs.Kept.{InCheckpoint, chosen_area}
 use Rattle.desk_slots.specs.declared.live.LiveDesktop.{LiveDesktop}
 use Rattle.desk_slots.specs.declared.place.SlotPlace.{SlotPlace}
-use Rattle.desk_slots.specs.Live.{AreTrueOver, IsTold, seen_live, IsLive, IsOverPages, StaysLive}
+use Rattle.desk_slots.specs.Live.{AreTrueOver, IsTold, seen_live, IsLive, IsOverPages, LooksThrough, StaysLive}
 use Rattle.desk_slots.proofs.Settled.{over_as_long}
 use Rattle.desk_slots.specs.Written.{GoesOn, InRecord, InRenewal}
 
@@ -78,42 +78,34 @@ live_stays d {disk = disk} {disk' = disk'} live run apart told =
 
 -- It was looked at: its characters are the same, and the lines that it keeps are so, if they were.
 pub looks_stay : {D : Type 0} (d : Ghosts D) {disk disk' : D} (old new : LiveDesktop)
-    → IsConfined d.size d.honest d.trail Nowhere disk disk'
-    → (d.honest disk → paged_characters (now (d.trail disk')).reads new.pages
-    ≡ paged_characters (now (d.trail disk)).reads old.pages)
-    → length (paged_characters (now (d.trail disk')).reads new.pages)
-    ≡ length (paged_characters (now (d.trail disk)).reads old.pages)
-    → AreTrueOver d disk' new.pages → base_of new.pages ≡ base_of old.pages
-    → (renewed_of new.pages ≡ false → renewed_of old.pages ≡ false)
-    → (renewed_of new.pages ≡ false → saved_of new.pages ≡ saved_of old.pages)
-    → new.desktop ≡ old.desktop → new.area ≡ old.area
+    → LooksThrough d disk disk' old.pages new.pages → new.desktop ≡ old.desktop → new.area ≡ old.area
     → (d.honest disk → AreLinesOf (text_of (seen_live (now (d.trail disk)).reads old)) old.lines
     → AreLinesOf (text_of (seen_live (now (d.trail disk)).reads old)) new.lines)
     → IsLive old → IsTold d disk old → StaysLive d disk disk' old new
-looks_stay d {disk = disk} {disk' = disk'} old new run same long pages base before counted kept area lines live told =
+looks_stay d {disk = disk} {disk' = disk'} old new looks kept area lines live told =
     record {
       shown_same = looked;
       kept_same = kept;
       area_same = area;
-      renewed_before = before;
-      place_same = counted;
+      renewed_before = looks.reads.before;
+      place_same = looks.reads.counted;
       told = record {
-        pages = pages;
-        lines = λ honest. let first = run.already honest in
+        pages = looks.reads.told;
+        lines = λ honest. let first = looks.reads.confined.already honest in
             subst (λ (x : Desktop). AreLinesOf (text_of x) new.lines) (sym (looked first))
             (lines first (told.lines first));
       };
       live = record {
         over = subst (λ (x : KeptDesktop). IsOverPages new.pages x) (sym kept)
             (over_as_long old.pages new.pages old.desktop (now (d.trail disk)).reads (now (d.trail disk')).reads
-            live.over long);
+            live.over looks.long);
         low = subst (λ n. n < AREAS) (sym area) live.low;
-        based = base ∙ live.based ∙ ap area_start (sym area);
+        based = looks.reads.base ∙ live.based ∙ ap area_start (sym area);
       };
     }
   where
     looked : d.honest disk → seen_live (now (d.trail disk')).reads new ≡ seen_live (now (d.trail disk)).reads old
-    looked honest = λ i. seen (same honest i) (kept i)
+    looked honest = λ i. seen (looks.same honest i) (kept i)
 
 -- ---- what is written while the first characters stand at the front of an area
 

@@ -2,9 +2,12 @@
 use Rattle.std.proofs.Common.{◌≡◌, ℕ, ◌+◌, ◌*◌, ◌≤◌, List, ◌++◌, length, refl, sym, ◌∙◌, ap, subst, arith}
 use Rattle.std.proofs.Common.{length-append}
 use Rattle.sector_disk.specs.declared.disk.TheConstants.{SECTOR_BYTES}
+use Rattle.sector_disk.specs.declared.disk.Disk.{Ghosts}
+use Rattle.sector_disk.specs.Confined.{IsConfined}
 use Rattle.sector_disk.specs.Trail.{Content}
+use Rattle.sector_disk.proofs.Confinement.{joined}
 use Rattle.sector_streams.specs.declared.filling.Filling.{Filling}
-use Rattle.sector_streams.specs.Filling.{first_sector, most_sectors}
+use Rattle.sector_streams.specs.Filling.{first_sector, most_sectors, sectors_are, SectorsOf, InRange}
 use Rattle.sector_disk.specs.Stored.{Holds, stored, stored_held}
 use Rattle.command_table.specs.Versions.{newest_version}
 use Rattle.desktop_definitions.specs.Desktop.{KeptDesktop}
@@ -23,6 +26,16 @@ has_room d tail count whole parts tail_is count_is law =
     let room = law newest_version d.written (image_bytes newest_version (image_of d)) d
     (record { count = refl; whole = whole; parts = parts; exact = refl }) in
     omega (arith, tail_is, count_is, room)
+
+-- what was put into sectors and finished touched no others
+pub put_within : {D : Type 0} (d : Ghosts D) (f f' : Filling) {from limit : ℕ} {old mid new : D}
+    → first_sector f ≡ from → most_sectors f ≡ limit → first_sector f' ≡ first_sector f
+    → most_sectors f' ≡ most_sectors f → IsConfined d.size d.honest d.trail (SectorsOf f) old mid
+    → IsConfined d.size d.honest d.trail (SectorsOf f') mid new
+    → IsConfined d.size d.honest d.trail (InRange from limit) old new
+put_within d f f' from_is limit_is same_from same_limit put finished =
+    joined d.size d.honest d.trail (sectors_are d f from_is limit_is put)
+    (sectors_are d f' (same_from ∙ from_is) (same_limit ∙ limit_is) finished)
 
 -- bytes that fit are stored there, where the last sector was written
 pub all_stored : (c : Content) (f : Filling) (at count : ℕ) (tail bytes : List ℕ) → first_sector f ≡ at

@@ -1,7 +1,8 @@
 -- The desktop that a store has in memory, and what it is over the disk on which the first of its characters stand.
-use Rattle.std.specs.Prelude.{◌≡◌, ◌<◌, ℕ, List, false}
+use Rattle.std.specs.Prelude.{◌≡◌, ◌+◌, ◌<◌, ◌≤◌, ℕ, List, length, false}
 use Rattle.sector_disk.specs.declared.disk.Disk.{Ghosts}
-use Rattle.sector_disk.specs.Trail.{Content, now}
+use Rattle.sector_disk.specs.Confined.{IsConfined}
+use Rattle.sector_disk.specs.Trail.{Content, Nowhere, now}
 use Rattle.char_pages.specs.Cached.{AreTrue}
 use Rattle.char_pages.specs.Pages.{base_of, saved_of, saved_sectors, cached_of, renewed_of, paged_characters}
 use Rattle.char_pages.specs.declared.pages.Pages.{Pages}
@@ -58,3 +59,31 @@ pub record StaysLive {D : Type 0} (d : Ghosts D) (disk disk' : D) (old new : Liv
   pub place_same : renewed_of new.pages ≡ false → saved_of new.pages ≡ saved_of old.pages
   pub told : IsTold d disk' new
   pub live : IsLive new
+
+-- What is read through pages stands on the disk, and what they have in memory of it is so.
+pub record CanReadThrough {D : Type 0} (d : Ghosts D) (disk : D) (pages : Pages) : Type 0 where
+  pub on_disk : base_of pages + saved_sectors pages ≤ d.size disk
+  pub told : AreTrueOver d disk pages
+
+-- The same of the pages over which a desktop stands.
+pub record CanStepThrough {D : Type 0} (d : Ghosts D) (disk : D) (pages : Pages) (desktop : KeptDesktop) : Type 0 where
+  pub over : IsOverPages pages desktop
+  pub through : CanReadThrough d disk pages
+
+-- A call through pages only reads from the disk, and what they have in memory of it is so. They begin where they began.
+-- Where no characters were exchanged since the slot in use was written, none were before either, and as many are on the
+-- disk.
+pub record ReadsThrough {D : Type 0} (d : Ghosts D) (disk disk' : D) (pages pages' : Pages) : Type 0 where
+  pub confined : IsConfined d.size d.honest d.trail Nowhere disk disk'
+  pub told : AreTrueOver d disk' pages'
+  pub base : base_of pages' ≡ base_of pages
+  pub before : renewed_of pages' ≡ false → renewed_of pages ≡ false
+  pub counted : renewed_of pages' ≡ false → saved_of pages' ≡ saved_of pages
+
+-- A look through pages leaves the characters as they were.
+pub record LooksThrough {D : Type 0} (d : Ghosts D) (disk disk' : D) (pages pages' : Pages) : Type 0 where
+  pub reads : ReadsThrough d disk disk' pages pages'
+  pub same : d.honest disk → paged_characters (now (d.trail disk')).reads pages'
+      ≡ paged_characters (now (d.trail disk)).reads pages
+  pub long : length (paged_characters (now (d.trail disk')).reads pages')
+      ≡ length (paged_characters (now (d.trail disk)).reads pages)

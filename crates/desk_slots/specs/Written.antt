@@ -1,22 +1,30 @@
 -- What the steps of a post and of a checkpoint have written.
-use Rattle.std.specs.Prelude.{◌≡◌, ◌⊎◌, ◌<◌, ◌+◌, ℕ, List, length, Bool, false}
-use Rattle.sector_disk.specs.Trail.{Moment, Trail, now}
+use Rattle.std.specs.Prelude.{◌≡◌, ◌⊎◌, ◌<◌, ◌≤◌, ◌+◌, ℕ, List, length, Bool, false}
+use Rattle.sector_disk.specs.declared.disk.Disk.{Ghosts}
+use Rattle.sector_disk.specs.Trail.{Moment, Trail, now, LeavesOnly}
 use Rattle.char_pages.specs.Pages.{saved_sectors, renewed_of}
 use Rattle.event_bytes.specs.declared.event.Event.{Event}
 use Rattle.event_bytes.specs.Spelling.{Begins}
 use Rattle.desktop_definitions.specs.Desktop.{Desktop}
-use Rattle.store_layout.specs.declared.layout.TheConstants.{JOURNAL_EVENTS}
+use Rattle.store_layout.specs.declared.layout.TheConstants.{JOURNAL_EVENTS, LAYOUT, SLOTS, STORE_SECTORS}
 use Rattle.store_layout.specs.Layout.{is_open, slot_gate, gate, body, head}
-use Rattle.store_layout.specs.Meaning.{full_sectors}
+use Rattle.store_layout.specs.Meaning.{Means, full_sectors}
 use Rattle.store_layout.specs.Kept.{NextRecord, InCheckpoint, IsNewSlot, IsKept, IsFront, Spares, chosen_area}
 use Rattle.desk_slots.specs.declared.live.LiveDesktop.{LiveDesktop}
 use Rattle.desk_slots.specs.declared.place.SlotPlace.{SlotPlace}
+use Rattle.desk_slots.specs.Live.{IsLive, seen_live}
 
 -- nothing is pending, and event k of the journal stands before a closed gate, where there is one
 pub record HasRecord (m : Moment) (slot k : ℕ) (event : Event) : Type 0 where
   pub quiet : (n : ℕ) → m.pending n ≡ false
   pub begins : Begins (m.reads (body slot k)) event
   pub closed : k + 1 < JOURNAL_EVENTS → is_open (m.reads (gate slot (k + 1))) ≡ false
+
+-- there is such a gate in the journal of a slot of a store
+pub record IsInJournal (size slot k : ℕ) : Type 0 where
+  pub room : STORE_SECTORS ≤ size
+  pub two : slot < SLOTS
+  pub index : k < JOURNAL_EVENTS
 
 -- where event k goes, and its gate
 abbrev pub InRecord : ℕ → ℕ → ℕ → Type 0
@@ -52,3 +60,21 @@ pub record GoesOn (place : SlotPlace) (live : LiveDesktop) : Type 0 where
 -- what a checkpoint writes: the gate of the slot, and what stands behind it
 abbrev pub InRenewal : SlotPlace → ℕ → Type 0
 InRenewal place n = (n ≡ slot_gate place.slot) ⊎ InCheckpoint place.slot place.area place.saved n
+
+-- The disk has room for a store, and this place goes on where the characters of the desktop end.
+pub record CanRenew (size : ℕ) (place : SlotPlace) (desktop : LiveDesktop) : Type 0 where
+  pub room : STORE_SECTORS ≤ size
+  pub live : IsLive desktop
+  pub goes : GoesOn place desktop
+
+-- At each moment a crash leaves the desktop that the disk shows by the slot beside the place.
+abbrev pub KeepsShown : {D : Type 0} → Ghosts D → SlotPlace → LiveDesktop → D → D → Type 0
+KeepsShown d place desktop old new = d.honest old → (live version number count : ℕ)
+    → IsBeside place (d.size old) (d.trail old) live version number count (seen_live (now (d.trail old)).reads desktop)
+    → LeavesOnly (d.trail old) (d.trail new) (Means (d.size old) (seen_live (now (d.trail old)).reads desktop))
+
+-- That desktop was shown by the slot beside the place. Now the slot at the place shows this one, in the newest version.
+abbrev pub ShowsAnew : {D : Type 0} → Ghosts D → SlotPlace → LiveDesktop → D → D → Desktop → Type 0
+ShowsAnew d place desktop old new shown = d.honest old → (live version number count : ℕ)
+    → IsBeside place (d.size old) (d.trail old) live version number count (seen_live (now (d.trail old)).reads desktop)
+    → IsKept (d.size old) (d.trail new) place.slot LAYOUT place.epoch 0 shown

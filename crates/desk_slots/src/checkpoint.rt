@@ -12,12 +12,12 @@ ghost use Rattle.sector_streams.specs.Filling.{first_sector, most_sectors, Secto
 ghost use Rattle.command_table.specs.Versions.{newest_version};
 ghost use Rattle.desk_image.specs.Image.{image_of, image_bytes, IsSpellable};
 ghost use Rattle.store_layout.specs.Layout.{slot_gate, image_at, area_at};
-ghost use Rattle.store_layout.specs.Meaning.{Means, full_sectors, left_over};
-ghost use Rattle.store_layout.specs.Kept.{OpenGate, InArea, InCheckpoint, HasFront, IsFront, IsKept};
+ghost use Rattle.store_layout.specs.Meaning.{full_sectors, left_over};
+ghost use Rattle.store_layout.specs.Kept.{OpenGate, InArea, InCheckpoint, HasFront, IsFront};
 ghost use Rattle.desk_slots.specs.Device.{IsSameDevice, StaysWithin};
 ghost use Rattle.desk_slots.specs.Live.{characters_of, seen_live, IsLive, IsNamed, IsTold};
-ghost use Rattle.desk_slots.specs.Written.{GoesOn, HasGate, IsFilled, IsBeside, InRenewal};
-ghost use Rattle.desk_slots.specs.Words.{LeavesOnly, Only, CountsFault, now, IsConfined};
+ghost use Rattle.desk_slots.specs.Written.{GoesOn, CanRenew, HasGate, IsFilled, InRenewal, KeepsShown, ShowsAnew};
+ghost use Rattle.desk_slots.specs.Words.{Only, CountsFault, now, IsConfined};
 
 use crate::live::LiveDesktop;
 use crate::place::SlotPlace;
@@ -136,9 +136,7 @@ fn stream<D: Disk>(
 
 /// Fills the area and the image of a slot, and returns how many bytes the image has with the characters before it.
 fn fill_slot<D: Disk>(disk: &mut D, desktop: &LiveDesktop, place: SlotPlace) -> Result<u32, Fault>
-    requires room { STORE_SECTORS ≤ D.size disk.old }
-    requires live { IsLive desktop.now }
-    requires goes { GoesOn place desktop.now }
+    requires { CanRenew (D.size disk.old) place desktop.now }
     ensures kept { IsConfined D.size D.honest D.trail (InCheckpoint place.slot place.area place.saved)
         disk.old disk.new }
     ensures cause { CountsFault result (D.failures disk.old) (D.failures disk.new) }
@@ -161,9 +159,7 @@ fn fill_slot<D: Disk>(disk: &mut D, desktop: &LiveDesktop, place: SlotPlace) -> 
 
 /// Writes a whole slot behind its closed gate.
 fn write_slot<D: Disk>(disk: &mut D, desktop: &LiveDesktop, place: SlotPlace) -> Result<(), Fault>
-    requires room { STORE_SECTORS ≤ D.size disk.old }
-    requires live { IsLive desktop.now }
-    requires goes { GoesOn place desktop.now }
+    requires { CanRenew (D.size disk.old) place desktop.now }
     ensures kept { IsConfined D.size D.honest D.trail (InCheckpoint place.slot place.area place.saved)
         disk.old disk.new }
     ensures cause { CountsFault result (D.failures disk.old) (D.failures disk.new) }
@@ -200,19 +196,11 @@ pub fn open_slot<D: Disk>(disk: &mut D, slot: u32) -> Result<(), Fault>
 
 /// Puts the desktop into the other slot, and makes that the slot in use.
 fn change_slot<D: Disk>(disk: &mut D, desktop: &LiveDesktop, place: SlotPlace) -> Result<(), Fault>
-    requires room { STORE_SECTORS ≤ D.size disk.old }
-    requires live { IsLive desktop.now }
-    requires goes { GoesOn place desktop.now }
+    requires { CanRenew (D.size disk.old) place desktop.now }
     ensures kept { IsConfined D.size D.honest D.trail (InRenewal place) disk.old disk.new }
     ensures cause { CountsFault result (D.failures disk.old) (D.failures disk.new) }
-    ensures any_moment { D.honest disk.old → (live version number count : ℕ) → IsBeside place (D.size disk.old)
-        (D.trail disk.old) live version number count (seen_live (now (D.trail disk.old)).reads desktop.now)
-        → LeavesOnly (D.trail disk.old) (D.trail disk.new)
-        (Means (D.size disk.old) (seen_live (now (D.trail disk.old)).reads desktop.now)) }
-    ensures renewed { OnOk result (D.honest disk.old → (live version number count : ℕ)
-        → IsBeside place (D.size disk.old)
-        (D.trail disk.old) live version number count (seen_live (now (D.trail disk.old)).reads desktop.now)
-        → IsKept (D.size disk.old) (D.trail disk.new) place.slot LAYOUT place.epoch 0
+    ensures any_moment { KeepsShown D.Disk place desktop.now disk.old disk.new }
+    ensures renewed { OnOk result (ShowsAnew D.Disk place desktop.now disk.old disk.new
         (seen_live (now (D.trail disk.old)).reads desktop.now)) }
     ensures front { OnOk result (D.honest disk.old → IsFront (now (D.trail disk.new)).reads place.slot
         place.area
@@ -237,14 +225,8 @@ pub fn renew<D: Disk>(
     ensures device { IsSameDevice D.Disk disk.old disk.new }
     ensures within { StaysWithin D.Disk disk.old disk.new }
     ensures cause { CountsFault result (D.failures disk.old) (D.failures disk.new) }
-    ensures any_moment { D.honest disk.old → (live version number count : ℕ) → IsBeside place (D.size disk.old)
-        (D.trail disk.old) live version number count (seen_live (now (D.trail disk.old)).reads desktop.old)
-        → LeavesOnly (D.trail disk.old) (D.trail disk.new)
-        (Means (D.size disk.old) (seen_live (now (D.trail disk.old)).reads desktop.old)) }
-    ensures renewed { OnOk result (D.honest disk.old → (live version number count : ℕ)
-        → IsBeside place (D.size disk.old)
-        (D.trail disk.old) live version number count (seen_live (now (D.trail disk.old)).reads desktop.old)
-        → IsKept (D.size disk.old) (D.trail disk.new) place.slot LAYOUT place.epoch 0
+    ensures any_moment { KeepsShown D.Disk place desktop.old disk.old disk.new }
+    ensures renewed { OnOk result (ShowsAnew D.Disk place desktop.old disk.old disk.new
         (seen_live (now (D.trail disk.new)).reads desktop.new)) }
     ensures named { OnOk result (D.honest disk.old → IsNamed (now (D.trail disk.new)).reads place.slot desktop.new) }
     ensures shown { OnOk result (D.honest disk.old → seen_live (now (D.trail disk.new)).reads desktop.new

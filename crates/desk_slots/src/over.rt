@@ -1,20 +1,14 @@
 //! Calls of a desktop over pages and a disk.
-ghost use Rattle.std.specs.Prelude.{◌≡◌, ◌≤◌, ◌+◌, ℕ, Ok, IfOk, OnOk, length, false};
-ghost use Rattle.char_pages.specs.Pages.{base_of, saved_of, saved_sectors, renewed_of, paged_characters};
-ghost use Rattle.sector_disk.specs.Trail.{Content};
-ghost use Rattle.desk_core.specs.Stops.{IsStop};
+ghost use Rattle.std.specs.Prelude.{◌≡◌, ℕ, Ok, IfOk, OnOk, length};
+ghost use Rattle.char_pages.specs.Pages.{paged_characters};
+ghost use Rattle.command_table.specs.Versions.{version_number};
 ghost use Rattle.desktop_definitions.specs.Seen.{seen};
 ghost use Rattle.desktop_definitions.specs.Sound.{IsOver};
 ghost use Rattle.desktop_definitions.specs.Viewers.{text_of};
 ghost use Rattle.screen_cells.specs.Lines.{AreLinesOf};
-ghost use Rattle.piece_ring.specs.Flat.{flat};
-ghost use Rattle.piece_ring.specs.Offsets.{AreWithin};
-ghost use Rattle.readers_scanners.specs.Reading.{contents};
-ghost use Rattle.desk_slots.specs.Live.{AreTrueOver, IsOverPages};
-ghost use Rattle.desk_slots.specs.Words.{Nowhere, now, IsConfined, FailsAs, No, IsReply, entries_of, shown_screen};
-ghost use Rattle.desk_slots.specs.Words.{step_in};
-ghost use Rattle.command_table.specs.Versions.{version_number};
-ghost use Rattle.desk_slots.specs.Words.{StepsUnread, ListsUnread};
+ghost use Rattle.desk_slots.specs.Live.{CanReadThrough, CanStepThrough, ReadsThrough, LooksThrough};
+ghost use Rattle.desk_slots.specs.Words.{Content, now, FailsAs, IsStop, No, IsReply, entries_of, shown_screen, step_in};
+ghost use Rattle.desk_slots.specs.Words.{StepsUnread, ListsUnread, AreWithin, contents, flat};
 
 use crate::reading::read_all;
 use char_pages::{Paged, Pages};
@@ -35,9 +29,7 @@ pub(crate) fn step_over<D: Disk>(
     disk: &mut D,
     pages: &mut Pages,
 ) -> Result<Reply, Stop>
-    requires over { IsOverPages pages.old desktop.old }
-    requires on_disk { base_of pages.old + saved_sectors pages.old ≤ D.size disk.old }
-    requires told { AreTrueOver D.Disk disk.old pages.old }
+    requires { CanStepThrough D.Disk disk.old pages.old desktop.old }
     ensures done { IfOk result (λ reply. D.honest disk.old
         → (seen (paged_characters (now (D.trail disk.new)).reads pages.new) desktop.new, reply)
         ≡ step_in (version_number version)
@@ -47,11 +39,7 @@ pub(crate) fn step_over<D: Disk>(
     ensures replies { IfOk result IsReply }
     ensures refusal { (code : ℕ) → result ≡ Ok (No code) → desktop.new ≡ desktop.old }
     ensures over { OnOk result (IsOver (paged_characters (now (D.trail disk.new)).reads pages.new) desktop.new) }
-    ensures told { AreTrueOver D.Disk disk.new pages.new }
-    ensures base { base_of pages.new ≡ base_of pages.old }
-    ensures before { renewed_of pages.new ≡ false → renewed_of pages.old ≡ false }
-    ensures counted { renewed_of pages.new ≡ false → saved_of pages.new ≡ saved_of pages.old }
-    ensures disk { IsConfined D.size D.honest D.trail Nowhere disk.old disk.new }
+    ensures reads { ReadsThrough D.Disk disk.old disk.new pages.old pages.new }
     ensures faults { FailsAs Stop.Fault IsStop result (D.failures disk.old) (D.failures disk.new) }
 {
     let mut source = Paged::over(disk, pages);
@@ -66,19 +54,10 @@ pub(crate) fn read_over<D: Disk>(
     pages: &mut Pages,
 ) -> Result<Vec<(u8, Look)>, Stop>
     requires within { (c : Content) → AreWithin (length (paged_characters c pages.old)) (flat text.now) }
-    requires on_disk { base_of pages.old + saved_sectors pages.old ≤ D.size disk.old }
-    requires told { AreTrueOver D.Disk disk.old pages.old }
+    requires through { CanReadThrough D.Disk disk.old pages.old }
     ensures read { IfOk result (λ characters. D.honest disk.old → characters.items
         ≡ contents (paged_characters (now (D.trail disk.old)).reads pages.old) (flat text.now)) }
-    ensures same { D.honest disk.old → paged_characters (now (D.trail disk.new)).reads pages.new
-        ≡ paged_characters (now (D.trail disk.old)).reads pages.old }
-    ensures long { length (paged_characters (now (D.trail disk.new)).reads pages.new)
-        ≡ length (paged_characters (now (D.trail disk.old)).reads pages.old) }
-    ensures told { AreTrueOver D.Disk disk.new pages.new }
-    ensures base { base_of pages.new ≡ base_of pages.old }
-    ensures before { renewed_of pages.new ≡ false → renewed_of pages.old ≡ false }
-    ensures counted { renewed_of pages.new ≡ false → saved_of pages.new ≡ saved_of pages.old }
-    ensures disk { IsConfined D.size D.honest D.trail Nowhere disk.old disk.new }
+    ensures looks { LooksThrough D.Disk disk.old disk.new pages.old pages.new }
     ensures faults { FailsAs Stop.Fault IsStop result (D.failures disk.old) (D.failures disk.new) }
 {
     let mut source = Paged::over(disk, pages);
@@ -92,22 +71,12 @@ pub(crate) fn list_over<D: Disk>(
     disk: &mut D,
     pages: &mut Pages,
 ) -> Result<Vec<Entry>, Stop>
-    requires over { IsOverPages pages.old desktop.old }
-    requires on_disk { base_of pages.old + saved_sectors pages.old ≤ D.size disk.old }
-    requires told { AreTrueOver D.Disk disk.old pages.old }
+    requires { CanStepThrough D.Disk disk.old pages.old desktop.old }
     ensures entries { IfOk result (λ entries. D.honest disk.old
         → entries.items ≡ entries_of (seen (paged_characters (now (D.trail disk.old)).reads pages.old) desktop.old)) }
     ensures unread { IfOk result (λ entries. ListsUnread desktop.old entries.items) }
     ensures unchanged { desktop.new ≡ desktop.old }
-    ensures long { length (paged_characters (now (D.trail disk.new)).reads pages.new)
-        ≡ length (paged_characters (now (D.trail disk.old)).reads pages.old) }
-    ensures same { D.honest disk.old → paged_characters (now (D.trail disk.new)).reads pages.new
-        ≡ paged_characters (now (D.trail disk.old)).reads pages.old }
-    ensures told { AreTrueOver D.Disk disk.new pages.new }
-    ensures base { base_of pages.new ≡ base_of pages.old }
-    ensures before { renewed_of pages.new ≡ false → renewed_of pages.old ≡ false }
-    ensures counted { renewed_of pages.new ≡ false → saved_of pages.new ≡ saved_of pages.old }
-    ensures disk { IsConfined D.size D.honest D.trail Nowhere disk.old disk.new }
+    ensures looks { LooksThrough D.Disk disk.old disk.new pages.old pages.new }
     ensures faults { FailsAs Stop.Fault IsStop result (D.failures disk.old) (D.failures disk.new) }
 {
     let mut source = Paged::over(disk, pages);
@@ -123,9 +92,7 @@ pub(crate) fn screen_over<D: Disk>(
     disk: &mut D,
     pages: &mut Pages,
 ) -> Result<(), Stop>
-    requires over { IsOverPages pages.old desktop.old }
-    requires on_disk { base_of pages.old + saved_sectors pages.old ≤ D.size disk.old }
-    requires told { AreTrueOver D.Disk disk.old pages.old }
+    requires { CanStepThrough D.Disk disk.old pages.old desktop.old }
     ensures shown { OnOk result (D.honest disk.old
         → AreLinesOf (text_of (seen (paged_characters (now (D.trail disk.old)).reads pages.old) desktop.old)) lines.old
         → screen.new ≡ shown_screen (seen (paged_characters (now (D.trail disk.old)).reads pages.old) desktop.old)) }
@@ -134,15 +101,7 @@ pub(crate) fn screen_over<D: Disk>(
         → AreLinesOf (text_of (seen (paged_characters (now (D.trail disk.old)).reads pages.old) desktop.old))
         lines.new }
     ensures unchanged { desktop.new ≡ desktop.old }
-    ensures long { length (paged_characters (now (D.trail disk.new)).reads pages.new)
-        ≡ length (paged_characters (now (D.trail disk.old)).reads pages.old) }
-    ensures same { D.honest disk.old → paged_characters (now (D.trail disk.new)).reads pages.new
-        ≡ paged_characters (now (D.trail disk.old)).reads pages.old }
-    ensures told { AreTrueOver D.Disk disk.new pages.new }
-    ensures base { base_of pages.new ≡ base_of pages.old }
-    ensures before { renewed_of pages.new ≡ false → renewed_of pages.old ≡ false }
-    ensures counted { renewed_of pages.new ≡ false → saved_of pages.new ≡ saved_of pages.old }
-    ensures disk { IsConfined D.size D.honest D.trail Nowhere disk.old disk.new }
+    ensures looks { LooksThrough D.Disk disk.old disk.new pages.old pages.new }
     ensures faults { FailsAs Stop.Fault IsStop result (D.failures disk.old) (D.failures disk.new) }
 {
     let mut source = Paged::over(disk, pages);

@@ -1,11 +1,7 @@
 //! Reading a whole text.
 ghost use Rattle.std.specs.Prelude.{◌≡◌, length, IfOk};
-ghost use Rattle.sector_disk.specs.Faults.{FailsAs};
 ghost use Rattle.char_file.specs.Source.{OnlyReads};
-ghost use Rattle.desk_core.specs.Stops.{IsStop};
-ghost use Rattle.piece_ring.specs.Flat.{flat};
-ghost use Rattle.piece_ring.specs.Offsets.{AreWithin};
-ghost use Rattle.readers_scanners.specs.Reading.{contents};
+ghost use Rattle.desk_slots.specs.Words.{FailsAs, IsStop, AreWithin, contents, flat};
 
 use char_file::CharSource;
 use event_loop::Stop;

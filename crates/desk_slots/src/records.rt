@@ -10,7 +10,7 @@ ghost use Rattle.desk_slots.specs.Live.{seen_live, IsLive, IsNamed, IsTold};
 ghost use Rattle.desk_slots.specs.Words.{LeavesOnly, Only, CountsFault, now, IsConfined, FailsAs, No, IsReply, step};
 ghost use Rattle.desk_slots.specs.Words.{step_in};
 ghost use Rattle.desk_slots.specs.Words.{StepsUnread};
-ghost use Rattle.desk_slots.specs.Written.{HasRecord, InRecord};
+ghost use Rattle.desk_slots.specs.Written.{HasRecord, InRecord, IsInJournal};
 
 use crate::Error;
 use crate::live::LiveDesktop;
@@ -24,9 +24,7 @@ use store_layout::{
 
 /// Closes the gate after gate k, where there is one.
 fn close_next<D: Disk>(disk: &mut D, slot: u32, k: u32) -> Result<(), Fault>
-    requires room { STORE_SECTORS ≤ D.size disk.old }
-    requires two { slot < SLOTS }
-    requires index { k < JOURNAL_EVENTS }
+    requires { IsInJournal (D.size disk.old) slot k }
     ensures kept { IsConfined D.size D.honest D.trail (λ n. (n ≡ gate slot (k + 1))
         × (k + 1 < JOURNAL_EVENTS)) disk.old disk.new }
     ensures cause { CountsFault result (D.failures disk.old) (D.failures disk.new) }
@@ -41,9 +39,7 @@ fn close_next<D: Disk>(disk: &mut D, slot: u32, k: u32) -> Result<(), Fault>
 
 /// Writes the event under the closed gate k, and a closed gate after it.
 fn stage<D: Disk>(disk: &mut D, slot: u32, k: u32, event: &Event) -> Result<(), Fault>
-    requires room { STORE_SECTORS ≤ D.size disk.old }
-    requires two { slot < SLOTS }
-    requires index { k < JOURNAL_EVENTS }
+    requires { IsInJournal (D.size disk.old) slot k }
     ensures kept { IsConfined D.size D.honest D.trail (NextRecord slot k) disk.old disk.new }
     ensures cause { CountsFault result (D.failures disk.old) (D.failures disk.new) }
     ensures staged { OnOk result (D.honest disk.old → HasRecord (now (D.trail disk.new)) slot k event.now) }
@@ -56,9 +52,7 @@ fn stage<D: Disk>(disk: &mut D, slot: u32, k: u32, event: &Event) -> Result<(), 
 
 /// Opens gate k.
 fn seal<D: Disk>(disk: &mut D, slot: u32, k: u32) -> Result<(), Fault>
-    requires room { STORE_SECTORS ≤ D.size disk.old }
-    requires two { slot < SLOTS }
-    requires index { k < JOURNAL_EVENTS }
+    requires { IsInJournal (D.size disk.old) slot k }
     ensures kept { IsConfined D.size D.honest D.trail (Only (gate slot k)) disk.old disk.new }
     ensures cause { CountsFault result (D.failures disk.old) (D.failures disk.new) }
     ensures opened { OnOk result (D.honest disk.old → is_open ((now (D.trail disk.new)).reads (gate slot k)) ≡ true) }
@@ -71,9 +65,7 @@ fn seal<D: Disk>(disk: &mut D, slot: u32, k: u32) -> Result<(), Fault>
 
 /// Puts the event into the journal after its first k events.
 fn add_record<D: Disk>(disk: &mut D, slot: u32, k: u32, event: &Event) -> Result<(), Fault>
-    requires room { STORE_SECTORS ≤ D.size disk.old }
-    requires two { slot < SLOTS }
-    requires index { k < JOURNAL_EVENTS }
+    requires { IsInJournal (D.size disk.old) slot k }
     ensures kept { IsConfined D.size D.honest D.trail (InRecord slot k) disk.old disk.new }
     ensures cause { CountsFault result (D.failures disk.old) (D.failures disk.new) }
     ensures any_moment { D.honest disk.old → (version number : ℕ) (desktop : Desktop)
@@ -100,9 +92,7 @@ pub fn record<D: Disk>(
     k: u32,
     event: &Event,
 ) -> Result<Reply, Error>
-    requires room { STORE_SECTORS ≤ D.size disk.old }
-    requires two { slot < SLOTS }
-    requires index { k < JOURNAL_EVENTS }
+    requires at { IsInJournal (D.size disk.old) slot k }
     requires live { IsLive desktop.old }
     requires told { IsTold D.Disk disk.old desktop.old }
     ensures any_moment { D.honest disk.old → (number : ℕ)

@@ -28,7 +28,7 @@ use Rattle.desktop_laws.specs.KeyLaws.{refusal_answered, row_as}
 use Rattle.desktop_laws.specs.PlaceLaws.{IsPlacedAnew, placed_anew, anew_shaped, dropped_shaped, dropped_shown}
 use Rattle.desktop_laws.specs.PlaceLaws.{dropped_held, marks_outside}
 use Rattle.desktop_laws.specs.PlacedLaws.{seen_dropped, seen_anew, dropped_within, anew_within, anew_written}
-use Rattle.desktop_laws.specs.PlacedLaws.{anew_held, dropped_written, done, fits_within, at_columns}
+use Rattle.desktop_laws.specs.PlacedLaws.{anew_held, dropped_written, done, fits_within, at_columns, over_after}
 use Rattle.desktop_laws.specs.RowLaws.{known_no_viewer}
 use Rattle.desktop_laws.specs.LookedLaws.{looks_stay}
 
@@ -99,15 +99,9 @@ module _ (H : Type 0) (old : List ℕ) (d : KeptDesktop) (over : IsOver old d) (
   }
 
   restood_over : IsOver old after
-  restood_over = record {
-    counted = over.counted ∙ sym written_after;
-    whole = record {
-      within = subst (λ n. IsWithin n after) (sym written_after)
-          (dropped_within d.written (placed_anew between columns taken)
-          (anew_within d.written between columns taken between_within));
-      sound = λ characters. subst IsSound (sym (seen_after characters)) (sound_now characters);
-    };
-  }
+  restood_over = over_after old d after (λ characters. dropped (part characters)) over written_after
+      (dropped_within d.written (placed_anew between columns taken)
+      (anew_within d.written between columns taken between_within)) seen_after sound_now
 
   pub restood_answered : IsAnswered H old old d after (settled (seen old d) (Ok (part old))) Done
   restood_answered = acted H old old d after _ restood_over

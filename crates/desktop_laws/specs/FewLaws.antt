@@ -59,18 +59,19 @@ any_right test (k ∷ ks) more is = or_right (test k) _ (any_right test ks more 
 abbrev names : List Entry → List ℕ
 names t = map (λ e. e.viewer) t
 
-few_rows : (t : List Entry) → All (λ e. 0 < e.height) t → length t ≤ sum_by (λ e. e.height) t
-few_rows [] some = omega arith
-few_rows (e ∷ t) some =
-    let rest = few_rows t (All-tail (λ (e : Entry). 0 < e.height) e t some) in
-    let here : 0 < e.height = some 0 e (omega arith) in
-    let all = sum_by-cons (λ (e : Entry). e.height) e t in
+-- things of which each counts at least once
+pub few_some : {T : Type 0} (count : T → ℕ) (l : List T) → All (λ x. 0 < count x) l → length l ≤ sum_by count l
+few_some count [] some = omega arith
+few_some {T} count (x ∷ l) some =
+    let rest = few_some count l (All-tail (λ (y : T). 0 < count y) x l some) in
+    let here : 0 < count x = some 0 x (omega arith) in
+    let all = sum_by-cons count x l in
     omega (arith, rest, here, all)
 
 few_names : (t : List Entry) → IsTrack t → length (names t) ≤ ROWS
 few_names t track =
     let long = length-map {B = ℕ} t (λ (e : Entry). e.viewer) in
-    let few = few_rows t track.some in
+    let few = few_some (λ (e : Entry). e.height) t track.some in
     let fits = track.fits in
     omega (arith, long, few, fits)
 

@@ -6,12 +6,10 @@ use Rattle.std.specs.Map.{keys_of}
 use Rattle.std.specs.Ordering.{nat_cmp}
 use Rattle.std.proofs.Common.{refl, sym, ap, subst, ◌∙◌, arith, inr}
 use Rattle.std.proofs.lemmas.Bool.{eq-eqb, lt-ltb, le-ltb}
-use Rattle.std.proofs.lemmas.List.{append-nil}
 use Rattle.std.proofs.lemmas.List.Elements.{All-weaker}
 use Rattle.std.proofs.lemmas.Map.Views.{All-keys-insert_entry}
 use Rattle.piece_ring.specs.declared.piece.Piece.{Piece}
 use Rattle.piece_ring.specs.Flat.{flat}
-use Rattle.piece_ring.specs.Offsets.{AreWithin}
 use Rattle.piece_ring.specs.Text.{Text}
 use Rattle.readers_scanners.specs.Reading.{contents}
 use Rattle.viewer_tracks.specs.declared.display.TheConstants.{DEPTH}
@@ -31,9 +29,7 @@ use Rattle.desktop_definitions.specs.Seen.{seen, seen_text}
 use Rattle.desktop_definitions.specs.Step.{fits, settled}
 use Rattle.desktop_definitions.specs.Sound.{IsOver}
 use Rattle.desktop_definitions.specs.Outcome.{IsAnswered}
-use Rattle.desktop_definitions.specs.Looks.{AreLooks}
 use Rattle.desktop_laws.specs.TableLaws.{length_seen_text}
-use Rattle.desktop_laws.specs.LookedLaws.{kept_text_looks}
 use Rattle.desktop_laws.specs.StepLaws.{AllShown, all_stay, fits_by}
 use Rattle.desktop_laws.specs.HeldLaws.{any_put}
 use Rattle.desktop_laws.specs.PlaceLaws.{on_top_placed, all_shown}
@@ -41,8 +37,8 @@ use Rattle.desktop_laws.specs.PlacedLaws.{over_shown}
 use Rattle.desktop_laws.specs.OpenLaws.{unused_none}
 use Rattle.desktop_laws.specs.OpenedLaws.{over as over_track, left_at, shows_text, CanShow, held_opening_over}
 use Rattle.desktop_laws.specs.OpeningDone.{new_fresh, whole_columns, written_over, on_answered}
-use Rattle.desktop_laws.specs.OpeningOnLaws.{whole_built, unfit_answered, viewer_can, none_more, or_more, stays_anyway}
-use Rattle.desktop_laws.specs.RowPartLaws.{kept_text_seen, text_within}
+use Rattle.desktop_laws.specs.OpeningOnLaws.{copy_opens, unfit_answered, viewer_can, none_more, or_more, stays_anyway}
+use Rattle.desktop_laws.specs.RowPartLaws.{kept_text_seen}
 
 -- ---- the limits
 
@@ -124,23 +120,14 @@ module _ (H : Type 0) (old : List ℕ) (d : KeptDesktop) (v : ℕ) (k : Track) (
       let none : d.written + 0 ≡ d.written = omega arith in
       let after : KeptDesktop = dropped (opening_over d menu viewer.main viewer.org k) in
       let same : d.written + 0 ≡ after.written = none ∙ sym (written_over d menu viewer.main viewer.org k) in
-      let built = whole_built d over.whole in
-      let answered = on_answered H old [] old d menu viewer.main viewer.org (over_track k) (record {
-        counted = over.counted;
-        built = record { within = built.within; shaped = built.shaped };
-        grown = sym (append-nil old);
-        within = subst (λ (t : Text ℕ). AreWithin (d.written + 0) t) (sym copy)
-            (subst (λ (n : ℕ). AreWithin n (flat (text_in d.texts viewer.menu))) (sym none)
-            (text_within d.written d viewer.menu over.whole.within));
-        looks = subst AreLooks (sym copy) (kept_text_looks d.written d built viewer.menu);
-        can = can;
-        stands = cover_keeps d.columns (new_id d) (left_of k) (whole_columns d over.whole) (new_fresh d over.whole)
-            (subst (λ (j : Track). length (stack_of d.columns j) < DEPTH) (sym (left_at k)) room);
-        fit = λ characters text long.
-            ap (λ (x : Desktop). fits (dropped x))
-            (none_more (opening_over (seen characters d) text viewer.main viewer.org k))
-            ∙ fit characters text long;
-      }) d (seen old d) (text_of (seen old d) viewer.menu) outcome copy_read refl in
+      let answered = on_answered H old [] old d menu viewer.main viewer.org (over_track k)
+      (copy_opens old d menu viewer (over_track k) over copy can
+      (cover_keeps d.columns (new_id d) (left_of k) (whole_columns d over.whole) (new_fresh d over.whole)
+      (subst (λ (j : Track). length (stack_of d.columns j) < DEPTH) (sym (left_at k)) room))
+      (λ characters text long.
+      ap (λ (x : Desktop). fits (dropped x))
+      (none_more (opening_over (seen characters d) text viewer.main viewer.org k)) ∙ fit characters text long))
+      d (seen old d) (text_of (seen old d) viewer.menu) outcome copy_read refl in
       subst (λ (p : KeptDesktop × Result Desktop ℕ). IsAnswered H old old d p.0 (settled (seen old d) p.1) Done)
       (λ i. (
         ((λ j. record after { written = same j })

@@ -21,16 +21,18 @@ use Rattle.viewer_tracks.specs.Viewers.{times_in}
 use Rattle.viewer_tracks.specs.Columns.{Columns, IsColumns, IsOnTop, times_placed, times_meant, shown}
 use Rattle.viewer_tracks.specs.Columns.{after_open, after_open_track, replaced_at}
 use Rattle.viewer_tracks.proofs.PlacedLemmas.{cover_places, cover_shows}
+use Rattle.desktop_definitions.specs.declared.viewer.Caret.{Caret}
+use Rattle.desktop_definitions.specs.declared.viewer.Selection.{Selection}
 use Rattle.desktop_definitions.specs.declared.viewer.Viewer.{Viewer}
 use Rattle.desktop_definitions.specs.Tables.{Texts, numbered, lengths, with_values}
 use Rattle.desktop_laws.specs.TableLaws.{insert_seen, rising_put}
 use Rattle.desktop_definitions.specs.Desktop.{Desktop, DesktopOf, KeptDesktop, held}
 use Rattle.desktop_definitions.specs.Viewers.{viewer_in, main_length, without_viewer, opened_at, text_of, unmarked}
-use Rattle.desktop_definitions.specs.Viewers.{is_shown_in, covered_by}
+use Rattle.desktop_definitions.specs.Viewers.{is_shown_in, covered_by, caret_outside, selections_outside}
 use Rattle.desktop_definitions.specs.Opening.{least_unused, with_new, new_number, new_id, new_viewer, with_viewer}
 use Rattle.desktop_definitions.specs.Opening.{opening_on, opening_over, opening, dropped}
 use Rattle.desktop_definitions.specs.Seen.{seen, seen_text}
-use Rattle.desktop_definitions.specs.Sound.{AreViewers, times_there, IsShaped, IsBuilt}
+use Rattle.desktop_definitions.specs.Sound.{AreViewers, AreMarks, times_there, IsShaped, IsBuilt}
 use Rattle.desktop_laws.specs.PlaceLaws.{any_at, by_number, StandStill, marks_outside, IsPlacedAnew}
 use Rattle.desktop_laws.specs.PlaceLaws.{placed_anew}
 use Rattle.desktop_laws.specs.PlacedLaws.{seen_anew}
@@ -203,12 +205,18 @@ module _ (d : Desktop) (menu : Text ℕ) (main org : ℕ) (shaped : IsShaped d) 
         ≡ found (new_viewers d main org) n) (sym same) once_new)
         (once_other w)
 
-    pub opening_anew : StandStill d.columns columns taken → AreLooks menu
-        → IsPlacedAnew (with_viewer d menu main org) columns taken
-    opening_anew stay looks = record {
+    -- with these marks, from these columns on
+    marked_anew : (before : Columns) (caret : Option Caret) (selections : List Selection)
+        → AreMarks before (main_length texts (new_viewers d main org)) caret selections → AreLooks menu
+        → StandStill before columns taken
+        → IsPlacedAnew (record (with_viewer d menu main org) {
+          columns = before;
+          caret = caret;
+          selections = selections;
+        }) columns taken
+    marked_anew before caret selections marks looks stay = record {
       viewers = viewers_anew;
-      marks = same_marks d.columns (main_length d.texts d.viewers) (main_length texts (new_viewers d main org))
-          d.caret d.selections long_stays shaped.marks;
+      marks = marks;
       marker = shaped.marker;
       files = shaped.files;
       pattern = shaped.pattern;
@@ -218,6 +226,12 @@ module _ (d : Desktop) (menu : Text ℕ) (main org : ℕ) (shaped : IsShaped d) 
       once = once_anew;
       stay = stay;
     }
+
+    pub opening_anew : StandStill d.columns columns taken → AreLooks menu
+        → IsPlacedAnew (with_viewer d menu main org) columns taken
+    opening_anew stay looks = marked_anew d.columns d.caret d.selections
+        (same_marks d.columns (main_length d.texts d.viewers) (main_length texts (new_viewers d main org))
+        d.caret d.selections long_stays shaped.marks) looks stay
 
   module _ (k : Track) (hold : IsColumns (columns_over d k)) where
     -- who isn't in the covered track is shown still
@@ -229,21 +243,12 @@ module _ (d : Desktop) (menu : Text ℕ) (main org : ℕ) (shaped : IsShaped d) 
         omega (arith, none, sum, there, top)
 
     pub covering_anew : AreLooks menu → IsPlacedAnew (covered_desktop d menu main org k) (columns_over d k) None
-    covering_anew looks = record {
-      viewers = viewers_anew;
-      marks = marks_outside (is_shown_in d k) d.columns (columns_over d k) (main_length d.texts d.viewers)
-          (main_length texts (new_viewers d main org)) still_on_top (λ w out top. long_stays w top) d.caret
-          d.selections shaped.marks;
-      marker = shaped.marker;
-      files = shaped.files;
-      pattern = shaped.pattern;
-      looks = looks_stay (new_looks d shaped.looks menu looks) refl;
-      kept_place = shaped.places.kept_place;
-      columns_hold = hold;
-      once = once_anew (columns_over d k) None hold
-          (λ w. let sum = cover_places d.columns (new_id d) (left_of k) w in omega (arith, sum));
-      stay = λ w. omega arith;
-    }
+    covering_anew looks = marked_anew (columns_over d k) None hold
+        (λ w. let sum = cover_places d.columns (new_id d) (left_of k) w in omega (arith, sum)) (columns_over d k)
+        (caret_outside (is_shown_in d k) d.caret) (selections_outside (is_shown_in d k) d.selections)
+        (marks_outside (is_shown_in d k) d.columns (columns_over d k) (main_length d.texts d.viewers)
+        (main_length texts (new_viewers d main org)) still_on_top (λ w out top. long_stays w top) d.caret
+        d.selections shaped.marks) looks (λ w. omega arith)
 
 -- ---- as it is seen
 

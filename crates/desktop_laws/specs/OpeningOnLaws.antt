@@ -52,9 +52,10 @@ use Rattle.desktop_laws.specs.OutcomeLaws.{refused, length_in_look}
 use Rattle.desktop_laws.specs.PlaceLaws.{any_at, on_top_placed}
 use Rattle.desktop_laws.specs.OpenLaws.{placed_known}
 use Rattle.desktop_laws.specs.FewLaws.{all_any}
-use Rattle.desktop_laws.specs.OpenedLaws.{at_cell, left_at, by_others, staying, CanShow, IsApart, held_opening_on}
+use Rattle.desktop_laws.specs.OpenedLaws.{NewPlace, opening_to, at_cell, left_at, by_others, staying, CanShow, IsApart}
+use Rattle.desktop_laws.specs.OpenedLaws.{held_opening_on}
 use Rattle.desktop_laws.specs.OpeningDone.{PlacesOpened, written_on, on_answered}
-use Rattle.desktop_laws.specs.OpeningDone.{written_answered}
+use Rattle.desktop_laws.specs.OpeningDone.{written_answered, CanStand, IsOpeningOn}
 use Rattle.desktop_laws.specs.RowPartLaws.{kept_text_seen, text_within}
 use Rattle.desktop_definitions.specs.Looks.{AreLooks}
 use Rattle.desktop_laws.specs.LookedLaws.{found_looks, kept_text_looks, kept_files_looks}
@@ -241,6 +242,30 @@ module _ (d : Desktop) (v x bottom top : ℕ) (place : IsPlaceOf d.columns v x b
 pub none_more : (d : Desktop) → more_written d 0 ≡ d
 none_more d = let same : d.written + 0 ≡ d.written = omega arith in λ k. record d { written = same k }
 
+-- A second viewer on the text of a viewer opens with a copy of its menu, and no character is added.
+pub copy_opens : (old : List ℕ) (d : KeptDesktop) (menu : List Piece) (viewer : Viewer) (place : NewPlace)
+    → IsOver old d → flat menu ≡ flat (text_in d.texts viewer.menu)
+    → ((characters : List ℕ) → CanShow (seen characters d) viewer.main viewer.org)
+    → CanStand d.columns (new_id d) place
+    → ((characters : List ℕ) (text : Text ℕ) → length text ≡ length (flat menu)
+    → fits (dropped (more_written (opening_to (seen characters d) text viewer.main viewer.org place) 0)) ≡ true)
+    → IsOpeningOn old [] old d menu viewer.main viewer.org place
+copy_opens old d menu viewer place over copy can stands fit =
+    let none : d.written + 0 ≡ d.written = omega arith in
+    let built = whole_built d over.whole in
+    record {
+      counted = over.counted;
+      built = record { within = built.within; shaped = built.shaped };
+      grown = sym (append-nil old);
+      within = subst (λ (t : Text ℕ). AreWithin (d.written + 0) t) (sym copy)
+          (subst (λ (n : ℕ). AreWithin n (flat (text_in d.texts viewer.menu))) (sym none)
+          (text_within d.written d viewer.menu over.whole.within));
+      looks = subst AreLooks (sym copy) (kept_text_looks d.written d built viewer.menu);
+      can = can;
+      stands = stands;
+      fit = fit;
+    }
+
 module _ (H : Type 0) (old : List ℕ) (d : KeptDesktop) (v x bottom top : ℕ) (menu : List Piece) (viewer : Viewer)
     (over : IsOver old d) (placed : IsOnTop v d.columns) (place : IsPlaceOf d.columns v x bottom top)
     (more : ¬ (top - bottom ≡ 1)) (is : viewer ≡ viewer_or_none d.viewers v)
@@ -280,19 +305,10 @@ module _ (H : Type 0) (old : List ℕ) (d : KeptDesktop) (v x bottom top : ℕ) 
       let none : d.written + 0 ≡ d.written = omega arith in
       let after : KeptDesktop = dropped (opening_on d menu viewer.main viewer.org cell) in
       let same : d.written + 0 ≡ after.written = none ∙ sym (written_on d menu viewer.main viewer.org cell) in
-      let built = whole_built d over.whole in
-      let answered = on_answered H old [] old d menu viewer.main viewer.org (at_cell cell) (record {
-        counted = over.counted;
-        built = record { within = built.within; shaped = built.shaped };
-        grown = sym (append-nil old);
-        within = subst (λ (t : Text ℕ). AreWithin (d.written + 0) t) (sym copy)
-            (subst (λ (n : ℕ). AreWithin n (flat (text_in d.texts viewer.menu))) (sym none)
-            (text_within d.written d viewer.menu over.whole.within));
-        looks = subst AreLooks (sym copy) (kept_text_looks d.written d built viewer.menu);
-        can = can;
-        stands = record { hold = places.hold; places = places.places };
-        fit = fit;
-      }) d (seen old d) (text_of (seen old d) viewer.menu) outcome copy_read refl in
+      let answered = on_answered H old [] old d menu viewer.main viewer.org (at_cell cell)
+      (copy_opens old d menu viewer (at_cell cell) over copy can
+      (record { hold = places.hold; places = places.places }) fit)
+      d (seen old d) (text_of (seen old d) viewer.menu) outcome copy_read refl in
       subst (λ (p : KeptDesktop × Result Desktop ℕ). IsAnswered H old old d p.0 (settled (seen old d) p.1) Done)
       (λ k. (
         record after { written = same k },

@@ -119,6 +119,19 @@ done d new fit = rw fit refl
 
 -- ---- the outcome
 
+-- a desktop in which no more characters count as written, and of which it is known what is seen
+pub over_after : (old : List ℕ) (d after : KeptDesktop) (now : List ℕ → Desktop) → IsOver old d
+    → after.written ≡ d.written → IsWithin d.written after
+    → ((characters : List ℕ) → seen characters after ≡ now characters)
+    → ((characters : List ℕ) → IsSound (now characters)) → IsOver old after
+over_after old d after now over written within seen_now sound = record {
+  counted = over.counted ∙ sym written;
+  whole = record {
+    within = subst (λ n. IsWithin n after) (sym written) within;
+    sound = λ characters. subst IsSound (sym (seen_now characters)) (sound characters);
+  };
+}
+
 module _ (H : Type 0) (old : List ℕ) (d : KeptDesktop) (columns : Columns) (taken : Option ℕ) (over : IsOver old d)
     (anew : (characters : List ℕ) → IsPlacedAnew (seen characters d) columns taken) where
   abbrev after : KeptDesktop
@@ -160,15 +173,9 @@ module _ (H : Type 0) (old : List ℕ) (d : KeptDesktop) (columns : Columns) (ta
     }
 
   anew_over : IsOver old after
-  anew_over = record {
-    counted = over.counted ∙ sym written_after;
-    whole = record {
-      within = subst (λ n. IsWithin n after) (sym written_after)
-          (dropped_within d.written (placed_anew d columns taken)
-          (anew_within d.written d columns taken over.whole.within));
-      sound = λ characters. subst IsSound (sym (seen_after characters)) (sound_now characters);
-    };
-  }
+  anew_over = over_after old d after now over written_after
+      (dropped_within d.written (placed_anew d columns taken)
+      (anew_within d.written d columns taken over.whole.within)) seen_after sound_now
 
   pub anew_answered : IsAnswered H old old d after (settled (seen old d) (Ok (placed_anew
       (seen old d) columns taken))) Done

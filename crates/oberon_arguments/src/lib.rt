@@ -1,11 +1,10 @@
 //! The arguments of the program `oberon`: what they ask for, or why they ask for nothing.
 #![tactic(auto)]
 
-use clap::error::ErrorKind as ParseErrorKind;
 use clap::{Arg, ArgAction, Command};
+use program_arguments::matches_of;
+pub use program_arguments::{Refusal, words};
 use std::alloc::{AllocError, Global};
-use std::env;
-use std::io::ErrorKind;
 
 /// What the program is asked to do, with the path of the store where there is one.
 #[derive(Drop)]
@@ -22,38 +21,9 @@ pub enum Order<'a> {
     Check(&'a str),
 }
 
-/// Why the arguments name no order.
-#[derive(Clone, Copy, Debug, PartialEq, Eq)]
-pub enum Refusal {
-    /// They aren't of the program's language, or a word isn't UTF-8.
-    Usage,
-    /// An allocation found no memory.
-    Memory,
-}
-
-impl From<AllocError> for Refusal {
-    /// The arguments are refused where an allocation is.
-    fn from(_refused: AllocError) -> Refusal {
-        Refusal::Memory
-    }
-}
-
-/// The words of the command line, the program's name first.
-pub fn words(rt: &HostRuntime) -> Result<Vec<String>, Refusal> {
-    match env::args(rt) {
-        Ok(words) => Ok(words.collect(rt.alloc())?),
-        Err(error) if error.kind() == ErrorKind::OutOfMemory => Err(Refusal::Memory),
-        Err(_) => Err(Refusal::Usage),
-    }
-}
-
 /// What the words ask for: nothing after the program's name, or one of the commands and a path.
 pub fn order_of<'a>(alloc: Global, words: &'a [String]) -> Result<Order<'a>, Refusal> {
-    let matches = match command(alloc)?.try_get_matches_from(words) {
-        Ok(matches) => matches,
-        Err(error) if error.kind() == ParseErrorKind::OutOfMemory => return Err(Refusal::Memory),
-        Err(_) => return Err(Refusal::Usage),
-    };
+    let matches = matches_of(command(alloc)?, words)?;
     match matches.subcommand() {
         None => Ok(Order::PlayInMemory),
         Some((name, given)) => order_named(name, given.get_str("path")),

@@ -25,7 +25,7 @@ use Rattle.oberon_main.specs.Play.{LineEndsAs, RestEndsAs, CountsEnd, last_word}
 use Rattle.oberon_main.specs.Surviving.{KeepsAnswered, Withstands, LeavesFirst, Spares, TakesAll, Survives}
 use Rattle.oberon_main.specs.ByLines.{AreLines, CameWhole, IsNextLine, Lasts, LeavesLine, Serves, LeavesAt, IsRun}
 use Rattle.oberon_main.specs.ByLines.{RestLeaves, RestSurvives, Stops, IsCutShort, IsUnsaid, EndsUnsaid, EndsSaid}
-use Rattle.oberon_main.specs.ByLines.{PlaysLines, PlaysByLines}
+use Rattle.oberon_main.specs.ByLines.{GoesByLines, PlaysLines, PlaysByLines}
 use Rattle.oberon_main.proofs.Played.{HasPlayed, all_both, out_both, out_one, last_line, lines_then, begins_read}
 use Rattle.oberon_main.proofs.Played.{begins_with_line, begins_rest, split_rest, split_with_rest}
 use Rattle.oberon_main.proofs.Surviving.{no_line, failed_line, served_line, lines_after, more_lines}
@@ -255,6 +255,22 @@ module _ {D : Type 0} (d : Ghosts D) where
   ends_in_line Output from left answered line old new held held' follows leaves why =
       record { line = line; follows = follows; serves = leaves; written = why }
 
+  -- the lines that were answered so far, and how the script ends after them
+  gone_so_far : {from left' held held' : Option (List ℕ)} {most : ℕ} {u : Unplayed} {old mid : StoreView D}
+      (Ends : List (List ℕ) → StoreView D → Option (List ℕ) → Type 0)
+      → (so_far : HasPlayed (d.honest old.disk) (Ran old mid) (session_of old) (session_of mid) from left' held held'
+      most u) → IsDurable d old → d.honest old.disk → Ends so_far.lines mid held' → GoesByLines d Ends held old
+  gone_so_far {held' = held'} {mid = mid} Ends so_far durable honest ends = record {
+    lasts = durable honest;
+    answered = so_far.lines;
+    plain = so_far.each;
+    mid = mid;
+    run = so_far.known.run honest;
+    held_mid = held';
+    written = so_far.written honest;
+    ends = ends;
+  }
+
   stops_at : {from left' held held' : Option (List ℕ)} {most : ℕ} {u : Unplayed} {old mid : StoreView D}
       (end : PlayEnd) (left'' held'' : Option (List ℕ)) (new : StoreView D) (line : List ℕ)
       → (so_far : HasPlayed (d.honest old.disk) (Ran old mid) (session_of old) (session_of mid) from left' held held'
@@ -262,16 +278,9 @@ module _ {D : Type 0} (d : Ghosts D) where
       → LineEndsAs end (request_of line) (session_of mid) held' held''
       → PlaysLines d end from left'' held held'' old new
   stops_at {from = from} {held' = held'} {mid = mid} end left'' held'' new line so_far durable honest follows leaves
-      why = record {
-        lasts = durable honest;
-        answered = so_far.lines;
-        plain = so_far.each;
-        mid = mid;
-        run = so_far.known.run honest;
-        held_mid = held';
-        written = so_far.written honest;
-        ends = ends_in_line end from left'' so_far.lines line mid new held' held'' follows leaves why;
-      }
+      why =
+      gone_so_far (λ answered store held_mid. EndsUnsaid d end from left'' answered store new held_mid held'')
+      so_far durable honest (ends_in_line end from left'' so_far.lines line mid new held' held'' follows leaves why)
 
   -- a line ended the script
   pub ended_by_line : {from left' left'' held held' : Option (List ℕ)} {most : ℕ} {u u' : Unplayed} {line : Line}
@@ -355,16 +364,9 @@ module _ {D : Type 0} (d : Ghosts D) where
       → (so_far : HasPlayed (d.honest old.disk) (Ran old new) (session_of old) (session_of new) from left' held held'
       most u) → (taken : TakesRest u u' left' left'' line) → IsDurable d old → d.honest old.disk
       → PlaysLines d Input from left'' held held' old new
-  cut_off_by_lines {from = from} {held' = held'} {new = new} so_far taken started honest = record {
-    lasts = started honest;
-    answered = so_far.lines;
-    plain = so_far.each;
-    mid = new;
-    run = so_far.known.run honest;
-    held_mid = held';
-    written = so_far.written honest;
-    ends = ((refl, came_whole from so_far taken), keeps_same held');
-  }
+  cut_off_by_lines {from = from} {left'' = left''} {held' = held'} {new = new} so_far taken started honest =
+      gone_so_far (λ answered store held_mid. EndsUnsaid d Input from left'' answered store new held_mid held')
+      so_far started honest ((refl, came_whole from so_far taken), keeps_same held')
 
   -- ---- the last word
 
@@ -407,38 +409,41 @@ module _ {D : Type 0} (d : Ghosts D) where
     unsaid_last Input early output ends counts front = unsaid_for Input early ends.0 ends.1 counts front
     unsaid_last Output early output ends counts front = absurd (output refl)
 
+  -- the same lines, with what the word came to
+  ends_with : {Ends : List (List ℕ) → StoreView D → Option (List ℕ) → Type 0} {held : Option (List ℕ)}
+      {old : StoreView D} (Said : List (List ℕ) → StoreView D → Option (List ℕ) → Type 0)
+      → (gone : GoesByLines d Ends held old) → Said gone.answered gone.mid gone.held_mid → GoesByLines d Said held old
+  ends_with Said gone ends = record {
+    lasts = gone.lasts;
+    answered = gone.answered;
+    plain = gone.plain;
+    mid = gone.mid;
+    run = gone.run;
+    held_mid = gone.held_mid;
+    written = gone.written;
+    ends = ends;
+  }
+
   -- the word was written
   pub said_by_lines : (end : PlayEnd) (from left held held' held'' : Option (List ℕ)) (old new : StoreView D)
       → PlaysLines d end from left held held' old new → Appends held' held'' (last_word end)
       → CountsEnd end (d.failures old.disk) (d.failures new.disk) → PlaysByLines d end from left held held'' old new
-  said_by_lines end from left held held' held'' old new played said counts = record {
-    lasts = played.lasts;
-    answered = played.answered;
-    plain = played.plain;
-    mid = played.mid;
-    run = played.run;
-    held_mid = played.held_mid;
-    written = played.written;
-    ends = said_last from left played.answered played.mid new (d.failures old.disk) (d.failures new.disk)
-        played.held_mid held' held'' end played.ends said counts;
-  }
+  said_by_lines end from left held held' held'' old new played said counts =
+      ends_with (λ answered mid held_mid. EndsSaid d end from left answered mid new (d.failures old.disk)
+      (d.failures new.disk) held_mid held'') played
+      (said_last from left played.answered played.mid new (d.failures old.disk) (d.failures new.disk)
+      played.held_mid held' held'' end played.ends said counts)
 
   -- the output failed in it
   pub unsaid_by_lines : (end : PlayEnd) (from left held held' held'' : Option (List ℕ)) (old new : StoreView D)
       → end ≢ Done → end ≢ Output → PlaysLines d end from left held held' old new
       → CountsEnd end (d.failures old.disk) (d.failures new.disk) → AppendsFront held' held'' (last_word end)
       → PlaysByLines d Output from left held held'' old new
-  unsaid_by_lines end from left held held' held'' old new early output played counts front = record {
-    lasts = played.lasts;
-    answered = played.answered;
-    plain = played.plain;
-    mid = played.mid;
-    run = played.run;
-    held_mid = played.held_mid;
-    written = played.written;
-    ends = inr (unsaid_last from left played.answered played.mid new (d.failures old.disk) (d.failures new.disk)
-        played.held_mid held' held'' end early output played.ends counts front);
-  }
+  unsaid_by_lines end from left held held' held'' old new early output played counts front =
+      ends_with (λ answered mid held_mid. EndsSaid d Output from left answered mid new (d.failures old.disk)
+      (d.failures new.disk) held_mid held'') played
+      (inr (unsaid_last from left played.answered played.mid new (d.failures old.disk) (d.failures new.disk)
+      played.held_mid held' held'' end early output played.ends counts front))
 
 -- ---- what a crash leaves, in events
 

@@ -5,7 +5,6 @@ use Rattle.sector_disk.specs.Faults.{FailsAs}
 use Rattle.desk_journal.specs.Errors.{Error}
 use Rattle.desk_journal.specs.Errors.{NoMemory, Fault, MustReopen, NotAStore, Damaged}
 use Rattle.desk_journal.specs.Errors.{TooSmall, Worn}
-use Rattle.desk_journal.specs.Errors.{OfPost, OfCheckpoint}
 use Rattle.oberon_main.specs.declared.answering.Answer.{Answer}
 use Rattle.oberon_main.specs.declared.playing.PlayEnd.{PlayEnd}
 use Rattle.oberon_main.specs.declared.playing.PlayEnd.TheVariants as ends
@@ -85,7 +84,7 @@ refusal_of error failed failed' named among faults usable room = record {
 }
 
 -- A call that was refused: Worn has an answer, else the script ends.
-counts_call : {T : Type 0} (error : Error) (failed failed' : ℕ) (named : Error → Type 0)
+pub counts_call : {T : Type 0} (error : Error) (failed failed' : ℕ) (named : Error → Type 0)
     → (named error → (error ≡ NoMemory) ⊎ ((error ≡ Fault) ⊎ ((error ≡ MustReopen) ⊎ (error ≡ Worn))))
     → FailsAs {T = T} Fault named (Err error) failed failed'
     → (error ≡ MustReopen → ⊥) → (bytes : Answer → Type 0) → (result : Result Answer PlayEnd)
@@ -101,18 +100,11 @@ counts_call error failed failed' named among faults usable bytes (Err end) worn 
     counts_end error failed failed' (refusal_of error failed failed' named among faults usable other.0) end other.1
     (Err end) refl
 
-pub counts_post : {T : Type 0} (error : Error) (failed failed' : ℕ)
-    → FailsAs {T = T} Fault OfPost (Err error) failed failed'
-    → (error ≡ MustReopen → ⊥) → (bytes : Answer → Type 0) → (result : Result Answer PlayEnd)
-    → IfOk result (λ a. (error ≡ Worn) × bytes a)
-    → IfErr result (λ end. (error ≢ Worn) × (end ≡ end_of error))
-    → FailsAs ends.Fault IsWorkEnd result failed failed'
-counts_post error failed failed' faults = counts_call error failed failed' OfPost (λ is. is) faults
-
-pub counts_checkpoint : {T : Type 0} (error : Error) (failed failed' : ℕ)
-    → FailsAs {T = T} Fault OfCheckpoint (Err error) failed failed'
-    → (error ≡ MustReopen → ⊥) → (bytes : Answer → Type 0) → (result : Result Answer PlayEnd)
-    → IfOk result (λ a. (error ≡ Worn) × bytes a)
-    → IfErr result (λ end. (error ≢ Worn) × (end ≡ end_of error))
-    → FailsAs ends.Fault IsWorkEnd result failed failed'
-counts_checkpoint error failed failed' faults = counts_call error failed failed' OfCheckpoint (λ is. inr is) faults
+-- A call that was done has an answer.
+pub counts_done : {T : Type 0} {value : T} {named : Error → Type 0} {given : Answer} {failed failed' : ℕ}
+    → FailsAs Fault named (Ok value) failed failed' → FailsAs ends.Fault IsWorkEnd (Ok given) failed failed'
+counts_done faults = record {
+  rose = λ wrong. cc;
+  calm = λ any. faults.calm (λ wrong. cc);
+  errors = tt;
+}

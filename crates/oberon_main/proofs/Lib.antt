@@ -5,3 +5,4 @@ pub mod Moments
 pub mod Played
 pub mod Sessions
 pub mod Surviving
+pub mod Working

@@ -171,32 +171,18 @@ played_more Honest before now now' left left' left'' held held' held'' most old 
 
 -- ---- in how many pieces the script came
 
-pieces_with : {Honest : Type 0} {Known : List (List ℕ) → Type 0} {before now : Session}
-    {left left' held held' : Option (List ℕ)} {most : ℕ} {old : Unplayed} (new : Unplayed) (left'' : Option (List ℕ))
-    (read : List ℕ) → HasPlayed Honest Known before now left left' held held' most old → Consumes left' left'' read
-    → length read + most_bytes new.reads ≤ most_bytes old.reads → ComesInPieces most left left''
-pieces_with {left = left} {left' = left'} {most = most} {old = old} new left'' read so_far came few = record {
+pub pieces_with : {Honest : Type 0} {Known : List (List ℕ) → Type 0} {before now : Session}
+    {left left' held held' : Option (List ℕ)} {most more : ℕ} {u : Unplayed} (left'' : Option (List ℕ))
+    (read : List ℕ) → HasPlayed Honest Known before now left left' held held' most u → Consumes left' left'' read
+    → length read + more ≤ most_bytes u.reads → ComesInPieces most left left''
+pieces_with {left = left} {left' = left'} {most = most} {more = more} {u = u} left'' read so_far came few = record {
   read = so_far.read ++ read;
   came = Consumes-trans left left' left'' so_far.read read so_far.came came;
-  few = at_most (length so_far.read) (length read) _ (most_bytes old.reads) (most_bytes new.reads)
-      (most_bytes most) (length-append so_far.read read) so_far.few few;
+  few = at_most (length so_far.read) (length read) _ (most_bytes u.reads) more (most_bytes most)
+      (length-append so_far.read read) so_far.few few;
 } where
   at_most : (read read' all old new most : ℕ) → all ≡ read + read' → read + old ≤ most → read' + new ≤ old → all ≤ most
   at_most read read' all old new most is before now = omega (arith, is, before, now)
-
-pub pieces_with_line : (Honest : Type 0) {Known : List (List ℕ) → Type 0} (before now : Session)
-    (left left' left'' held held' : Option (List ℕ)) (most : ℕ) (old new : Unplayed) (line : Line)
-    → HasPlayed Honest Known before now left left' held held' most old → TakesLine old new left' left'' line
-    → ComesInPieces most left left''
-pieces_with_line Honest before now left left' left'' held held' most old new line so_far taken =
-    pieces_with new left'' taken.read so_far taken.came taken.few
-
-pub pieces_with_rest : (Honest : Type 0) {Known : List (List ℕ) → Type 0} (before now : Session)
-    (left left' left'' held held' : Option (List ℕ)) (most : ℕ) (old new : Unplayed) (line : Line)
-    → HasPlayed Honest Known before now left left' held held' most old → TakesRest old new left' left'' line
-    → ComesInPieces most left left''
-pieces_with_rest Honest before now left left' left'' held held' most old new line so_far taken =
-    pieces_with new left'' taken.read so_far taken.came taken.few
 
 -- ---- how failures are counted
 

@@ -1,7 +1,8 @@
 -- An answer that was worked out.
-use Rattle.std.specs.Prelude.{◌≡◌, ◌↔◌, ◌∷◌, [], ℕ, List, Result, IfOk, OnOk, false}
+use Rattle.std.specs.Prelude.{◌≡◌, ◌↔◌, ◌∷◌, [], ℕ, List, Result, IfOk, OnOk, IsOk, IsErrOf, false}
 use Rattle.sector_disk.specs.declared.disk.Disk.{Ghosts}
-use Rattle.sector_disk.specs.Faults.{OneOf}
+use Rattle.sector_disk.specs.Faults.{OneOf, FailsAs}
+use Rattle.desk_journal.specs.Device.{IsOnlyRead}
 use Rattle.desk_journal.specs.Errors.{Error}
 use Rattle.desk_journal.specs.Errors.{NoMemory}
 use Rattle.desk_journal.specs.View.{StoreView}
@@ -11,7 +12,9 @@ use Rattle.oberon_main.specs.declared.playing.PlayEnd.{PlayEnd}
 use Rattle.oberon_main.specs.declared.playing.PlayEnd.TheVariants.{Fault, Memory}
 use Rattle.script_lines.specs.declared.request.Request.{Request}
 use Rattle.desk_journal.specs.Session.{session_of}
+use Rattle.script_lines.specs.declared.request.Request.TheVariants.{Malformed}
 use Rattle.oberon_main.specs.Answers.{answer, after}
+use Rattle.oberon_main.specs.Surviving.{Withstands, Spares}
 
 -- its bytes
 abbrev pub bytes_of : Answer → List ℕ
@@ -38,3 +41,19 @@ pub record IsWorkedOut {D : Type 0} (d : Ghosts D) (request : Request) (result :
   pub usable : OnOk result (new.must_reopen ≡ false)
   -- the disk is as honest as it was
   pub premise : d.honest new.disk ↔ d.honest old.disk
+
+-- All that is promised of a request, whatever its answer is.
+pub record WorksOut {D : Type 0} (d : Ghosts D) (request : Request) (result : Result Answer PlayEnd)
+    (old new : StoreView D) : Type 0 where
+  pub worked_out : IsWorkedOut d request result old new
+  pub faults : FailsAs Fault IsWorkEnd result (d.failures old.disk) (d.failures new.disk)
+  pub crash : Withstands d request old new
+  pub spared : IsErrOf result Memory → Spares d old new
+  pub malformed : request ≡ Malformed → IsOk result
+
+-- The same of a request that looks at the desktop: the disk is only read.
+pub record LooksOut {D : Type 0} (d : Ghosts D) (request : Request) (result : Result Answer PlayEnd)
+    (old new : StoreView D) : Type 0 where
+  pub worked_out : IsWorkedOut d request result old new
+  pub faults : FailsAs Fault IsWorkEnd result (d.failures old.disk) (d.failures new.disk)
+  pub only_read : IsOnlyRead d old.disk new.disk

@@ -1,13 +1,9 @@
 //! The answer to a request, worked out over a store.
-ghost use Rattle.std.specs.Prelude.{◌≡◌, ◌≢◌, false, IsOk, IfOk, IfErr, IsErrOf};
-ghost use Rattle.sector_disk.specs.Faults.{FailsAs};
-ghost use Rattle.desk_journal.specs.Device.{IsOnlyRead};
+ghost use Rattle.std.specs.Prelude.{◌≡◌, ◌≢◌, false, IfOk, IfErr};
 ghost use Rattle.script_lines.specs.declared.request.Request.TheVariants.{Post, Checkpoint, Show};
-ghost use Rattle.script_lines.specs.declared.request.Request.TheVariants.{Listing, Display, Malformed};
-ghost use Rattle.oberon_main.specs.declared.playing.PlayEnd.TheVariants as ends;
+ghost use Rattle.script_lines.specs.declared.request.Request.TheVariants.{Listing, Display};
 ghost use Rattle.oberon_main.specs.Answers.{worn_line};
-ghost use Rattle.oberon_main.specs.Worked.{bytes_of, end_of, IsWorkEnd, IsWorkedOut};
-ghost use Rattle.oberon_main.specs.Surviving.{Withstands, Spares};
+ghost use Rattle.oberon_main.specs.Worked.{bytes_of, end_of, WorksOut, LooksOut};
 
 use crate::playing::PlayEnd;
 use desk_journal::{Error, Store};
@@ -47,11 +43,7 @@ pub fn work_out<D: Disk>(
     store: &mut Store<D>,
 ) -> Result<Answer, PlayEnd>
     requires { store.old.must_reopen ≡ false }
-    ensures worked_out { IsWorkedOut D.Disk request.now result store.old store.new }
-    ensures faults { FailsAs ends.Fault IsWorkEnd result (D.failures store.old.disk) (D.failures store.new.disk) }
-    ensures crash { Withstands D.Disk request.now store.old store.new }
-    ensures spared { IsErrOf result ends.Memory → Spares D.Disk store.old store.new }
-    ensures malformed { request.now ≡ Malformed → IsOk result }
+    ensures { WorksOut D.Disk request.now result store.old store.new }
 {
     match request {
         Request::Post(event) => post(alloc, event, store),
@@ -66,10 +58,7 @@ pub fn work_out<D: Disk>(
 /// Posts an event. Its answer is the reply, or `worn` where there is no room for it any more.
 fn post<D: Disk>(alloc: Global, event: &Event, store: &mut Store<D>) -> Result<Answer, PlayEnd>
     requires { store.old.must_reopen ≡ false }
-    ensures worked_out { IsWorkedOut D.Disk (Post event.now) result store.old store.new }
-    ensures faults { FailsAs ends.Fault IsWorkEnd result (D.failures store.old.disk) (D.failures store.new.disk) }
-    ensures crash { Withstands D.Disk (Post event.now) store.old store.new }
-    ensures spared { IsErrOf result ends.Memory → Spares D.Disk store.old store.new }
+    ensures { WorksOut D.Disk (Post event.now) result store.old store.new }
 {
     match store.post(alloc, event) {
         Ok(reply) => Ok(Answer::Short(reply_bytes(reply))),
@@ -80,10 +69,7 @@ fn post<D: Disk>(alloc: Global, event: &Event, store: &mut Store<D>) -> Result<A
 /// Makes a checkpoint. Its answer is `ok`, or `worn` where the epoch is the last one.
 fn checkpoint<D: Disk>(store: &mut Store<D>) -> Result<Answer, PlayEnd>
     requires { store.old.must_reopen ≡ false }
-    ensures worked_out { IsWorkedOut D.Disk Checkpoint result store.old store.new }
-    ensures faults { FailsAs ends.Fault IsWorkEnd result (D.failures store.old.disk) (D.failures store.new.disk) }
-    ensures crash { Withstands D.Disk Checkpoint store.old store.new }
-    ensures spared { IsErrOf result ends.Memory → Spares D.Disk store.old store.new }
+    ensures { WorksOut D.Disk Checkpoint result store.old store.new }
 {
     match store.checkpoint() {
         Ok(()) => Ok(Answer::Short(short_line(b"ok"))),
@@ -106,9 +92,7 @@ fn refused(error: Error) -> Result<Answer, PlayEnd>
 #[tactic(auto, unfolding(crate::specs::Answers::answer, crate::specs::Answers::after))]
 fn show<D: Disk>(alloc: Global, name: &Name, store: &mut Store<D>) -> Result<Answer, PlayEnd>
     requires { store.old.must_reopen ≡ false }
-    ensures worked_out { IsWorkedOut D.Disk (Show name.now) result store.old store.new }
-    ensures faults { FailsAs ends.Fault IsWorkEnd result (D.failures store.old.disk) (D.failures store.new.disk) }
-    ensures only_read { IsOnlyRead D.Disk store.old.disk store.new.disk }
+    ensures { LooksOut D.Disk (Show name.now) result store.old store.new }
 {
     match store.file(alloc, name)? {
         None => Ok(Answer::Short(refusal_bytes(NO_SUCH_FILE))),
@@ -120,9 +104,7 @@ fn show<D: Disk>(alloc: Global, name: &Name, store: &mut Store<D>) -> Result<Ans
 #[tactic(auto, unfolding(crate::specs::Answers::answer, crate::specs::Answers::after))]
 fn list<D: Disk>(alloc: Global, store: &mut Store<D>) -> Result<Answer, PlayEnd>
     requires { store.old.must_reopen ≡ false }
-    ensures worked_out { IsWorkedOut D.Disk Listing result store.old store.new }
-    ensures faults { FailsAs ends.Fault IsWorkEnd result (D.failures store.old.disk) (D.failures store.new.disk) }
-    ensures only_read { IsOnlyRead D.Disk store.old.disk store.new.disk }
+    ensures { LooksOut D.Disk Listing result store.old store.new }
 {
     let entries = store.list(alloc)?;
     Ok(Answer::Long(list_bytes(alloc, entries.as_slice())?))
@@ -132,9 +114,7 @@ fn list<D: Disk>(alloc: Global, store: &mut Store<D>) -> Result<Answer, PlayEnd>
 #[tactic(auto, unfolding(crate::specs::Answers::answer, crate::specs::Answers::after))]
 fn screen<D: Disk>(alloc: Global, store: &mut Store<D>) -> Result<Answer, PlayEnd>
     requires { store.old.must_reopen ≡ false }
-    ensures worked_out { IsWorkedOut D.Disk Display result store.old store.new }
-    ensures faults { FailsAs ends.Fault IsWorkEnd result (D.failures store.old.disk) (D.failures store.new.disk) }
-    ensures only_read { IsOnlyRead D.Disk store.old.disk store.new.disk }
+    ensures { LooksOut D.Disk Display result store.old store.new }
 {
     let mut screen = Screen::new();
     store.screen(alloc, &mut screen)?;

@@ -1,21 +1,17 @@
 use Rattle.std.proofs.Common.{[], ◌+◌, ◌∙◌, arith, ap, length}
 use Rattle.sector_disk.specs.Trail.{now}
-use Rattle.sector_disk.proofs.Confinement.{joined}
-use Rattle.sector_streams.specs.Filling.{sectors_are}
 use Rattle.command_table.specs.Versions.{newest_version}
 use Rattle.desk_image.specs.Image.{image_of, image_bytes}
 use Rattle.desk_slots.proofs.Counting.{no_content}
-use Rattle.desk_slots.proofs.Streaming.{all_stored, has_room}
+use Rattle.desk_slots.proofs.Streaming.{all_stored, has_room, put_within}
 use Rattle.desk_slots.proofs.checkpoint.stream.Goals as goal
 
 pub returns-in_err-finish-clause-kept : goal.returns-in_err-finish-clause-kept
 returns-in_err-finish-clause-kept g c =
-    let d = g.D.Disk in
     let f = c.new-filling.ensures in
     let p = c.put_through.ensures in
-    joined d.size d.honest d.trail (sectors_are d c.new-filling.result (f.from ∙ c.image_at.ensures) f.limit p.kept)
-    (sectors_are d c.put_through.new.filling (p.from ∙ f.from ∙ c.image_at.ensures) (p.limit ∙ f.limit)
-    c.finish.ensures.kept)
+    put_within g.D.Disk c.new-filling.result c.put_through.new.filling (f.from ∙ c.image_at.ensures) f.limit p.from
+    p.limit p.kept c.finish.ensures.kept
 
 pub overflow_add-result : goal.overflow_add-result
 overflow_add-result g c =
@@ -26,12 +22,10 @@ overflow_add-result g c =
 
 pub returns-clause-kept : goal.returns-clause-kept
 returns-clause-kept g c =
-    let d = g.D.Disk in
     let f = c.new-filling.ensures in
     let p = c.put_through.ensures in
-    joined d.size d.honest d.trail (sectors_are d c.new-filling.result (f.from ∙ c.image_at.ensures) f.limit p.kept)
-    (sectors_are d c.put_through.new.filling (p.from ∙ f.from ∙ c.image_at.ensures) (p.limit ∙ f.limit)
-    c.finish.ensures.kept)
+    put_within g.D.Disk c.new-filling.result c.put_through.new.filling (f.from ∙ c.image_at.ensures) f.limit p.from
+    p.limit p.kept c.finish.ensures.kept
 
 pub returns-clause-fits : goal.returns-clause-fits
 returns-clause-fits g c =

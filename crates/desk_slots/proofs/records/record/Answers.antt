@@ -34,8 +34,8 @@ returns-clause-added g c = λ honest number kept.
     let live = c.in_ok-reply.ensures.live in
     kept_after g.D.Disk s honest kept c.args.event.now
     (shown_stays _ _ c.step.new.self (c.add_record.ensures.kept.moments (s.still honest))
-    (apart_record c.step.new.self.pages c.step.new.self.area c.args.slot c.args.k live.based c.requires.two
-    c.requires.index)
+    (apart_record c.step.new.self.pages c.step.new.self.area c.args.slot c.args.k live.based c.requires.at.two
+    c.requires.at.index)
     ∙ ap (λ x. x.0) (c.in_ok-reply.ensures.done honest)
     ∙ ap (λ x. x.0) (in_newest _ c.args.event.now))
     (c.in_ok-add_record.ensures.added (s.still honest) _ number _ (kept_then g.D.Disk s honest kept))
@@ -45,22 +45,22 @@ returns-clause-stepped g c = λ honest.
     let s = c.step.ensures.disk in
     let live = c.in_ok-reply.ensures.live in
     answer_stays (shown_stays _ _ c.step.new.self (c.add_record.ensures.kept.moments (s.still honest))
-    (apart_record c.step.new.self.pages c.step.new.self.area c.args.slot c.args.k live.based c.requires.two
-    c.requires.index))
+    (apart_record c.step.new.self.pages c.step.new.self.area c.args.slot c.args.k live.based c.requires.at.two
+    c.requires.at.index))
     (c.in_ok-reply.ensures.done honest ∙ in_newest _ c.args.event.now)
 
 pub returns-clause-told : goal.returns-clause-told
 returns-clause-told g c =
     let live = c.in_ok-reply.ensures.live in
     live_stays g.D.Disk c.step.new.self c.add_record.ensures.kept
-    (apart_record c.step.new.self.pages c.step.new.self.area c.args.slot c.args.k live.based c.requires.two
-    c.requires.index)
+    (apart_record c.step.new.self.pages c.step.new.self.area c.args.slot c.args.k live.based c.requires.at.two
+    c.requires.at.index)
     c.in_ok-reply.ensures.told
 
 pub returns-clause-named : goal.returns-clause-named
 returns-clause-named g c = λ honest named.
     let s = c.step.ensures.disk in
-    let head_now = head_stays _ _ c.args.slot c.args.k c.requires.two c.requires.index
+    let head_now = head_stays _ _ c.args.slot c.args.k c.requires.at.two c.requires.at.index
     (c.add_record.ensures.kept.moments (s.still honest))
     ∙ ap (λ (r : Content). r (slot_head c.args.slot)) (still_all _ _ (s.moments honest)) in
     record {

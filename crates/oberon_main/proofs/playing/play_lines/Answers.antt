@@ -1,7 +1,6 @@
 use Rattle.std.proofs.Common.{refl, ◌∙◌, inl, inr, ap, ◌+◌}
-use Rattle.oberon_main.proofs.Played.{played_more, stopped_in_line, ended_with_rest, cut_off, pieces_with_line}
-use Rattle.oberon_main.proofs.Played.{pieces_with_rest, counts_of_line, counts_from, only_failures}
-use Rattle.oberon_main.proofs.Played.{played_none}
+use Rattle.oberon_main.proofs.Played.{played_more, stopped_in_line, ended_with_rest, cut_off, pieces_with}
+use Rattle.oberon_main.proofs.Played.{counts_of_line, counts_from, only_failures, played_none}
 use Rattle.oberon_main.proofs.Causes.{few_reads, input_of_line, input_of_rest, input_failed}
 use Rattle.oberon_main.proofs.Causes.{output_of_line, output_from}
 use Rattle.oberon_main.proofs.ByLines.{ran_none, ran_more, ended_by_line, ended_by_rest, cut_off_by_lines}
@@ -46,8 +45,9 @@ returns-in-Err-clause-by_lines g c =
     c.in-Err.ensures.survives c.in-Err.ensures.played.unanswered
 
 pub returns-in-Err-clause-pieces : goal.returns-in-Err-clause-pieces
-returns-in-Err-clause-pieces g c = pieces_with_line _ _ _ _ _ _ _ _ _ _ _ _ c.loop-line.invariant.played
-    (c.in-Feed.ensures.line refl)
+returns-in-Err-clause-pieces g c =
+    let taken = c.in-Feed.ensures.line refl in
+    pieces_with _ taken.read c.loop-line.invariant.played taken.came taken.few
 
 pub returns-in-Err-clause-limit : goal.returns-in-Err-clause-limit
 returns-in-Err-clause-limit g c = few_reads _ _ _ _ (c.take_line.ensures.counted ∙ c.loop-line.invariant.counted)
@@ -102,8 +102,9 @@ returns-in-End-clause-by_lines g c =
     (c.in-End.ensures.end refl) i.started i.durable i.still c.play_rest.ensures.survives c.play_rest.ensures.told
 
 pub returns-in-End-clause-pieces : goal.returns-in-End-clause-pieces
-returns-in-End-clause-pieces g c = pieces_with_rest _ _ _ _ _ _ _ _ _ _ _ _ c.loop-line.invariant.played
-    (c.in-End.ensures.rest (λ wrong. cc))
+returns-in-End-clause-pieces g c =
+    let taken = c.in-End.ensures.rest (λ wrong. cc) in
+    pieces_with _ taken.read c.loop-line.invariant.played taken.came taken.few
 
 pub returns-in-End-clause-limit : goal.returns-in-End-clause-limit
 returns-in-End-clause-limit g c = few_reads _ _ _ _ (c.take_line.ensures.counted ∙ c.loop-line.invariant.counted)
@@ -138,5 +139,6 @@ returns-in-Fault-clause-by_lines g c = cut_off_by_lines g.D.Disk c.loop-line.inv
     (c.in-Fault.ensures.rest (λ wrong. cc)) c.loop-line.invariant.started
 
 pub returns-in-Fault-clause-pieces : goal.returns-in-Fault-clause-pieces
-returns-in-Fault-clause-pieces g c = pieces_with_rest _ _ _ _ _ _ _ _ _ _ _ _ c.loop-line.invariant.played
-    (c.in-Fault.ensures.rest (λ wrong. cc))
+returns-in-Fault-clause-pieces g c =
+    let taken = c.in-Fault.ensures.rest (λ wrong. cc) in
+    pieces_with _ taken.read c.loop-line.invariant.played taken.came taken.few

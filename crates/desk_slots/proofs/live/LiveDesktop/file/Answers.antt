@@ -5,11 +5,9 @@ use Rattle.desk_slots.proofs.live.LiveDesktop.file.Goals as goal
 pub returns-in_err-read_over-in-Some-clause-same : goal.returns-in_err-read_over-in-Some-clause-same
 returns-in_err-read_over-in-Some-clause-same g c =
     let r = c.read_over.ensures in
-    looks_stay g.D.Disk c.args.self.now _ r.disk r.same r.long r.told r.base r.before r.counted refl refl
-    (λ honest are. are) c.requires.live c.requires.told
+    looks_stay g.D.Disk c.args.self.now _ r.looks refl refl (λ honest are. are) c.requires.live c.requires.told
 
 pub returns-in_ok-read_over-in-Some-clause-same : goal.returns-in_ok-read_over-in-Some-clause-same
 returns-in_ok-read_over-in-Some-clause-same g c =
     let r = c.read_over.ensures in
-    looks_stay g.D.Disk c.args.self.now _ r.disk r.same r.long r.told r.base r.before r.counted refl refl
-    (λ honest are. are) c.requires.live c.requires.told
+    looks_stay g.D.Disk c.args.self.now _ r.looks refl refl (λ honest are. are) c.requires.live c.requires.told

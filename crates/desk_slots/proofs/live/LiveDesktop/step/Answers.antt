@@ -10,9 +10,9 @@ use Rattle.desk_slots.proofs.live.LiveDesktop.step.Goals as goal
 
 pub returns-clause-told : goal.returns-clause-told
 returns-clause-told g c = record {
-  pages = c.step_over.ensures.told;
+  pages = c.step_over.ensures.reads.told;
   lines = λ honest.
-      let before = c.step_over.ensures.disk.already honest in
+      let before = c.step_over.ensures.reads.confined.already honest in
       let content = (now (g.D.Disk.trail c.args.disk.now)).reads in
       subst (λ (d : Desktop). AreLinesOf (text_of d) c.forget_stale.new.lines)
       (sym (ap (λ x. x.0) (c.in_ok-step_over.ensures.done before)))
@@ -25,5 +25,5 @@ returns-clause-live g c = record {
   over = over_all c.step_over.new.pages c.step_over.new.desktop (now (g.D.Disk.trail c.step_over.new.disk)).reads
       c.in_ok-step_over.ensures.over;
   low = c.requires.live.low;
-  based = c.step_over.ensures.base ∙ c.requires.live.based;
+  based = c.step_over.ensures.reads.base ∙ c.requires.live.based;
 }

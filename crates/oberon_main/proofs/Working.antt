@@ -1,0 +1,39 @@
+-- What is promised of a request, from what the calls of the store promise.
+use Rattle.std.proofs.Common.{◌≡◌, ◌≢◌, ◌↔◌, ℕ, Result, Ok, Err, IfOk, OnOk, ap, ◌∙◌, sym, false}
+use Rattle.std.proofs.lemmas.Result.{IfOk-weaker}
+use Rattle.sector_disk.specs.declared.disk.Disk.{Ghosts}
+use Rattle.desk_journal.specs.Errors.{Error}
+use Rattle.desk_journal.specs.Errors.{Worn}
+use Rattle.desk_journal.specs.View.{StoreView}
+use Rattle.desk_journal.specs.Session.{session_of}
+use Rattle.script_lines.specs.declared.request.Request.{Request}
+use Rattle.script_lines.specs.declared.request.Request.TheVariants.{Malformed}
+use Rattle.oberon_main.specs.declared.answering.Answer.{Answer}
+use Rattle.oberon_main.specs.declared.playing.PlayEnd.{PlayEnd}
+use Rattle.oberon_main.specs.Answers.{answer, after, worn_line}
+use Rattle.oberon_main.specs.Worked.{bytes_of, IsWorkedOut, WorksOut, LooksOut}
+use Rattle.oberon_main.proofs.Surviving.{look_withstands, look_spares}
+
+module _ {D : Type 0} (d : Ghosts D) {request : Request} {result : Result Answer PlayEnd} where
+  pub look_works_out : (old new : StoreView D) → request ≢ Malformed → LooksOut d request result old new
+      → WorksOut d request result old new
+  look_works_out old new plain look = record {
+    worked_out = look.worked_out;
+    faults = look.faults;
+    crash = look_withstands d request old new look.only_read;
+    spared = λ is. look_spares d old new look.only_read;
+    malformed = λ is. absurd (plain is);
+  }
+
+  -- A worn store changes nothing, and says so; any other refusal ends the script.
+  pub refusal_works_out : {error : Error} (old new : StoreView D)
+      → IfOk result (λ a. (error ≡ Worn) × (bytes_of a ≡ worn_line))
+      → (error ≡ Worn → (new ≡ old) × (answer (session_of old) request ≡ worn_line)
+      × (after (session_of old) request ≡ session_of old))
+      → old.must_reopen ≡ false → (d.honest new.disk ↔ d.honest old.disk) → IsWorkedOut d request result old new
+  refusal_works_out old new says worn usable premise = record {
+    bytes = IfOk-weaker result _ _ (λ a is honest. is.1 ∙ sym (worn is.0).1) says;
+    session = IfOk-weaker result _ _ (λ a is honest. ap session_of (worn is.0).0 ∙ sym (worn is.0).2) says;
+    usable = IfOk-weaker result _ _ (λ a is. ap (λ (s : StoreView D). s.must_reopen) (worn is.0).0 ∙ usable) says;
+    premise = premise;
+  }
