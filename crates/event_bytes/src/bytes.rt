@@ -1,5 +1,5 @@
 //! What an event can put into a file, and what it can type.
-ghost use Rattle.std.specs.Prelude.{◌≡◌, Some, None, IsTrue, if◌then◌else◌};
+ghost use Rattle.std.specs.Prelude.{◌≡◌, Some, None, IsTrue, false, if◌then◌else◌};
 ghost use Rattle.std.specs.List.{list_all};
 ghost use Rattle.event_bytes.specs.Bytes.{is_text_byte as text_byte, is_file_bytes as file_bytes};
 ghost use Rattle.event_bytes.specs.Bytes.{is_typed_bytes as typed_bytes};
@@ -45,6 +45,20 @@ impl FileBytes {
         Some(FileBytes { bytes })
     }
 
+    /// Makes it these bytes. False exactly where one of them can't stand in a file, or they are more than 900: then it
+    /// stays.
+    fn set(&mut self, bytes: &[u8]) -> bool
+        ensures is { result ≡ file_bytes bytes.now }
+        ensures set { IsTrue result → self.new ≡ bytes.now }
+        ensures stays { result ≡ false → self.new ≡ self.old }
+    {
+        if !is_file_bytes(bytes) {
+            return false;
+        }
+        self.bytes.clear();
+        self.bytes.try_extend_from_slice(bytes).is_ok()
+    }
+
     /// The bytes, 0 to 900.
     pub fn as_bytes(&self) -> &[u8]
         ensures value { result.now ≡ self.now }
@@ -86,6 +100,16 @@ impl TypedBytes {
         }
         let bytes = FileBytes::new(bytes)?;
         Some(TypedBytes { bytes })
+    }
+
+    /// Makes it these bytes, in their place. False exactly where there is none of them, one of them can't be typed, or they
+    /// are more than 900: then it stays.
+    pub fn set(&mut self, bytes: &[u8]) -> bool
+        ensures is { result ≡ typed_bytes bytes.now }
+        ensures set { IsTrue result → self.new ≡ bytes.now }
+        ensures stays { result ≡ false → self.new ≡ self.old }
+    {
+        !bytes.is_empty() && self.bytes.set(bytes)
     }
 
     /// The bytes, 1 to 900.

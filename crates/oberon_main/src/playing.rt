@@ -19,7 +19,7 @@ ghost use Rattle.desk_journal.specs.View.{IsDurable};
 use crate::answering::work_out;
 use desk_journal::{Error, Store};
 use script_answers::{OutputFault, send, short_line};
-use script_lines::{Ending, Line, Script};
+use script_lines::{Ending, Line, Request, Script};
 use script_streams::{AnswerWriter, ScriptReader};
 use sector_disk::Disk;
 use std::alloc::{AllocError, Global};
@@ -177,23 +177,25 @@ fn play_lines<R: ScriptReader, W: AnswerWriter, D: Disk>(
     let _ = store.info();
     let mut script = Script::new(reads);
     let mut line = Line::new();
+    let mut request = Request::Malformed;
     loop {
         match script.take_line(&mut line, reader) {
             Ending::Feed => {
-                if let Err(end) = play_line(alloc, &line, writer, store) {
+                if let Err(end) = play_line(alloc, &line, &mut request, writer, store) {
                     return end;
                 }
             }
-            Ending::End => return play_rest(alloc, &line, writer, store),
+            Ending::End => return play_rest(alloc, &line, &mut request, writer, store),
             Ending::Fault => return PlayEnd::Input,
         }
     }
 }
 
-/// Plays what stands after the last line feed, where that is anything.
+/// Plays what stands after the last line feed, where that is anything. The request is what the line before asked for.
 fn play_rest<W: AnswerWriter, D: Disk>(
     alloc: Global,
     line: &Line,
+    request: &mut Request,
     writer: &mut W,
     store: &mut Store<D>,
 ) -> PlayEnd
@@ -211,16 +213,18 @@ fn play_rest<W: AnswerWriter, D: Disk>(
     if line.is_empty() {
         return PlayEnd::Done;
     }
-    match play_line(alloc, line, writer, store) {
+    match play_line(alloc, line, request, writer, store) {
         Ok(()) => PlayEnd::Done,
         Err(end) => end,
     }
 }
 
-/// Plays one line: its answer is worked out, and then written.
+/// Plays one line: its answer is worked out, and then written. The request is what the line before asked for; this line's
+/// takes its place.
 fn play_line<W: AnswerWriter, D: Disk>(
     alloc: Global,
     line: &Line,
+    request: &mut Request,
     writer: &mut W,
     store: &mut Store<D>,
 ) -> Result<(), PlayEnd>
@@ -235,7 +239,8 @@ fn play_line<W: AnswerWriter, D: Disk>(
     ensures durable { OnOk result (IsDurable D.Disk store.new) }
     ensures as_large { D.size store.new.disk ≡ D.size store.old.disk }
 {
-    let answer = work_out(alloc, &line.request(), store)?;
+    line.ask(request);
+    let answer = work_out(alloc, request, store)?;
     // What the store shows is what a crash would leave now.
     let _ = store.info();
     send(writer, answer.as_bytes())?;

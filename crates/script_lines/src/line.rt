@@ -5,7 +5,7 @@ ghost use Rattle.std.specs.Io.KnownBytes.{Consumes, IsAtEnd};
 ghost use Rattle.script_lines.specs.Script.{ended, IsLine};
 ghost use Rattle.script_lines.specs.Request.{request_of};
 
-use crate::request::{Request, asked};
+use crate::request::{Request, ask};
 use arrayvec::ArrayVec;
 use script_streams::ScriptReader;
 use std::marker::Model;
@@ -30,14 +30,14 @@ impl Line {
         }
     }
 
-    /// What the line asks for.
-    pub fn request(&self) -> Request
-        ensures { (line : List ℕ) → Holds self.now line → result ≡ request_of line }
+    /// Makes the request what the line asks for.
+    pub fn ask(&self, request: &mut Request)
+        ensures { (line : List ℕ) → Holds self.now line → request.new ≡ request_of line }
     {
         if self.is_long {
-            Request::Malformed
+            *request = Request::Malformed;
         } else {
-            asked(self.bytes.as_slice())
+            ask(self.bytes.as_slice(), request);
         }
     }
 

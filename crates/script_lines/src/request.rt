@@ -4,7 +4,7 @@
 //! space after it, ask for an event, and `checkpoint` for a checkpoint. `show NAME`, `list` and `screen` ask for a
 //! look. Words are parted by exactly one space. In BYTES a percent sign and two hexadecimal digits stand for a byte.
 //! What else a line says is malformed.
-ghost use Rattle.std.specs.Prelude.{◌≡◌, IfSome};
+ghost use Rattle.std.specs.Prelude.{◌≡◌, IfSome, IsTrue};
 ghost use Rattle.std.specs.Option.{option_map};
 ghost use Rattle.std.specs.List.{list_all};
 ghost use Rattle.script_lines.specs.Request.{is_printable, is_readable, file_bytes_of, typed_bytes_of, typed_of};
@@ -32,16 +32,16 @@ pub enum Request {
     Malformed,
 }
 
-/// What the line asks for, whose line feed isn't part of it.
+/// Makes the request what the line asks for, whose line feed isn't part of it.
 ///
-/// Most lines type a text in which each byte stands for itself. These are read apart from the others, since a function
-/// clears at its beginning all places for texts that stand in it.
-pub fn asked(line: &[u8]) -> Request
-    ensures { result ≡ request_of line.now }
+/// Most lines type a text in which each byte stands for itself, one such line after another. Its text takes the place of
+/// the one before; what else is asked for is made anew, and is moved.
+pub fn ask(line: &[u8], request: &mut Request)
+    ensures { request.new ≡ request_of line.now }
 {
     match plain_typed(line) {
-        Some(text) => type_plain(text),
-        None => parse(line),
+        Some(text) => type_plain(text, request),
+        None => *request = parse(line),
     }
 }
 
@@ -57,8 +57,28 @@ fn plain_typed(line: &[u8]) -> Option<&[u8]>
     None
 }
 
+/// Makes the request what a line asks for that types this text, in which each byte stands for itself.
+fn type_plain(text: &[u8], request: &mut Request)
+    ensures { request.new ≡ typed_plain text.now }
+{
+    if !type_again(text, request) {
+        *request = type_anew(text);
+    }
+}
+
+/// Puts the text in the place of the one that the request types. Whether there is one, and the text can be typed.
+fn type_again(text: &[u8], request: &mut Request) -> bool
+    ensures { IsTrue result → request.new ≡ typed_plain text.now }
+{
+    match request {
+        Request::Post(Event::Typed(bytes)) => bytes.set(text),
+        _ => false,
+    }
+}
+
 /// What a line asks for that types this text, in which each byte stands for itself.
-fn type_plain(text: &[u8]) -> Request
+#[inline(never)]
+fn type_anew(text: &[u8]) -> Request
     ensures { result ≡ typed_plain text.now }
 {
     match TypedBytes::new(text) {
@@ -67,7 +87,8 @@ fn type_plain(text: &[u8]) -> Request
     }
 }
 
-/// The same as `asked`, by the words of the line.
+/// What the line asks for, by its words. It stands apart, since a function clears at its beginning all places for texts
+/// that stand in it.
 #[inline(never)]
 #[tactic(auto, unfolding(crate::specs::Request::request_of))]
 fn parse(line: &[u8]) -> Request

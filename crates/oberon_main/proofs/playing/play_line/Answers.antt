@@ -14,7 +14,7 @@ returns-in_err-send-clause-played g c =
       unanswered = λ honest bytes holds. subst (AppendsFront _ _)
           (c.as_bytes.ensures ∙ c.in_ok-answer.ensures.worked_out.bytes honest
           ∙ ap (λ r. answer (session_of c.args.store.now) r)
-          (c.request.ensures bytes holds)) c.in_err-send.ensures.front;
+          (c.ask.ensures bytes holds)) c.in_err-send.ensures.front;
       usable = tt;
       premise = c.in_ok-answer.ensures.worked_out.premise;
     })
@@ -23,22 +23,22 @@ pub returns-in_err-answer-clause-survives : goal.returns-in_err-answer-clause-su
 returns-in_err-answer-clause-survives g c =
     let p = err_from_is_err_and c.from_residual.result c.from_residual.ensures.1 in
     let made = c.in_err-answer.ensures in
-    rw (p.1, p.2) (line_stopped g.D.Disk c.args.line.now c.request.result c.in_err-answer.field-0.0 c.args.store.now
-    c.work_out.new.store c.request.ensures made.faults.errors made.crash (λ is. made.spared (ap (λ e. Err e) is)))
+    rw (p.1, p.2) (line_stopped g.D.Disk c.args.line.now c.ask.new.request c.in_err-answer.field-0.0 c.args.store.now
+    c.work_out.new.store c.ask.ensures made.faults.errors made.crash (λ is. made.spared (ap (λ e. Err e) is)))
 
 pub returns-in_err-send-clause-survives : goal.returns-in_err-send-clause-survives
 returns-in_err-send-clause-survives g c =
     let p = err_from_is_err_and c.from_residual-in_err-send.result c.from_residual-in_err-send.ensures.1 in
     let made = c.in_ok-answer.ensures in
-    rw (p.1, p.2) (line_served g.D.Disk c.args.line.now c.request.result c.args.store.now c.work_out.new.store
-    c.request.ensures made.worked_out.session (c.info.ensures.durable made.worked_out.usable)
+    rw (p.1, p.2) (line_served g.D.Disk c.args.line.now c.ask.new.request c.args.store.now c.work_out.new.store
+    c.ask.ensures made.worked_out.session (c.info.ensures.durable made.worked_out.usable)
     made.worked_out.premise.1 made.crash)
 
 pub returns-clause-survives : goal.returns-clause-survives
 returns-clause-survives g c =
     let made = c.in_ok-answer.ensures in
-    line_served g.D.Disk c.args.line.now c.request.result c.args.store.now c.work_out.new.store
-    c.request.ensures made.worked_out.session (c.info.ensures.durable made.worked_out.usable)
+    line_served g.D.Disk c.args.line.now c.ask.new.request c.args.store.now c.work_out.new.store
+    c.ask.ensures made.worked_out.session (c.info.ensures.durable made.worked_out.usable)
     made.worked_out.premise.1 made.crash
 
 pub returns-clause-durable : goal.returns-clause-durable
