@@ -5,7 +5,7 @@ ghost use Rattle.std.specs.Prelude.{OnErr, take};
 ghost use Rattle.piece_ring.specs.BackCursor.{IsBackCursor, text_before};
 ghost use Rattle.piece_ring.specs.declared.place.Seam.{Seam as ASeam};
 ghost use Rattle.piece_ring.specs.Flat.{flat, relooked_piece, IsWhole};
-ghost use Rattle.piece_ring.specs.Kept.{IsKeptAt, IsSettledAt, kept_pieces};
+ghost use Rattle.piece_ring.specs.Finger.{IsFingerAt, IsSettledAt, fingered};
 ghost use Rattle.piece_ring.specs.Merging.{Continues, IsMergedAt, UnitesAtMost};
 ghost use Rattle.piece_ring.specs.Nodes.{places, pieces, with_put_in, with_range};
 ghost use Rattle.piece_ring.specs.Place.{pieces_of, text_of, IsSeam, IsFound, IsPlace};
@@ -19,16 +19,16 @@ use crate::spare::Spare;
 use crate::stretch::Stretch;
 use std::alloc::{AllocError as NoMemory, Global};
 
-/// The trailer and the nodes of the pieces, with the number of the pieces and of their characters, and the kept place,
-/// from which walks start: the piece before the seam `kept`, or the trailer.
+/// The trailer and the nodes of the pieces, with the number of the pieces and of their characters, and the finger,
+/// from which walks start: it is on the piece before the seam, or on the trailer.
 pub(crate) struct PieceList {
     pub(crate) chain: Chain,
     pub(crate) trailer: Spot,
     pub(crate) count: usize,
     pub(crate) len: u32,
-    pub(crate) kept: Seam,
+    pub(crate) finger: Seam,
     ghost sound: { IsPieceList chain.nodes trailer.ptr count len },
-    ghost keeps: { IsSeam chain.nodes kept },
+    ghost keeps: { IsSeam chain.nodes finger },
 }
 
 impl PieceList {
@@ -42,7 +42,7 @@ impl PieceList {
             trailer,
             count: 0,
             len: 0,
-            kept: Seam {
+            finger: Seam {
                 at: trailer,
                 index: 0,
                 pos: 0,
@@ -161,27 +161,27 @@ impl PieceList {
         }
     }
 
-    /// The piece that has the character at `pos`, by a walk from the kept place, or from the beginning or the end where
+    /// The piece that has the character at `pos`, by a walk from the finger, or from the beginning or the end where
     /// that is nearer.
     pub(crate) fn find(&self, pos: u32) -> Found
         requires { pos < self.now.len }
         ensures found { IsFound self.now.chain.nodes pos result }
-        ensures near { IsKeptAt (kept_pieces self.now.chain.nodes self.now.kept) pos
+        ensures near { IsFingerAt (fingered self.now.chain.nodes self.now.finger) pos
             → result.links ≡ 0 }
     {
-        let kept = self.kept;
-        if kept.pos <= pos {
-            return if self.len - pos < pos - kept.pos {
+        let finger = self.finger;
+        if finger.pos <= pos {
+            return if self.len - pos < pos - finger.pos {
                 self.find_back(self.end(), pos)
             } else {
-                self.find_ahead(kept, pos)
+                self.find_ahead(finger, pos)
             };
         }
-        let before = self.step_back(kept);
+        let before = self.step_back(finger);
         if before.pos <= pos {
             return Found {
                 before,
-                after: kept,
+                after: finger,
                 links: 0,
             };
         }
@@ -227,10 +227,10 @@ impl PieceList {
     }
 
     /// The place of the piece that has the character at `pos`, or of the trailer at the end.
-    fn place_to_keep(&self, pos: u32) -> Seam
+    fn place_to_point_at(&self, pos: u32) -> Seam
         requires { pos ≤ self.now.len }
         ensures seam { IsSeam self.now.chain.nodes result }
-        ensures kept { IsKeptAt (kept_pieces self.now.chain.nodes result) pos }
+        ensures finger { IsFingerAt (fingered self.now.chain.nodes result) pos }
     {
         if pos == self.len {
             return self.start();
@@ -243,9 +243,9 @@ impl PieceList {
         requires { pos ≤ self.old.len }
         ensures same { self.new.chain.nodes ≡ self.old.chain.nodes }
         ensures long { self.new.len ≡ self.old.len }
-        ensures kept { IsKeptAt (kept_pieces self.new.chain.nodes self.new.kept) pos }
+        ensures finger { IsFingerAt (fingered self.new.chain.nodes self.new.finger) pos }
     {
-        self.kept = self.place_to_keep(pos);
+        self.finger = self.place_to_point_at(pos);
     }
 
     /// Cuts a piece in two at `pos`, inside it. The spare node takes the second part.
@@ -283,8 +283,8 @@ impl PieceList {
         );
         self.chain.join(at, index, node, second);
         self.count += 1;
-        self.kept = Seam { at, index, pos };
-        self.kept
+        self.finger = Seam { at, index, pos };
+        self.finger
     }
 
     /// The seam at `pos`. Where it takes a node to cut a piece there, the node is taken before anything is changed.
@@ -338,7 +338,7 @@ impl PieceList {
     {
         let spare = Spare::new(alloc)?;
         let from = self.seam_at(alloc, beg)?;
-        self.kept = from;
+        self.finger = from;
         let upto = self.seam_with(end, spare);
         Ok((from, upto))
     }
@@ -364,7 +364,7 @@ impl PieceList {
         self.chain.join(seam.at, seam.index, chain, first);
         self.count += count;
         self.len += len;
-        self.kept = seam;
+        self.finger = seam;
         Seam {
             at: last,
             index: seam.index + count,
@@ -388,7 +388,7 @@ impl PieceList {
         let len = upto.pos - from.pos;
         self.count -= count;
         self.len -= len;
-        self.kept = from;
+        self.finger = from;
         Stretch {
             chain,
             first,
@@ -407,7 +407,7 @@ impl PieceList {
         ensures kept { IsSeam self.new.chain.nodes upto }
     {
         relook_nodes(&mut self.chain, from.at, from.index, upto.index, sel, look);
-        self.kept = from;
+        self.finger = from;
     }
 
     /// Makes one piece of the two that meet at `seam`, where `second` continues `first`, and frees the node at `next`,
@@ -433,7 +433,7 @@ impl PieceList {
             .split(at, index, next, index + 1)
             .free(alloc, next);
         self.count -= 1;
-        self.kept = Seam {
+        self.finger = Seam {
             at,
             index,
             pos: pos + second.len,
@@ -482,7 +482,7 @@ impl PieceList {
     pub(crate) fn settle(&mut self, alloc: &Global, pos: u32)
         requires { pos ≤ self.old.len }
         ensures same { text_of self.new.chain.nodes ≡ text_of self.old.chain.nodes }
-        ensures settled { IsSettledAt (kept_pieces self.new.chain.nodes self.new.kept) pos }
+        ensures settled { IsSettledAt (fingered self.new.chain.nodes self.new.finger) pos }
         ensures elsewhere { (at : ℕ) → pos < at → IsMergedAt (pieces_of self.old.chain.nodes) at
             → IsMergedAt (pieces_of self.new.chain.nodes) at }
         ensures pieces { UnitesAtMost (pieces_of self.old.chain.nodes) (pieces_of self.new.chain.nodes) }
@@ -512,7 +512,7 @@ impl PieceList {
             trailer,
             count,
             len: _,
-            kept: _,
+            finger: _,
         } = self;
         let mut freed = 0;
         for _ in 0..count {

@@ -8,7 +8,7 @@ ghost use Rattle.std.specs.Prelude.{◌≡◌, ◌+◌, ◌^◌, ◌<◌, ◌≤
 ghost use Rattle.std.specs.Prelude.{OnErr};
 ghost use Rattle.piece_ring.specs.Cut.{IsCutAt};
 ghost use Rattle.piece_ring.specs.Flat.{flat, characters_of, IsWhole};
-ghost use Rattle.piece_ring.specs.Kept.{IsKeptAt, IsSettledAt};
+ghost use Rattle.piece_ring.specs.Finger.{IsFingerAt, IsSettledAt};
 ghost use Rattle.piece_ring.specs.Merging.{AddsAtMost, IsMergedAt};
 ghost use Rattle.piece_ring.specs.Text.{stretch, inserted, deleted, looks_changed};
 
@@ -28,12 +28,12 @@ pub struct Ring {
 }
 
 impl Model for Ring {
-    ghost use Rattle.piece_ring.specs.Kept.{kept_pieces};
-    ghost use Rattle.piece_ring.specs.KeptPieces.{KeptPieces};
+    ghost use Rattle.piece_ring.specs.Finger.{fingered};
+    ghost use Rattle.piece_ring.specs.FingeredPieces.{FingeredPieces};
 
-    ghost Value = { KeptPieces };
+    ghost Value = { FingeredPieces };
 
-    ghost view = { λ r. kept_pieces r.list.chain.nodes r.list.kept };
+    ghost view = { λ r. fingered r.list.chain.nodes r.list.finger };
 }
 
 impl Ring {
@@ -64,7 +64,7 @@ impl Ring {
     pub fn locate(&mut self, pos: u32)
         requires { pos ≤ length (flat self.old.pieces) }
         ensures same { self.new.pieces ≡ self.old.pieces }
-        ensures kept { IsKeptAt self.new pos }
+        ensures finger { IsFingerAt self.new pos }
     {
         self.list.locate(pos);
     }
@@ -73,7 +73,7 @@ impl Ring {
     pub fn split_at(&mut self, alloc: Global, pos: u32) -> Result<(), NoMemory>
         requires { pos ≤ length (flat self.old.pieces) }
         ensures same { flat self.new.pieces ≡ flat self.old.pieces }
-        ensures kept { OnOk result (IsKeptAt self.new pos) }
+        ensures finger { OnOk result (IsFingerAt self.new pos) }
         ensures cut { OnOk result (IsCutAt self.new.pieces pos) }
     {
         self.list.seam_at(alloc, pos)?;
@@ -219,14 +219,14 @@ impl Ring {
         Ok(())
     }
 
-    /// A cursor before the character at `pos`, or at the end. It follows no link if the kept place is there, and never
+    /// A cursor before the character at `pos`, or at the end. It follows no link if the finger is there, and never
     /// more than there are pieces.
     pub fn cursor(&self, pos: u32) -> Cursor<'_>
         requires { pos ≤ length (flat self.now.pieces) }
         ensures text { flat result.left ≡ drop pos (flat self.now.pieces) }
         ensures whole { pos ≡ 0 → result.left ≡ self.now.pieces }
         ensures few { result.walked ≤ length self.now.pieces }
-        ensures near { IsKeptAt self.now pos → result.walked ≡ 0 }
+        ensures near { IsFingerAt self.now pos → result.walked ≡ 0 }
     {
         if pos == self.list.len {
             return Cursor {
