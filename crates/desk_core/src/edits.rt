@@ -146,30 +146,28 @@ impl Desk {
         Ok(())
     }
 
-    /// Takes a viewer's stretch out, and puts the caret where it was, which is shown; the buffer has exactly these
-    /// characters then.
+    /// Takes a viewer's stretch out and returns it, and puts the caret where it was, which is shown.
     pub fn cut_out<S: CharSource>(
         &mut self,
         alloc: Global,
         selection: Selection,
-        buffer: &mut Buffer,
         source: &mut S,
-    ) -> Result<(), Stop>
+    ) -> Result<Buffer, Stop>
         requires built { IsBuilt (length (S.characters source.old)) (kept self.old) }
         requires some { selection.beg < selection.end }
         requires at { IsPosition (kept self.old) selection.viewer selection.end }
         ensures changed { OnOk result (IsChanged (S.honest source.old) (S.characters source.old) (kept self.old)
             (kept self.new) (cut_out (seen (S.characters source.old) (kept self.old)) selection)
             0 (selection.end - selection.beg)) }
-        ensures taken { OnOk result (flat buffer.new
+        ensures taken { IfOk result (λ taken. flat taken
             ≡ stretch selection.beg selection.end (flat (kept_main (kept self.old) selection.viewer))) }
         ensures reads { OnlyReads S.characters S.failures S.honest S.same_ground source.old source.new }
         ensures faults { FailsAs Stop.Fault IsStop result (S.failures source.old) (S.failures source.new) }
     {
         let number = self.main_of(selection.viewer);
-        self.delete(alloc, number, selection.beg, selection.end, buffer, source)?;
+        let taken = self.delete(alloc, number, selection.beg, selection.end, source)?;
         self.show_caret(selection.viewer, selection.beg, source)?;
-        Ok(())
+        Ok(taken)
     }
 }
 
