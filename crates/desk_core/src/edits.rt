@@ -6,7 +6,7 @@ ghost use Rattle.desktop_laws.specs.RowLaws.{has_space};
 ghost use Rattle.desk_core.specs.Words.{stretch, newest, kept_main, CanGo, run, no_caret, FailsAs, OnlyReads, flat};
 ghost use Rattle.desk_core.specs.Words.{most_written, most_held, numbered, viewer_or_none, seen, seen_text};
 ghost use Rattle.desk_core.specs.Words.{IsKeptWhole, IsBuilt, IsOver, IsChanged, kept, IsPosition, IsStop, needs};
-ghost use Rattle.desk_core.specs.Words.{Settles, SettlesUnread, Uses};
+ghost use Rattle.desk_core.specs.Words.{IsOpenAt, Settles, SettlesUnread, Uses};
 
 use crate::desk::Desk;
 use crate::stop::{NoMemory, StepResult, Stop};
@@ -105,8 +105,7 @@ impl Desk {
         buffer: &mut Buffer,
         source: &mut S,
     ) -> Result<(), Stop>
-        requires built { IsBuilt (length (S.characters source.old)) (kept self.old) }
-        requires at { IsPosition (kept self.old) id pos }
+        requires at { IsOpenAt (length (S.characters source.old)) (kept self.old) id pos }
         requires goes { CanGo (length (S.characters source.old)) (kept self.old) id buffer.old }
         ensures changed { OnOk result (IsChanged (S.honest source.old) (S.characters source.old) (kept self.old)
             (kept self.new) (put_in (seen (S.characters source.old) (kept self.old)) id pos
@@ -130,8 +129,7 @@ impl Desk {
         buffer: &mut Buffer,
         source: &mut S,
     ) -> Result<(), Stop>
-        requires built { IsBuilt (length (S.characters source.old)) (kept self.old) }
-        requires at { IsPosition (kept self.old) caret.viewer caret.position }
+        requires at { IsOpenAt (length (S.characters source.old)) (kept self.old) caret.viewer caret.position }
         requires goes { CanGo (length (S.characters source.old)) (kept self.old) caret.viewer buffer.old }
         ensures changed { OnOk result (IsChanged (S.honest source.old) (S.characters source.old) (kept self.old)
             (kept self.new) (put_at_caret (seen (S.characters source.old) (kept self.old))

@@ -11,15 +11,15 @@ use Rattle.desk_core.proofs.desk.Desk.put_in.Goals as goal
 pub insert-requires-clause-there : goal.insert-requires-clause-there
 insert-requires-clause-there g c =
     subst (λ (n : ℕ). IsSome (numbered c.args.self.now.texts.entries n)) (sym c.main_of-number.ensures)
-    (main_kept _ (kept c.args.self.now) c.requires.built c.args.id
-    (on_top_placed c.args.self.now.tracks c.args.id c.requires.at.placed))
+    (main_kept _ (kept c.args.self.now) c.requires.at.built c.args.id
+    (on_top_placed c.args.self.now.tracks c.args.id c.requires.at.stands.placed))
 
 pub show_caret-requires-clause-at : goal.show_caret-requires-clause-at
 show_caret-requires-clause-at g c = record {
-  placed = subst (IsOnTop c.args.id) (sym c.in_ok-insert.ensures.columns) c.requires.at.placed;
+  placed = subst (IsOnTop c.args.id) (sym c.in_ok-insert.ensures.columns) c.requires.at.stands.placed;
   place = room_after (kept c.args.self.now) (kept c.insert.new.self) c.args.id c.args.pos c.main_of-number.result
       c.len-len.result _ c.main_of-number.ensures c.len-len.ensures c.in_ok-insert.ensures.changed.rest.viewers
-      c.requires.at.place c.in_ok-insert.ensures.longer;
+      c.requires.at.stands.place c.in_ok-insert.ensures.longer;
 }
 
 pub returns-clause-changed : goal.returns-clause-changed
