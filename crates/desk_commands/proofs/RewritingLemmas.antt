@@ -1,5 +1,5 @@
 -- Texts that are written anew, step by step: the characters of a piece, the pieces of a text, the texts of a table.
-use Rattle.std.specs.Prelude.{◌≡◌, ℕ, ◌+◌, ◌<◌, ◌≤◌, List, [], ◌∷◌, ◌++◌, length, slice_index, All}
+use Rattle.std.specs.Prelude.{◌≡◌, ℕ, ◌+◌, ◌<◌, ◌≤◌, ◌^◌, List, [], ◌∷◌, ◌++◌, length, slice_index, All}
 use Rattle.std.specs.Map.{values_of}
 use Rattle.std.specs.Cmp.{IsTotalOrder}
 use Rattle.std.specs.BTreeMap.{insert_entry}
@@ -26,6 +26,7 @@ use Rattle.desktop_definitions.specs.Sound.{AllWithin}
 use Rattle.desktop_laws.specs.TableLaws.{kept_lengths}
 use Rattle.desktop_laws.specs.Rewriting.{laid, flats, laid_table, bytes_in}
 use Rattle.desktop_laws.specs.RewritingLaws.{laid-append, laid-run}
+use Rattle.desk_commands.specs.Rewriting.{CanPut}
 
 -- ---- the characters of a piece
 
@@ -134,13 +135,22 @@ pub record ArePut {K S : Type 0} (s : Ghosts S) (all left new : List (K × List 
     pub calm : s.failures now ≡ s.failures old
 
 module _ {K : Type 0} {e : K × List Piece} {left later : List (K × List Piece)} (first : left ≡ e ∷ later) where
-  pub one_inside : {n : ℕ} → AllWithin n left → AreWithin n (flat e.1)
+  one_inside : {n : ℕ} → AllWithin n left → AreWithin n (flat e.1)
   one_inside {n} within =
       All-head (λ pieces. AreWithin n (flat pieces)) e.1 (values_of later) (subst (AllWithin n) first within)
 
-  pub table_long : kept_lengths left ≡ length (flat e.1) + kept_lengths later
+  table_long : kept_lengths left ≡ length (flat e.1) + kept_lengths later
   table_long = ap (λ (es : List (K × List Piece)). kept_lengths es) first
       ∙ sum_by-cons (λ pieces. length (flat pieces)) e.1 (values_of later)
+
+  -- the text that comes next can be put
+  pub one_ready : {S : Type 0} {s : Ghosts S} {all new : List (K × List Piece)} {front made : List ℕ} {old now : S}
+      → ArePut s all left new front made old now → length front + kept_lengths all < 2 ^ 32
+      → CanPut (length (s.characters now)) (flat e.1) made
+  one_ready were room = record {
+    inside = one_inside were.inside;
+    room = omega (arith, table_long, were.longer, room);
+  }
 
   -- the text that comes next is put at the end
   pub put_last : {cmp : K → K → Ordering} {all : List K} (order : IsTotalOrder cmp)

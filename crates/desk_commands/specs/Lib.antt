@@ -1,4 +1,4 @@
 pub mod Calls
 pub mod Lines
-pub mod Openings
+pub mod Rewriting
 pub mod Words

@@ -12,7 +12,6 @@ ghost use Rattle.desk_core.specs.Words.{keys_of, nat_cmp, flat, Text as AText, C
 ghost use Rattle.desk_core.specs.Words.{most_written, most_held, lengths, dropped, seen, seen_table, IsKeptWhole, kept};
 ghost use Rattle.desk_commands.specs.Words.{Track as ATrack, held, viewer_in, without_viewer, more_written, opening};
 ghost use Rattle.desk_commands.specs.Words.{fits};
-ghost use Rattle.desk_commands.specs.Openings.{CanOpenOver};
 
 use desk_core::desk::Desk;
 use desk_core::held::{lengths, within_limits};
@@ -226,7 +225,7 @@ pub fn open_over(
     org: u32,
     track: Track,
 ) -> Result<(), NoMemory>
-    requires { CanOpenOver (kept desk.old) track }
+    requires { CanOpen (kept desk.old) × (length (stack_of (kept desk.old).columns track) < DEPTH) }
     ensures { OnOk result (kept desk.new ≡ opening_over (kept desk.old) menu main org track) }
 {
     let id = join(desk, menu, main, org)?;

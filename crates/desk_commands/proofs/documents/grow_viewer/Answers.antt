@@ -39,10 +39,10 @@ returns-then-not-opening_over_fits-clause-answered g c =
     ∙ c.if-not-opening_over_fits.true)
 
 pub open_over-requires : goal.open_over-requires
-open_over-requires g c = record {
-  can = can_open (kept c.args.desk.now) c.requires.over.whole;
-  room = omega (arith, c.levels.ensures.depth, c.levels.ensures.few, c.if-levels-eq-DEPTH.false);
-}
+open_over-requires g c = (
+  can_open (kept c.args.desk.now) c.requires.over.whole,
+  omega (arith, c.levels.ensures.depth, c.levels.ensures.few, c.if-levels-eq-DEPTH.false),
+)
 
 pub returns-clause-answered : goal.returns-clause-answered
 returns-clause-answered g c =
