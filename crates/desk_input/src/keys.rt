@@ -12,7 +12,6 @@ use desk_core::stop::StepResult;
 use desktop_definitions::{Reply, Selection, codes};
 use event_bytes::{Key, TypedBytes};
 use std::alloc::Global;
-use text_core::Buffer;
 
 /// The bytes go to the caret in the current look, and the caret after them, where it is shown. Refused without a
 /// caret.
