@@ -13,6 +13,7 @@ use Rattle.piece_ring.specs.Renaming.{renamed}
 use Rattle.piece_ring.specs.Text.{Text}
 use Rattle.desktop_definitions.specs.Limits.{most_held}
 use Rattle.desktop_definitions.specs.Looks.{IsLook, AreLooks}
+use Rattle.desktop_laws.specs.FewLaws.{few_sized}
 use Rattle.desk_image.specs.Image.{AreSome}
 use Rattle.desk_image.specs.Fitting.{Chain, FitsPiece, FitsPieces, less, total}
 
@@ -64,12 +65,7 @@ length_flat (p ∷ ps) = length-append (characters_of p) (flat ps)
 
 -- each piece has a character
 pub few_pieces : (pieces : List Piece) → AreSome pieces → length pieces ≤ total pieces
-few_pieces [] some = omega arith
-few_pieces (p ∷ ps) some =
-    let rest = few_pieces ps (All-tail (λ (q : Piece). 0 < q.len) p ps some) in
-    let here : 0 < p.len = some 0 p (omega arith) in
-    let sum = sum_by-cons (λ (q : Piece). q.len) p ps in
-    omega (arith, rest, here, sum)
+few_pieces pieces some = few_sized (λ (p : Piece). p.len) pieces some
 
 -- What fits of a text: its pieces have characters, of those that were written, in looks that there are.
 pub record IsFitting (written : ℕ) (pieces : List Piece) : Type 0 where

@@ -59,18 +59,19 @@ any_right test (k ∷ ks) more is = or_right (test k) _ (any_right test ks more 
 abbrev names : List Entry → List ℕ
 names t = map (λ e. e.viewer) t
 
-few_rows : (t : List Entry) → All (λ e. 0 < e.height) t → length t ≤ sum_by (λ e. e.height) t
-few_rows [] some = omega arith
-few_rows (e ∷ t) some =
-    let rest = few_rows t (All-tail (λ (e : Entry). 0 < e.height) e t some) in
-    let here : 0 < e.height = some 0 e (omega arith) in
-    let all = sum_by-cons (λ (e : Entry). e.height) e t in
+-- things of some size each are no more than their sizes together
+pub few_sized : {X : Type 0} (size : X → ℕ) (xs : List X) → All (λ x. 0 < size x) xs → length xs ≤ sum_by size xs
+few_sized size [] some = omega arith
+few_sized size (x ∷ xs) some =
+    let rest = few_sized size xs (All-tail (λ y. 0 < size y) x xs some) in
+    let here : 0 < size x = some 0 x (omega arith) in
+    let all = sum_by-cons size x xs in
     omega (arith, rest, here, all)
 
 few_names : (t : List Entry) → IsTrack t → length (names t) ≤ ROWS
 few_names t track =
     let long = length-map {B = ℕ} t (λ (e : Entry). e.viewer) in
-    let few = few_rows t track.some in
+    let few = few_sized (λ (e : Entry). e.height) t track.some in
     let fits = track.fits in
     omega (arith, long, few, fits)
 
