@@ -1,11 +1,12 @@
 -- What commands do, by what they take.
-use Rattle.std.specs.Prelude.{◌≡◌, ℕ, Bool, List, Option, Some, None, Result, Ok, Err}
+use Rattle.std.specs.Prelude.{◌≡◌, ℕ, Bool, List, length, Option, Some, None, Result, Ok, Err}
 use Rattle.std.specs.Option.{ok_or}
 use Rattle.std.proofs.Common.{refl, sym, ap, ◌∙◌}
 use Rattle.sector_disk.specs.Faults.{OneOf}
 use Rattle.char_file.specs.declared.source.CharSource.{Ghosts}
+use Rattle.piece_ring.specs.Flat.{flat}
 use Rattle.readers_scanners.specs.declared.symbol.Symbol.{Symbol}
-use Rattle.command_table.specs.Parameters.{name_in}
+use Rattle.command_table.specs.Parameters.{IsPlace, name_in}
 use Rattle.command_table.specs.declared.command.Command.{Command}
 use Rattle.desk_commands.specs.declared.calls.ViewerCommand.{ViewerCommand}
 use Rattle.desktop_definitions.specs.declared.call.Call.{Call}
@@ -14,13 +15,14 @@ use Rattle.desktop_definitions.specs.Limits.{no_command, wrong_symbol, no_viewer
 use Rattle.desktop_definitions.specs.Needs.{needs, given}
 use Rattle.desktop_definitions.specs.Desktop.{Desktop, KeptDesktop}
 use Rattle.desktop_definitions.specs.Change.{bytes_of}
+use Rattle.desktop_laws.specs.CallLaws.{called_place}
 use Rattle.desktop_laws.specs.LookedLaws.{font_sets_look, colour_sets_look, offset_sets_look}
 use Rattle.desktop_definitions.specs.Seen.{seen}
 use Rattle.desktop_definitions.specs.Sound.{IsOver}
 use Rattle.desktop_definitions.specs.Outcome.{reply_codes}
 use Rattle.desktop_definitions.specs.Call.{text_called, meant, number_in, value_of, name_of, number_of}
 use Rattle.desktop_definitions.specs.Commands.{command_at, commanded, called}
-use Rattle.desk_commands.specs.Calls.{done_with_viewer}
+use Rattle.desk_commands.specs.Calls.{IsCall, done_with_viewer}
 use Rattle.desk_core.specs.Row.{Settles}
 use Rattle.desk_commands.proofs.ReadFirst.{Reads, refused_after}
 
@@ -28,6 +30,12 @@ use Rattle.desk_commands.proofs.ReadFirst.{Reads, refused_after}
 pub ruleset looks_set = (font_sets_look, colour_sets_look, offset_sets_look)
 
 -- ---- what is read after the word
+
+-- the word of a call stands in its text
+pub call_place : {characters : List ℕ} {d : KeptDesktop} {call : Call} → IsOver characters d → IsCall d call
+    → IsPlace (length characters) (flat (text_called d call.viewer call.in_menu), call.after)
+call_place {characters} {d} {call} over is =
+    called_place characters d call.viewer call.in_menu call.after over is.within
 
 -- no more is done where that is refused
 pub refused_given : {S A : Type 0} (s : Ghosts S) (read : Desktop → Result A ℕ)

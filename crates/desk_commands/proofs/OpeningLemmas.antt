@@ -2,7 +2,7 @@
 use Rattle.std.proofs.Common.{◌≡◌, ℕ, suc, ◌+◌, ◌≤◌, Bool, true, false, cond, not, ◌==◌, nat_lt, List, []}
 use Rattle.std.proofs.Common.{◌∷◌}
 use Rattle.std.proofs.Common.{length, Option, Some, None, refl, ap, sym, subst, ◌∙◌, arith, ⊎_elim, ◌||◌}
-use Rattle.std.specs.Prelude.{insert, if◌then◌else◌, IsSome}
+use Rattle.std.specs.Prelude.{insert, if◌then◌else◌}
 use Rattle.std.specs.List.{position_or_len}
 use Rattle.std.specs.Map.{lookup}
 use Rattle.std.specs.Ordering.{nat_cmp, match_ordering, is_eq}
@@ -12,10 +12,10 @@ use Rattle.std.proofs.lemmas.Bool.{cases_lt, ne_eqb}
 use Rattle.std.proofs.lemmas.List.Sums.{sum_by-cons}
 use Rattle.piece_ring.specs.declared.piece.Piece.{Piece}
 use Rattle.piece_ring.specs.Flat.{flat}
-use Rattle.viewer_tracks.specs.Columns.{Columns, IsOnTop, IsPlaced, times_placed, times_meant}
+use Rattle.viewer_tracks.specs.Columns.{Columns, IsPlaced, times_placed, times_meant}
 use Rattle.desktop_definitions.specs.declared.viewer.Viewer.{Viewer}
 use Rattle.desktop_definitions.specs.declared.reply.Reply.{Reply}
-use Rattle.desktop_definitions.specs.Tables.{Texts, lengths, numbered}
+use Rattle.desktop_definitions.specs.Tables.{Texts, lengths}
 use Rattle.desktop_laws.specs.TableLaws.{lengths_seen, length_seen_text}
 use Rattle.desktop_definitions.specs.Desktop.{Desktop, KeptDesktop, held}
 use Rattle.desktop_definitions.specs.Opening.{new_id, new_number, with_new, with_viewer, opening, opening_on, dropped}
@@ -23,10 +23,9 @@ use Rattle.desktop_definitions.specs.Outcome.{IsAnswered}
 use Rattle.desktop_definitions.specs.Seen.{seen, seen_table}
 use Rattle.desktop_definitions.specs.Sound.{IsKeptWhole}
 use Rattle.desktop_laws.specs.OpeningDone.{CanOpen, opened_desk, written_opened}
-use Rattle.desktop_laws.specs.PlaceLaws.{on_top_placed}
-use Rattle.desk_core.proofs.ViewLemmas.{menu_there}
 use Rattle.desktop_laws.specs.LeftLaws.{kept_left, still_shown, held_left, left_fewer}
-use Rattle.desktop_definitions.specs.Viewers.{without_viewer, viewer_or_none}
+use Rattle.desktop_definitions.specs.Call.{text_called}
+use Rattle.desktop_definitions.specs.Viewers.{text_in, without_viewer, viewer_or_none}
 use Rattle.desktop_definitions.specs.Limits.{most_held}
 
 -- ---- a loop that counts
@@ -141,9 +140,8 @@ opened_counted d after texts number menu main cell n texts_is number_is is =
     = ap (λ (x : KeptDesktop). x.written) opened ∙ written_opened d menu main cell in
     λ k. record (opened k) { written = written k + n }
 
--- the menu of a viewer that is shown is there
-pub menu_stands : (d : KeptDesktop) → IsKeptWhole d → (v : ℕ) → IsOnTop v d.columns → {viewer : Viewer}
-    → viewer ≡ viewer_or_none d.viewers v → IsSome (numbered d.texts viewer.menu)
-menu_stands d whole v placed is =
-    subst (λ (x : Viewer). IsSome (numbered d.texts x.menu)) (sym is)
-    (menu_there d whole v (on_top_placed d.columns v placed))
+-- the menu of a viewer
+pub menu_is : (d : KeptDesktop) (v : ℕ) {viewer : Viewer} {menu : List Piece} → viewer ≡ viewer_or_none d.viewers v
+    → menu ≡ text_called d v true → flat menu ≡ flat (text_in d.texts viewer.menu)
+menu_is d v is same =
+    ap (λ (pieces : List Piece). flat pieces) same ∙ ap (λ (x : Viewer). flat (text_in d.texts x.menu)) (sym is)

@@ -1,5 +1,5 @@
 -- Texts that are written anew, step by step: the characters of a piece, the pieces of a text, the texts of a table.
-use Rattle.std.specs.Prelude.{◌≡◌, ℕ, zero, suc, ◌+◌, ◌<◌, ◌≤◌, List, [], ◌∷◌, ◌++◌, length, slice_index, All}
+use Rattle.std.specs.Prelude.{◌≡◌, ℕ, ◌+◌, ◌<◌, ◌≤◌, ◌^◌, List, [], ◌∷◌, ◌++◌, length, slice_index, All}
 use Rattle.std.specs.Map.{values_of}
 use Rattle.std.specs.Cmp.{IsTotalOrder}
 use Rattle.std.specs.BTreeMap.{insert_entry}
@@ -10,22 +10,23 @@ use Rattle.std.specs.declared.cmp.Ordering.{Ordering}
 use Rattle.std.specs.declared.cmp.Ordering.TheVariants.{Less, Greater}
 use Rattle.std.proofs.Common.{refl, sym, ap, subst, ◌∙◌, arith, append_assoc}
 use Rattle.std.proofs.lemmas.List.{map-append}
-use Rattle.std.proofs.lemmas.List.Elements.{All-nil, All-cons, All-head, All-tail}
+use Rattle.std.proofs.lemmas.List.Elements.{All-head, All-tail}
 use Rattle.std.proofs.lemmas.List.Sums.{sum_by-cons}
 use Rattle.char_file.specs.declared.source.CharSource.{Ghosts}
 use Rattle.char_file.specs.Source.{OnlyReads}
 use Rattle.char_file.proofs.Reading.{read_on}
-use Rattle.piece_ring.specs.Flat.{run, characters_of}
+use Rattle.piece_ring.specs.Flat.{IsWhole, run, characters_of}
 use Rattle.piece_ring.specs.Lengths.{length-run}
 use Rattle.piece_ring.specs.Offsets.{AreWithin}
 use Rattle.piece_ring.proofs.Runs.{run-append, length-flat-cons}
 use Rattle.readers_scanners.specs.Reading.{bytes}
-use Rattle.readers_scanners.proofs.Counting.{bytes-append}
+use Rattle.readers_scanners.proofs.Counting.{bytes-append, end_within}
 use Rattle.desktop_definitions.specs.Words.{keys_of, Look, Piece, Text, flat}
 use Rattle.desktop_definitions.specs.Sound.{AllWithin}
 use Rattle.desktop_laws.specs.TableLaws.{kept_lengths}
 use Rattle.desktop_laws.specs.Rewriting.{laid, flats, laid_table, bytes_in}
 use Rattle.desktop_laws.specs.RewritingLaws.{laid-append, laid-run}
+use Rattle.desk_commands.specs.Rewriting.{CanPut}
 
 -- ---- the characters of a piece
 
@@ -42,32 +43,21 @@ piece_on old front made made' off n byte look pushed is was =
 
 -- ---- the pieces of a text
 
--- what holds of all of a list holds of its parts
-front_of : (P : ℕ × Look → Type 0) (a b : Text ℕ) → All P (a ++ b) → All P a
-front_of P [] b all = All-nil P
-front_of P (x ∷ a) b all = All-cons P x a (All-head P x (a ++ b) all) (front_of P a b (All-tail P x (a ++ b) all))
-
+-- what holds of all of a list holds of what follows some of it
 rest_of : (P : ℕ × Look → Type 0) (a b : Text ℕ) → All P (a ++ b) → All P b
 rest_of P [] b all = all
 rest_of P (x ∷ a) b all = rest_of P a b (All-tail P x (a ++ b) all)
 
-run_ends : (n off len : ℕ) (look : Look) → AreWithin n (run off (suc len) look) → off + suc len ≤ n
-run_ends n off zero look within = let first = within 0 (off, look) (omega arith) in omega (arith, first)
-run_ends n off (suc len) look within =
-    let rest = run_ends n (suc off) len look
-    (All-tail (λ (c : ℕ × Look). c.0 < n) (off, look) (run (suc off) (suc len) look) within) in
-    omega (arith, rest)
-
-piece_ends : (n off len : ℕ) (look : Look) → 0 < len → AreWithin n (run off len look) → off + len ≤ n
-piece_ends n off zero look some within = absurd (omega (arith, some))
-piece_ends n off (suc len) look some within = run_ends n off len look within
-
 module _ {p : Piece} {left rest : List Piece} (first : left ≡ p ∷ rest) where
-  pub piece_inside : {n : ℕ} → 0 < p.len → AreWithin n (flat left) → p.off + p.len ≤ n
-  piece_inside {n} some within =
-      piece_ends n p.off p.len p.look some
-      (front_of (λ (c : ℕ × Look). c.0 < n) (characters_of p) (flat rest)
-      (subst (λ (ps : List Piece). AreWithin n (flat ps)) first within))
+  pub piece_inside : {n : ℕ} → IsWhole p → AreWithin n (flat left) → p.off + p.len ≤ n
+  piece_inside {n} whole within =
+      let some : 0 < p.len = whole.0 in
+      end_within (flat left) 0 (length (flat left)) p (flat rest) (record {
+        counted = omega arith;
+        rest = ap (λ (ps : List Piece). flat ps) first;
+        last = λ none. absurd (omega (arith, none, some));
+        fits = whole.1;
+      }) n within some
 
   pub rest_inside : {n : ℕ} → AreWithin n (flat left) → AreWithin n (flat rest)
   rest_inside {n} within =
@@ -145,13 +135,22 @@ pub record ArePut {K S : Type 0} (s : Ghosts S) (all left new : List (K × List 
     pub calm : s.failures now ≡ s.failures old
 
 module _ {K : Type 0} {e : K × List Piece} {left later : List (K × List Piece)} (first : left ≡ e ∷ later) where
-  pub one_inside : {n : ℕ} → AllWithin n left → AreWithin n (flat e.1)
+  one_inside : {n : ℕ} → AllWithin n left → AreWithin n (flat e.1)
   one_inside {n} within =
       All-head (λ pieces. AreWithin n (flat pieces)) e.1 (values_of later) (subst (AllWithin n) first within)
 
-  pub table_long : kept_lengths left ≡ length (flat e.1) + kept_lengths later
+  table_long : kept_lengths left ≡ length (flat e.1) + kept_lengths later
   table_long = ap (λ (es : List (K × List Piece)). kept_lengths es) first
       ∙ sum_by-cons (λ pieces. length (flat pieces)) e.1 (values_of later)
+
+  -- the text that comes next can be put
+  pub one_ready : {S : Type 0} {s : Ghosts S} {all new : List (K × List Piece)} {front made : List ℕ} {old now : S}
+      → ArePut s all left new front made old now → length front + kept_lengths all < 2 ^ 32
+      → CanPut (length (s.characters now)) (flat e.1) made
+  one_ready were room = record {
+    inside = one_inside were.inside;
+    room = omega (arith, table_long, were.longer, room);
+  }
 
   -- the text that comes next is put at the end
   pub put_last : {cmp : K → K → Ordering} {all : List K} (order : IsTotalOrder cmp)

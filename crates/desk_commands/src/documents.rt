@@ -20,7 +20,6 @@ use desk_core::desk::Desk;
 use desk_core::files::{Files, file_of};
 use desk_core::stop::{NoMemory, StepResult};
 use desk_core::viewers::viewer_or_none;
-use desk_core::views::text_there;
 use desktop_definitions::{Reply, codes};
 use event_bytes::Name;
 use piece_ring::DEFAULT_LOOK;
@@ -252,7 +251,7 @@ pub fn copy_viewer<S: CharSource>(
         return Ok(Reply::No(codes::TOO_LOW));
     }
     let viewer = viewer_or_none(&desk.viewers, id);
-    let menu = text_there(&desk.texts, viewer.menu);
+    let menu = desk.text_called(id, true);
     let y = place.bottom + rows / 2;
     if !opening_on_fits(desk, 0, menu.len() as usize, place.x, y) {
         return Ok(Reply::No(codes::FULL));
@@ -282,7 +281,7 @@ pub fn grow_viewer<S: CharSource>(
         return Ok(Reply::No(codes::TOO_DEEP));
     }
     let viewer = viewer_or_none(&desk.viewers, id);
-    let menu = text_there(&desk.texts, viewer.menu);
+    let menu = desk.text_called(id, true);
     if !opening_over_fits(desk, menu.len() as usize) {
         return Ok(Reply::No(codes::FULL));
     }

@@ -115,8 +115,7 @@ pub fn clear_log<S: CharSource>(desk: &mut Desk, alloc: Global, source: &mut S) 
 {
     let len = log_len(desk);
     if len > 0 {
-        let mut gone = Buffer::new(alloc)?;
-        desk.delete(alloc, 0, 0, len, &mut gone, source)?;
+        desk.delete(alloc, 0, 0, len, source)?;
     }
     Ok(Reply::Done)
 }

@@ -225,8 +225,7 @@ pub fn open_over(
     org: u32,
     track: Track,
 ) -> Result<(), NoMemory>
-    requires can { CanOpen (kept desk.old) }
-    requires room { length (stack_of (kept desk.old).columns track) < DEPTH }
+    requires { CanOpen (kept desk.old) × (length (stack_of (kept desk.old).columns track) < DEPTH) }
     ensures { OnOk result (kept desk.new ≡ opening_over (kept desk.old) menu main org track) }
 {
     let id = join(desk, menu, main, org)?;

@@ -5,8 +5,9 @@ ghost use Rattle.std.specs.List.Sorted.{IsStrictlySortedBy};
 ghost use Rattle.piece_ring.specs.Flat.{characters_of};
 ghost use Rattle.desktop_laws.specs.TableLaws.{kept_lengths};
 ghost use Rattle.desktop_laws.specs.Rewriting.{laid, laid_table, flats, bytes_in};
-ghost use Rattle.desk_core.specs.Words.{FailsAs, OnlyReads, flat, AreWithin, bytes, nat_cmp, keys_of, IsStop};
+ghost use Rattle.desk_core.specs.Words.{FailsAs, OnlyReads, flat, bytes, nat_cmp, keys_of, IsStop};
 ghost use Rattle.desk_commands.specs.Words.{name_cmp, AllWithin};
+ghost use Rattle.desk_commands.specs.Rewriting.{CanPut};
 
 use char_file::CharSource;
 use desk_core::files::Files;
@@ -56,8 +57,7 @@ fn put_pieces<S: CharSource>(
     made: &mut Vec<u8>,
     source: &mut S,
 ) -> Result<Buffer, Stop>
-    requires inside { AreWithin (length (S.characters source.old)) (flat left.left) }
-    requires room { length made.old.items + length (flat left.left) < 2 ^ 32 }
+    requires { CanPut (length (S.characters source.old)) (flat left.left) made.old.items }
     ensures laid { IfOk result (λ buffer. flat buffer ≡ laid (length made.old.items) (flat left.entry.left)) }
     ensures read { OnOk result (S.honest source.old
         → made.new.items ≡ made.old.items ++ bytes (S.characters source.old) (flat left.entry.left)) }
@@ -87,8 +87,7 @@ pub fn put_buffer<S: CharSource>(
     made: &mut Vec<u8>,
     source: &mut S,
 ) -> Result<Buffer, Stop>
-    requires inside { AreWithin (length (S.characters source.old)) (flat buffer.now) }
-    requires room { length made.old.items + length (flat buffer.now) < 2 ^ 32 }
+    requires { CanPut (length (S.characters source.old)) (flat buffer.now) made.old.items }
     ensures laid { IfOk result (λ new. flat new ≡ laid (length made.old.items) (flat buffer.now)) }
     ensures read { OnOk result (S.honest source.old
         → made.new.items ≡ made.old.items ++ bytes (S.characters source.old) (flat buffer.now)) }
@@ -106,8 +105,7 @@ fn put_text<S: CharSource>(
     made: &mut Vec<u8>,
     source: &mut S,
 ) -> Result<Text, Stop>
-    requires inside { AreWithin (length (S.characters source.old)) (flat text.now) }
-    requires room { length made.old.items + length (flat text.now) < 2 ^ 32 }
+    requires { CanPut (length (S.characters source.old)) (flat text.now) made.old.items }
     ensures laid { IfOk result (λ new. flat new ≡ laid (length made.old.items) (flat text.now)) }
     ensures read { OnOk result (S.honest source.old
         → made.new.items ≡ made.old.items ++ bytes (S.characters source.old) (flat text.now)) }

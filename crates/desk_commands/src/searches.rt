@@ -11,7 +11,7 @@ use char_file::{CharSource, Fault};
 use desk_core::desk::{Desk, PATTERN};
 use desk_core::stop::StepResult;
 use desk_core::views::position_in;
-use desktop_definitions::{Reply, codes};
+use desktop_definitions::{Reply, Selection, codes};
 use readers_scanners::Reader;
 use std::alloc::Global;
 use text_core::Text;
@@ -19,25 +19,25 @@ use text_core::Text;
 /// The bytes for which a text is searched.
 type Pattern = ArrayVec<u8, PATTERN>;
 
-/// The first bytes of a stretch of a text, 31 at most. Fault: the source failed in this call.
+/// The first bytes of a selection of a text, 31 at most. Fault: the source failed in this call.
 fn first_bytes<S: CharSource>(
     text: &Text,
-    beg: u32,
-    end: u32,
+    selection: Selection,
     source: &mut S,
 ) -> Result<Pattern, Fault>
-    requires order { beg ≤ end }
-    requires within { end ≤ length (flat text.now) }
+    requires order { selection.beg ≤ selection.end }
+    requires within { selection.end ≤ length (flat text.now) }
     requires offsets { AreWithin (length (S.characters source.old)) (flat text.now) }
     ensures bytes { IfOk result (λ pattern. S.honest source.old → pattern.items
-        ≡ take most_pattern (slice_range (bytes (S.characters source.old) (flat text.now)) beg end)) }
+        ≡ take most_pattern (slice_range (bytes (S.characters source.old) (flat text.now))
+        selection.beg selection.end)) }
     ensures few { IfOk result (λ pattern. length pattern.items ≤ most_pattern) }
     ensures reads { OnlyReads S.characters S.failures S.honest S.same_ground source.old source.new }
     ensures cause { CountsFault result (S.failures source.old) (S.failures source.new) }
 {
     let mut pattern = Pattern::new();
-    let mut reader = Reader::open(text, beg);
-    for _ in 0..(end - beg).min(PATTERN as u32) {
+    let mut reader = Reader::open(text, selection.beg);
+    for _ in 0..(selection.end - selection.beg).min(PATTERN as u32) {
         pattern.push(reader.next_byte(source)?);
     }
     Ok(pattern)
@@ -105,7 +105,7 @@ fn pattern_after<S: CharSource>(desk: &Desk, source: &mut S) -> Result<Pattern, 
         return Ok(copied(desk.pattern.as_slice()));
     };
     let text = desk.main_text(selection.viewer);
-    first_bytes(text, selection.beg, selection.end, source)
+    first_bytes(text, selection, source)
 }
 
 /// The caret goes after the first place with the pattern in a viewer's main text, from where it stands there or

@@ -6,12 +6,18 @@ use Rattle.piece_ring.specs.Offsets.{AreWithin}
 use Rattle.viewer_tracks.specs.Columns.{IsOnTop}
 use Rattle.desktop_definitions.specs.Desktop.{KeptDesktop}
 use Rattle.desktop_definitions.specs.Looks.{AreLooks}
+use Rattle.desktop_definitions.specs.Sound.{IsBuilt}
 use Rattle.desktop_laws.specs.RowPartLaws.{kept_main}
 
 -- a position in the main text of a viewer in a track that is shown
 pub record IsPosition (d : KeptDesktop) (v p : ℕ) : Type 0 where
   pub placed : IsOnTop v d.columns
   pub place : p ≤ length (flat (kept_main d v))
+
+-- the same of a desktop that is built over n characters
+pub record IsOpenAt (n : ℕ) (d : KeptDesktop) (v p : ℕ) : Type 0 where
+  pub built : IsBuilt n d
+  pub stands : IsPosition d v p
 
 -- characters that can go into the main text of a viewer: each is one of the first n, and has a look that there is
 pub record CanGo (n : ℕ) (d : KeptDesktop) (v : ℕ) (buffer : List Piece) : Type 0 where

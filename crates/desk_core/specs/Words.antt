@@ -23,5 +23,5 @@ pub use Rattle.desktop_laws.specs.ShapeLaws.{AreMoved, CanFollow}
 pub use Rattle.desktop_laws.specs.RowPartLaws.{kept_main}
 pub use Rattle.desk_core.specs.Kept.{kept}
 pub use Rattle.desk_core.specs.Stops.{IsStop}
-pub use Rattle.desk_core.specs.Positions.{IsPosition, CanGo}
+pub use Rattle.desk_core.specs.Positions.{IsPosition, IsOpenAt, CanGo}
 pub use Rattle.desk_core.specs.Row.{Settles, SettlesUnread, SettlesBringing, Uses}

@@ -6,7 +6,7 @@ ghost use Rattle.desktop_laws.specs.RowLaws.{has_space};
 ghost use Rattle.desk_core.specs.Words.{stretch, newest, kept_main, CanGo, run, no_caret, FailsAs, OnlyReads, flat};
 ghost use Rattle.desk_core.specs.Words.{most_written, most_held, numbered, viewer_or_none, seen, seen_text};
 ghost use Rattle.desk_core.specs.Words.{IsKeptWhole, IsBuilt, IsOver, IsChanged, kept, IsPosition, IsStop, needs};
-ghost use Rattle.desk_core.specs.Words.{Settles, SettlesUnread, Uses};
+ghost use Rattle.desk_core.specs.Words.{IsOpenAt, Settles, SettlesUnread, Uses};
 
 use crate::desk::Desk;
 use crate::stop::{NoMemory, StepResult, Stop};
@@ -105,8 +105,7 @@ impl Desk {
         buffer: &mut Buffer,
         source: &mut S,
     ) -> Result<(), Stop>
-        requires built { IsBuilt (length (S.characters source.old)) (kept self.old) }
-        requires at { IsPosition (kept self.old) id pos }
+        requires at { IsOpenAt (length (S.characters source.old)) (kept self.old) id pos }
         requires goes { CanGo (length (S.characters source.old)) (kept self.old) id buffer.old }
         ensures changed { OnOk result (IsChanged (S.honest source.old) (S.characters source.old) (kept self.old)
             (kept self.new) (put_in (seen (S.characters source.old) (kept self.old)) id pos
@@ -130,8 +129,7 @@ impl Desk {
         buffer: &mut Buffer,
         source: &mut S,
     ) -> Result<(), Stop>
-        requires built { IsBuilt (length (S.characters source.old)) (kept self.old) }
-        requires at { IsPosition (kept self.old) caret.viewer caret.position }
+        requires at { IsOpenAt (length (S.characters source.old)) (kept self.old) caret.viewer caret.position }
         requires goes { CanGo (length (S.characters source.old)) (kept self.old) caret.viewer buffer.old }
         ensures changed { OnOk result (IsChanged (S.honest source.old) (S.characters source.old) (kept self.old)
             (kept self.new) (put_at_caret (seen (S.characters source.old) (kept self.old))
@@ -146,30 +144,28 @@ impl Desk {
         Ok(())
     }
 
-    /// Takes a viewer's stretch out, and puts the caret where it was, which is shown; the buffer has exactly these
-    /// characters then.
+    /// Takes a viewer's stretch out and returns it, and puts the caret where it was, which is shown.
     pub fn cut_out<S: CharSource>(
         &mut self,
         alloc: Global,
         selection: Selection,
-        buffer: &mut Buffer,
         source: &mut S,
-    ) -> Result<(), Stop>
+    ) -> Result<Buffer, Stop>
         requires built { IsBuilt (length (S.characters source.old)) (kept self.old) }
         requires some { selection.beg < selection.end }
         requires at { IsPosition (kept self.old) selection.viewer selection.end }
         ensures changed { OnOk result (IsChanged (S.honest source.old) (S.characters source.old) (kept self.old)
             (kept self.new) (cut_out (seen (S.characters source.old) (kept self.old)) selection)
             0 (selection.end - selection.beg)) }
-        ensures taken { OnOk result (flat buffer.new
+        ensures taken { IfOk result (λ taken. flat taken
             ≡ stretch selection.beg selection.end (flat (kept_main (kept self.old) selection.viewer))) }
         ensures reads { OnlyReads S.characters S.failures S.honest S.same_ground source.old source.new }
         ensures faults { FailsAs Stop.Fault IsStop result (S.failures source.old) (S.failures source.new) }
     {
         let number = self.main_of(selection.viewer);
-        self.delete(alloc, number, selection.beg, selection.end, buffer, source)?;
+        let taken = self.delete(alloc, number, selection.beg, selection.end, source)?;
         self.show_caret(selection.viewer, selection.beg, source)?;
-        Ok(())
+        Ok(taken)
     }
 }
 

@@ -2,7 +2,7 @@
 //!
 //! Each method says in one word (`IsChanged`) what it makes of the desktop: what the definition says, where the
 //! characters were told truly, and what holds whatever was told.
-ghost use Rattle.std.specs.Prelude.{◌≡◌, ◌+◌, ◌-◌, ◌<◌, ◌≤◌, ◌^◌, ◌⊎◌, ℕ, List, length, All, IsSome, OnOk, ⊤};
+ghost use Rattle.std.specs.Prelude.{◌≡◌, ◌+◌, ◌-◌, ◌<◌, ◌≤◌, ◌^◌, ℕ, List, length, All, IsSome, IfOk, OnOk, ⊤};
 ghost use Rattle.piece_ring.specs.Text.{inserted, deleted, looks_changed};
 ghost use Rattle.desktop_definitions.specs.Looks.{IsLook, AreLooks};
 ghost use Rattle.desktop_definitions.specs.Viewers.{shows, rows_of};
@@ -11,11 +11,14 @@ ghost use Rattle.desktop_laws.specs.EditLaws.{IsSet};
 ghost use Rattle.desk_core.specs.Words.{stretch, with_values, followed, CanFollow, AreMoved, FailsAs, IsOnTop};
 ghost use Rattle.desk_core.specs.Words.{IsPlaced, CountsFault, OnlyReads, flat, AreWithin, bytes, numbered, text_in};
 ghost use Rattle.desk_core.specs.Words.{viewer_or_none, unmarked, seen, seen_text, IsBuilt, IsChanged, kept, IsStop};
+ghost use Rattle.desk_core.specs.Words.{IsPosition};
+ghost use Rattle.desk_core.specs.Movable.{IsChangeOf};
 
 use crate::desk::Desk;
 use crate::stop::{NoMemory, Stop};
 use crate::viewers::{
-    Texts, caret_outside, follow_text, org_in, select, set_org, unselect, viewer_or_none,
+    TextChange, Texts, caret_outside, follow_text, org_in, select, set_org, unselect,
+    viewer_or_none,
 };
 use char_file::{CharSource, Fault};
 use desktop_definitions::{Caret, Selection};
@@ -47,26 +50,26 @@ fn put_in(
     }
 }
 
-/// Takes the characters from `beg` up to before `end` out of the text of that number, into the buffer.
+/// Takes the characters from `beg` up to before `end` out of the text of that number.
 fn take_out(
     texts: &mut Texts,
     alloc: Global,
     number: u16,
     beg: u32,
     end: u32,
-    buffer: &mut Buffer,
-) -> Result<(), NoMemory>
+) -> Result<Buffer, NoMemory>
     requires there { IsSome (numbered texts.old.entries number) }
     requires some { beg < end }
     requires place { end ≤ length (flat (text_in texts.old.entries number)) }
     ensures text { OnOk result (IsSet texts.old.entries texts.new.entries number
         (deleted beg end (flat (text_in texts.old.entries number)))) }
-    ensures taken { OnOk result (flat buffer.new ≡ stretch beg end (flat (text_in texts.old.entries number))) }
+    ensures taken { IfOk result (λ taken. flat taken ≡ stretch beg end (flat (text_in texts.old.entries number))) }
 {
+    let mut taken = Buffer::new(alloc)?;
     match texts.get_mut(&number) {
         Some(text) => {
-            text.delete(alloc, beg, end, buffer)?;
-            Ok(())
+            text.delete(alloc, beg, end, &mut taken)?;
+            Ok(taken)
         }
         None => unreachable!(),
     }
@@ -105,45 +108,31 @@ impl Desk {
         unselect(&self.viewers, number, &mut self.selections);
     }
 
-    /// Each frame of the text of that number, which has changed, loses caret and selection and follows its first
-    /// character. `Fault`: the source failed in this call.
-    fn follow<S: CharSource>(
-        &mut self,
-        number: u16,
-        pos: u32,
-        more: u32,
-        fewer: u32,
-        source: &mut S,
-    ) -> Result<(), Fault>
-        requires there { IsSome (numbered (kept self.old).texts number) }
-        requires one { (more ≡ 0) ⊎ (fewer ≡ 0) }
-        requires some { 0 < more + fewer }
-        requires place { pos + more ≤ length (flat (text_in (kept self.old).texts number)) }
-        requires orgs { All (CanFollow number more fewer (length (flat (text_in (kept self.old).texts number))))
-            (kept self.old).viewers }
+    /// Each frame of the text that changed loses caret and selection and follows its first character. `Fault`: the
+    /// source failed in this call.
+    fn follow<S: CharSource>(&mut self, change: TextChange, source: &mut S) -> Result<(), Fault>
+        requires there { IsSome (numbered (kept self.old).texts change.number) }
+        requires change { IsChangeOf change (length (flat (text_in (kept self.old).texts change.number))) }
+        requires orgs { All (CanFollow change.number change.more change.fewer
+            (length (flat (text_in (kept self.old).texts change.number)))) (kept self.old).viewers }
         requires offsets { AreWithin (length (S.characters source.old))
-            (flat (text_in (kept self.old).texts number)) }
-        ensures rest { OnOk result (kept self.new ≡ record (unmarked (shows (kept self.old) number) (kept self.old)) {
-          viewers = (kept self.new).viewers;
-        }) }
+            (flat (text_in (kept self.old).texts change.number)) }
+        ensures rest { OnOk result (kept self.new
+            ≡ record (unmarked (shows (kept self.old) change.number) (kept self.old)) {
+              viewers = (kept self.new).viewers;
+            }) }
         ensures exact { OnOk result (S.honest source.old → (kept self.new).viewers ≡ with_values
-            (followed number (bytes (S.characters source.old) (flat (text_in (kept self.old).texts number)))
-            pos more fewer) (kept self.old).viewers) }
-        ensures moved { OnOk result (AreMoved number (length (flat (text_in (kept self.old).texts number)))
+            (followed change.number
+            (bytes (S.characters source.old) (flat (text_in (kept self.old).texts change.number)))
+            change.pos change.more change.fewer) (kept self.old).viewers) }
+        ensures moved { OnOk result (AreMoved change.number
+            (length (flat (text_in (kept self.old).texts change.number)))
             (kept self.old).viewers (kept self.new).viewers) }
         ensures reads { OnlyReads S.characters S.failures S.honest S.same_ground source.old source.new }
         ensures cause { CountsFault result (S.failures source.old) (S.failures source.new) }
     {
-        self.unmark(number);
-        follow_text(
-            &self.texts,
-            &mut self.viewers,
-            number,
-            pos,
-            more,
-            fewer,
-            source,
-        )?;
+        self.unmark(change.number);
+        follow_text(&self.texts, &mut self.viewers, change, source)?;
         Ok(())
     }
 
@@ -187,37 +176,49 @@ impl Desk {
             return Ok(());
         }
         put_in(&mut self.texts, alloc, number, pos, buffer)?;
-        self.follow(number, pos, count, 0, source)?;
+        let put = TextChange {
+            number,
+            pos,
+            more: count,
+            fewer: 0,
+        };
+        self.follow(put, source)?;
         Ok(())
     }
 
-    /// Takes the characters from `beg` up to before `end` out of the text of that number; the buffer has exactly these
-    /// then. Each frame of the text loses caret and selection and follows its first character.
+    /// Takes the characters from `beg` up to before `end` out of the text of that number, and returns them. Each frame
+    /// of the text loses caret and selection and follows its first character.
     pub fn delete<S: CharSource>(
         &mut self,
         alloc: Global,
         number: u16,
         beg: u32,
         end: u32,
-        buffer: &mut Buffer,
         source: &mut S,
-    ) -> Result<(), Stop>
+    ) -> Result<Buffer, Stop>
         requires built { IsBuilt (length (S.characters source.old)) (kept self.old) }
         requires there { IsSome (numbered (kept self.old).texts number) }
         requires some { beg < end }
         requires place { end ≤ length (flat (text_in (kept self.old).texts number)) }
         ensures changed { OnOk result (IsChanged (S.honest source.old) (S.characters source.old) (kept self.old)
             (kept self.new) (deletion (seen (S.characters source.old) (kept self.old)) number beg end) 0 (end - beg)) }
-        ensures taken { OnOk result (flat buffer.new ≡ stretch beg end (flat (text_in (kept self.old).texts number))) }
+        ensures taken { IfOk result (λ taken. flat taken
+            ≡ stretch beg end (flat (text_in (kept self.old).texts number))) }
         ensures shorter { OnOk result (length (flat (text_in (kept self.new).texts number)) + (end - beg)
             ≡ length (flat (text_in (kept self.old).texts number))) }
         ensures columns { OnOk result ((kept self.new).columns ≡ (kept self.old).columns) }
         ensures reads { OnlyReads S.characters S.failures S.honest S.same_ground source.old source.new }
         ensures faults { FailsAs Stop.Fault IsStop result (S.failures source.old) (S.failures source.new) }
     {
-        take_out(&mut self.texts, alloc, number, beg, end, buffer)?;
-        self.follow(number, beg, 0, end - beg, source)?;
-        Ok(())
+        let taken = take_out(&mut self.texts, alloc, number, beg, end)?;
+        let cut = TextChange {
+            number,
+            pos: beg,
+            more: 0,
+            fewer: end - beg,
+        };
+        self.follow(cut, source)?;
+        Ok(taken)
     }
 
     /// A selection gets the looks that `selector` takes of this one (bit 0 the font, bit 1 the colour, bit 2 the
@@ -273,9 +274,7 @@ impl Desk {
         source: &mut S,
     ) -> Result<(), Stop>
         requires built { IsBuilt (length (S.characters source.old)) (kept self.old) }
-        requires placed { IsOnTop id (kept self.old).columns }
-        requires place { pos ≤ length (flat (text_in (kept self.old).texts
-            (viewer_or_none (kept self.old).viewers id).main)) }
+        requires at { IsPosition (kept self.old) id pos }
         ensures changed { OnOk result (IsChanged (S.honest source.old) (S.characters source.old) (kept self.old)
             (kept self.new) (caret_shown (seen (S.characters source.old) (kept self.old)) id pos) 0 0) }
         ensures columns { OnOk result ((kept self.new).columns ≡ (kept self.old).columns) }

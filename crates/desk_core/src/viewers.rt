@@ -1,10 +1,10 @@
 //! The table of viewers by their ids, and what a change of a text does to them.
-ghost use Rattle.std.specs.Prelude.{◌≡◌, ◌⊎◌, ◌∷◌, [], ◌++◌, ◌+◌, ◌<◌, ◌≤◌, ◌==◌, length, IfOk, OnOk, All, IsSome};
+ghost use Rattle.std.specs.Prelude.{◌≡◌, ◌∷◌, [], ◌++◌, ◌+◌, ◌≤◌, ◌==◌, length, IfOk, OnOk, All, IsSome};
 ghost use Rattle.std.specs.Map.{set_value};
 ghost use Rattle.text_frames.specs.Rules.{shown_org};
 ghost use Rattle.desktop_definitions.specs.Viewers.{viewer_in};
 ghost use Rattle.desktop_laws.specs.ShapeLaws.{IsMoved};
-ghost use Rattle.desk_core.specs.Movable.{IsMovable};
+ghost use Rattle.desk_core.specs.Movable.{IsMovable, IsChangeOf};
 ghost use Rattle.desk_core.specs.Words.{is_at, with_values, followed, AreMoved, CanFollow, nat_cmp, CountsFault};
 ghost use Rattle.desk_core.specs.Words.{OnlyReads, flat, AreWithin, bytes, numbered, viewer_or_none, text_in};
 ghost use Rattle.desk_core.specs.Words.{caret_outside, selections_outside};
@@ -22,6 +22,15 @@ pub type ViewerTable = Vec<(u16, Viewer)>;
 
 /// Texts by number.
 pub type Texts = BTreeMap<u16, Text>;
+
+/// A change of the text of a number: at a position `more` characters came in, or from it on `fewer` went out.
+#[derive(Clone, Copy, Debug, PartialEq, Eq)]
+pub struct TextChange {
+    pub number: u16,
+    pub pos: u32,
+    pub more: u32,
+    pub fewer: u32,
+}
 
 /// The viewer of that id. None where there is none.
 pub fn viewer_of(viewers: &ViewerTable, id: u16) -> Option<Viewer>
@@ -104,33 +113,28 @@ pub fn select(selections: &mut Vec<Selection>, newest: Selection) -> Result<(), 
     Ok(())
 }
 
-/// The change rule at one viewer: where its main frame shows the text of that number, it follows its first character.
 /// `Fault`: the source failed in this call.
 fn follow<S: CharSource>(
     entry: &mut (u16, Viewer),
     text: &Text,
-    number: u16,
-    pos: u32,
-    more: u32,
-    fewer: u32,
+    change: TextChange,
     source: &mut S,
 ) -> Result<(), Fault>
-    requires one { (more ≡ 0) ⊎ (fewer ≡ 0) }
-    requires some { 0 < more + fewer }
-    requires place { pos + more ≤ length (flat text.now) }
-    requires org { CanFollow number more fewer (length (flat text.now)) entry.old }
+    requires change { IsChangeOf change (length (flat text.now)) }
+    requires org { CanFollow change.number change.more change.fewer (length (flat text.now)) entry.old }
     requires offsets { AreWithin (length (S.characters source.old)) (flat text.now) }
     ensures exact { OnOk result (S.honest source.old → entry.new ≡ (
       entry.old.0,
-      followed number (bytes (S.characters source.old) (flat text.now)) pos more fewer entry.old.1,
+      followed change.number (bytes (S.characters source.old) (flat text.now)) change.pos change.more change.fewer
+          entry.old.1,
     )) }
-    ensures moved { OnOk result (IsMoved number (length (flat text.now)) entry.old entry.new) }
+    ensures moved { OnOk result (IsMoved change.number (length (flat text.now)) entry.old entry.new) }
     ensures reads { OnlyReads S.characters S.failures S.honest S.same_ground source.old source.new }
     ensures cause { CountsFault result (S.failures source.old) (S.failures source.new) }
 {
     let viewer = entry.1;
-    if viewer.main == number {
-        let org = org_after(viewer.org, text, pos, more, fewer, source)?;
+    if viewer.main == change.number {
+        let org = org_after(viewer.org, text, change.pos, change.more, change.fewer, source)?;
         entry.1.org = org;
     }
     Ok(())
@@ -140,57 +144,49 @@ fn follow<S: CharSource>(
 fn follow_all<S: CharSource>(
     viewers: &mut ViewerTable,
     text: &Text,
-    number: u16,
-    pos: u32,
-    more: u32,
-    fewer: u32,
+    change: TextChange,
     source: &mut S,
 ) -> Result<(), Fault>
-    requires one { (more ≡ 0) ⊎ (fewer ≡ 0) }
-    requires some { 0 < more + fewer }
-    requires place { pos + more ≤ length (flat text.now) }
-    requires orgs { All (CanFollow number more fewer (length (flat text.now))) viewers.old.items }
+    requires change { IsChangeOf change (length (flat text.now)) }
+    requires orgs { All (CanFollow change.number change.more change.fewer (length (flat text.now)))
+        viewers.old.items }
     requires offsets { AreWithin (length (S.characters source.old)) (flat text.now) }
     ensures exact { OnOk result (S.honest source.old → viewers.new.items ≡ with_values
-        (followed number (bytes (S.characters source.old) (flat text.now)) pos more fewer) viewers.old.items) }
-    ensures moved { OnOk result (AreMoved number (length (flat text.now)) viewers.old.items viewers.new.items) }
+        (followed change.number (bytes (S.characters source.old) (flat text.now)) change.pos change.more change.fewer)
+        viewers.old.items) }
+    ensures moved { OnOk result (AreMoved change.number (length (flat text.now)) viewers.old.items viewers.new.items) }
     ensures reads { OnlyReads S.characters S.failures S.honest S.same_ground source.old source.new }
     ensures cause { CountsFault result (S.failures source.old) (S.failures source.new) }
 {
     for at in 0..viewers.len() {
         let entry = &mut viewers[at];
-        follow(entry, text, number, pos, more, fewer, source)?;
+        follow(entry, text, change, source)?;
     }
     Ok(())
 }
 
-/// The same for the text of that number, as it is after the change.
+/// The same for the text that changed, as it is after the change.
 pub fn follow_text<S: CharSource>(
     texts: &Texts,
     viewers: &mut ViewerTable,
-    number: u16,
-    pos: u32,
-    more: u32,
-    fewer: u32,
+    change: TextChange,
     source: &mut S,
 ) -> Result<(), Fault>
-    requires there { IsSome (numbered texts.now.entries number) }
-    requires one { (more ≡ 0) ⊎ (fewer ≡ 0) }
-    requires some { 0 < more + fewer }
-    requires place { pos + more ≤ length (flat (text_in texts.now.entries number)) }
-    requires orgs { All (CanFollow number more fewer (length (flat (text_in texts.now.entries number))))
-        viewers.old.items }
-    requires offsets { AreWithin (length (S.characters source.old)) (flat (text_in texts.now.entries number)) }
+    requires there { IsSome (numbered texts.now.entries change.number) }
+    requires change { IsChangeOf change (length (flat (text_in texts.now.entries change.number))) }
+    requires orgs { All (CanFollow change.number change.more change.fewer
+        (length (flat (text_in texts.now.entries change.number)))) viewers.old.items }
+    requires offsets { AreWithin (length (S.characters source.old)) (flat (text_in texts.now.entries change.number)) }
     ensures exact { OnOk result (S.honest source.old → viewers.new.items ≡ with_values
-        (followed number (bytes (S.characters source.old) (flat (text_in texts.now.entries number))) pos more fewer)
-        viewers.old.items) }
-    ensures moved { OnOk result (AreMoved number (length (flat (text_in texts.now.entries number)))
+        (followed change.number (bytes (S.characters source.old) (flat (text_in texts.now.entries change.number)))
+        change.pos change.more change.fewer) viewers.old.items) }
+    ensures moved { OnOk result (AreMoved change.number (length (flat (text_in texts.now.entries change.number)))
         viewers.old.items viewers.new.items) }
     ensures reads { OnlyReads S.characters S.failures S.honest S.same_ground source.old source.new }
     ensures cause { CountsFault result (S.failures source.old) (S.failures source.new) }
 {
-    match texts.get(&number) {
-        Some(text) => follow_all(viewers, text, number, pos, more, fewer, source),
+    match texts.get(&change.number) {
+        Some(text) => follow_all(viewers, text, change, source),
         None => unreachable!(),
     }
 }
@@ -219,7 +215,11 @@ pub fn org_in<S: CharSource>(
 {
     let viewer = viewer_or_none(viewers, id);
     match texts.get(&viewer.main) {
-        Some(text) => org_to_show(viewer.org, text, rows, pos, source),
+        Some(text) => {
+            let mut frame = frame_from(viewer.org);
+            frame.show(text, rows, pos, source)?;
+            Ok(frame.org)
+        }
         None => unreachable!(),
     }
 }

@@ -39,6 +39,14 @@ optional_at read bytes = do
     x ← read flag.1
     Some (Some x.0, x.1)) else None
 
+-- three parts, one after another, and what they make
+abbrev pub three_at : {A B C D : Type 0} → Reader A → Reader B → Reader C → (A → B → C → D) → Reader D
+three_at first second third make bytes = do
+  a ← first bytes
+  b ← second a.1
+  c ← third b.1
+  Some (make a.0 b.0 c.0, c.1)
+
 unfoldable pub long_at : Reader ℕ
 long_at bytes = do
   high ← pair_at bytes
@@ -53,11 +61,8 @@ offset_at bytes = do
   if nat_lt b.0 offsets then Some (pos b.0 -ℤ pos below_zero, b.1) else None
 
 unfoldable pub raw_look_at : Reader Look
-raw_look_at bytes = do
-  font ← byte_at bytes
-  colour ← byte_at font.1
-  voff ← offset_at colour.1
-  Some (record { font = font.0; colour = colour.0; voff = voff.0 }, voff.1)
+raw_look_at bytes =
+    three_at byte_at byte_at offset_at (λ font colour voff. record { font = font; colour = colour; voff = voff }) bytes
 
 abbrev pub is_look : Look → Bool
 is_look l = nat_lt l.font number_of_fonts && nat_lt l.colour number_of_colours
@@ -113,11 +118,7 @@ files_at written room bytes = do
 -- ---- viewers
 
 unfoldable pub ranked_at : Reader Ranked
-ranked_at bytes = do
-  rank ← byte_at bytes
-  beg ← long_at rank.1
-  end ← long_at beg.1
-  Some (record { rank = rank.0; beg = beg.0; end = end.0 }, end.1)
+ranked_at bytes = three_at byte_at long_at long_at (λ rank beg end. record { rank = rank; beg = beg; end = end }) bytes
 
 -- an id, or a number of viewers
 unfoldable pub id_at : ℕ → Reader ℕ
@@ -204,11 +205,8 @@ side_at bytes = do
   if x.0 == 0 then Some (User, x.1) else if x.0 == SYSTEM_LEFT then Some (System, x.1) else None
 
 unfoldable pub raw_kept_at : ℕ → Reader Kept
-raw_kept_at version bytes = do
-  viewer ← id_at version bytes
-  track ← side_at viewer.1
-  top ← byte_at track.1
-  Some (record { viewer = viewer.0; track = track.0; top = top.0 }, top.1)
+raw_kept_at version bytes = three_at (id_at version) side_at byte_at
+    (λ viewer track top. record { viewer = viewer; track = track; top = top }) bytes
 
 abbrev pub is_kept : Kept → Bool
 is_kept k = nat_lt 0 k.top && nat_le k.top ROWS

@@ -1,7 +1,7 @@
 -- What holds of the parts of an image that fit.
 use Rattle.std.proofs.Common.{◌≡◌, ℕ, suc, zero, ◌+◌, ◌-◌, ◌<◌, ◌≤◌, ◌∙◌, Bool, true, false, List, [], ◌∷◌, length, sum_by}
 use Rattle.std.proofs.Common.{Option, Some, refl, sym, ap, subst, arith, length-append, get_or}
-use Rattle.std.specs.Prelude.{All, IsTrue, reverse, if◌then◌else◌}
+use Rattle.std.specs.Prelude.{All, IsTrue, nat_le, reverse, if◌then◌else◌}
 use Rattle.std.specs.List.{AllByRecursion}
 use Rattle.std.specs.List.Sorted.{IsStrictlySortedBy}
 use Rattle.std.specs.Map.{keys_of, values_of}
@@ -92,49 +92,84 @@ seen_looks {X} {Y} f [] looks = All-nil (λ (c : Y × Look). IsLook c.1)
 seen_looks {X} {Y} f (c ∷ text) looks = All-cons (λ (d : Y × Look). IsLook d.1) (f c.0, c.1) (renamed f text)
     (looks 0 c (omega arith)) (seen_looks f text (λ i d low. looks (suc i) d (omega (arith, low))))
 
--- ---- texts
+-- ---- keys that rise
 
 lower : (m n : ℕ) → m < n → nat_cmp m n ≡ Less
 lower m n low = grind (arith, nat_tests)
 
+-- Keys rise, each above all of which this holds.
+pub record RiseAbove {K : Type 0} (compare : K → K → Ordering) (Low : K → Type 0) (keys : List K) : Type 0 where
+  pub above : (low : K) → Low low → AllByRecursion (λ key. compare low key ≡ Less) keys
+  pub rising : IsStrictlySortedBy compare keys
+
+none_rise : {K : Type 0} (compare : K → K → Ordering) (Low : K → Type 0) → RiseAbove compare Low []
+unfolding IsStrictlySortedBy
+none_rise compare Low = record { above = λ low is. tt; rising = tt }
+
+more_rise : {K : Type 0} (compare : K → K → Ordering) (Low Later : K → Type 0) (key : K) (keys : List K)
+    → RiseAbove compare Later keys → Later key
+    → ((low : K) → Low low → AllByRecursion (λ k. compare low k ≡ Less) (key ∷ keys))
+    → RiseAbove compare Low (key ∷ keys)
+unfolding IsStrictlySortedBy
+more_rise compare Low Later key keys rest here above = record {
+  above = above;
+  rising = (rest.above key here, rest.rising);
+}
+
+-- of numbers, from one on
+numbers_rise : (least n : ℕ) (numbers : List ℕ) → nat_le least n ≡ true
+    → RiseAbove nat_cmp (λ low. low < n + 1) numbers → RiseAbove nat_cmp (λ low. low < least) (n ∷ numbers)
+numbers_rise least n numbers test rest =
+    let from : least ≤ n = leb-true least n test in
+    more_rise nat_cmp (λ low. low < least) (λ low. low < n + 1) n numbers rest (omega arith) (λ low is. (
+      lower low n (omega (arith, is, from)),
+      rest.above low (omega (arith, is, from)),
+    ))
+
+-- ---- texts and files
+
+-- What is known of a table of pieces that fit.
+pub record AreTableFit {K : Type 0} (written room : ℕ) (table : List (K × List Piece)) : Type 0 where
+  pub each : All (AreFit written) (values_of table)
+  pub fits : totals table ≤ room
+
+none_fit : {K : Type 0} (written room : ℕ) → AreTableFit {K = K} written room []
+none_fit written room = record { each = All-nil (AreFit written); fits = omega arith }
+
+more_fit : {K : Type 0} (written room : ℕ) (e : K × List Piece) (table : List (K × List Piece))
+    → Chain (FitsPiece written) less room e.1 → AreTableFit written (room - total e.1) table
+    → AreTableFit written room (e ∷ table)
+more_fit {K} written room e table chain rest =
+    let short = total_fits written room e.1 chain in
+    let sum = sum_by-cons (λ (x : K × List Piece). total x.1) e table in
+    let fewer = rest.fits in
+    record {
+      each = All-cons (AreFit written) e.1 (values_of table) (pieces_fit written room e.1 chain) rest.each;
+      fits = omega (arith, short, sum, fewer);
+    }
+
 -- What is known of a table of texts that fit.
 pub record AreTextsFit (written least room : ℕ) (texts : Texts (List Piece)) : Type 0 where
-  pub each : All (AreFit written) (values_of texts)
-  pub above : (low : ℕ) → low < least → AllByRecursion (λ n. nat_cmp low n ≡ Less) (keys_of texts)
-  pub rising : IsStrictlySortedBy nat_cmp (keys_of texts)
-  pub fits : totals texts ≤ room
+  pub pieces : AreTableFit written room texts
+  pub numbers : RiseAbove nat_cmp (λ low. low < least) (keys_of texts)
   pub words : All InWord (keys_of texts)
 
 pub texts_fit : (written least room : ℕ) (texts : Texts (List Piece))
     → Chain (FitsText written) after_text (least, room) texts → AreTextsFit written least room texts
-unfolding IsStrictlySortedBy
 texts_fit written least room [] chain = record {
-  each = All-nil (AreFit written);
-  above = λ low is. tt;
-  rising = tt;
-  fits = omega arith;
+  pieces = none_fit written room;
+  numbers = none_rise nat_cmp (λ low. low < least);
   words = All-nil InWord;
 }
 texts_fit written least room (t ∷ texts) chain =
     let here = chain.0 in
     let word : InWord t.0 = here.0 in
     let rest = texts_fit written (t.0 + 1) (room - total t.1) texts chain.1 in
-    let from : least ≤ t.0 = leb-true least t.0 here.1.0 in
-    let short = total_fits written room t.1 here.1.1.1 in
-    let sum = sum_by-cons (λ (x : ℕ × List Piece). total x.1) t texts in
-    let fewer = rest.fits in
     record {
-      each = All-cons (AreFit written) t.1 (values_of texts) (pieces_fit written room t.1 here.1.1.1) rest.each;
-      above = λ low is. (
-        lower low t.0 (omega (arith, is, from)),
-        rest.above low (omega (arith, is, from)),
-      );
-      rising = (rest.above t.0 (omega arith), rest.rising);
-      fits = omega (arith, short, sum, fewer);
+      pieces = more_fit written room t texts here.1.1.1 rest.pieces;
+      numbers = numbers_rise least t.0 (keys_of texts) here.1.0 rest.numbers;
       words = All-cons InWord t.0 (keys_of texts) word rest.words;
     }
-
--- ---- files
 
 is_less : (o : Ordering) → is_lt o ≡ true → o ≡ Less
 is_less Less is = refl
@@ -143,11 +178,8 @@ is_less Greater is = absurd cc
 
 -- What is known of a table of files that fit.
 pub record AreFilesFit (written : ℕ) (before : Option (List ℕ)) (room : ℕ) (files : Files (List Piece)) : Type 0 where
-  pub each : All (AreFit written) (values_of files)
-  pub above : (low : List ℕ) → before ≡ Some low
-      → AllByRecursion (λ name. name_cmp low name ≡ Less) (keys_of files)
-  pub rising : IsStrictlySortedBy name_cmp (keys_of files)
-  pub fits : totals files ≤ room
+  pub pieces : AreTableFit written room files
+  pub rise : RiseAbove name_cmp (λ low. before ≡ Some low) (keys_of files)
   pub names : All (λ name. IsTrue (is_name name)) (keys_of files)
 
 all_above : (low first : List ℕ) (names : List (List ℕ)) → name_cmp low first ≡ Less
@@ -159,28 +191,21 @@ all_above low first (n ∷ names) less above =
 
 pub files_fit : (written : ℕ) (before : Option (List ℕ)) (room : ℕ) (files : Files (List Piece))
     → Chain (FitsFile written) after_file (before, room) files → AreFilesFit written before room files
-unfolding IsStrictlySortedBy
 files_fit written before room [] chain = record {
-  each = All-nil (AreFit written);
-  above = λ low is. tt;
-  rising = tt;
-  fits = omega arith;
+  pieces = none_fit written room;
+  rise = none_rise name_cmp (λ low. before ≡ Some low);
   names = All-nil (λ name. IsTrue (is_name name));
 }
 files_fit written before room (f ∷ files) chain =
     let here = chain.0 in
     let rest = files_fit written (Some f.0) (room - total f.1) files chain.1 in
-    let short = total_fits written room f.1 here.1.1.1 in
-    let sum = sum_by-cons (λ (x : List ℕ × List Piece). total x.1) f files in
-    let fewer = rest.fits in
     record {
-      each = All-cons (AreFit written) f.1 (values_of files) (pieces_fit written room f.1 here.1.1.1) rest.each;
-      above = λ low is.
+      pieces = more_fit written room f files here.1.1.1 rest.pieces;
+      rise = more_rise name_cmp (λ low. before ≡ Some low) (λ low. Some f.0 ≡ Some low) f.0 (keys_of files) rest.rise
+          refl (λ low is.
           let less : name_cmp low f.0 ≡ Less = is_less (name_cmp low f.0)
           (ap (λ (b : Option (List ℕ)). follows b f.0) (sym is) ∙ here.1.0) in
-          (less, all_above low f.0 (keys_of files) less (rest.above f.0 refl));
-      rising = (rest.above f.0 refl, rest.rising);
-      fits = omega (arith, short, sum, fewer);
+          (less, all_above low f.0 (keys_of files) less (rest.rise.above f.0 refl)));
       names = All-cons (λ name. IsTrue (is_name name)) f.0 (keys_of files) here.0 rest.names;
     }
 
@@ -188,24 +213,20 @@ files_fit written before room (f ∷ files) chain =
 
 -- What is known of viewers that fit.
 pub record AreViewersFit (version least : ℕ) (pictures : List ViewerPicture) : Type 0 where
-  pub above : (low : ℕ) → low < least → AllByRecursion (λ n. nat_cmp low n ≡ Less) (keys_of (viewers_of pictures))
-  pub rising : IsStrictlySortedBy nat_cmp (keys_of (viewers_of pictures))
+  pub numbers : RiseAbove nat_cmp (λ low. low < least) (keys_of (viewers_of pictures))
   pub ids : All (InId version) (keys_of (viewers_of pictures))
 
 pub viewers_fit : (version least : ℕ) (pictures : List ViewerPicture)
     → Chain (FitsViewer version) after_viewer least pictures → AreViewersFit version least pictures
-unfolding IsStrictlySortedBy
-viewers_fit version least [] chain = record { above = λ low is. tt; rising = tt; ids = All-nil (InId version) }
+viewers_fit version least [] chain = record {
+  numbers = none_rise nat_cmp (λ low. low < least);
+  ids = All-nil (InId version);
+}
 viewers_fit version least (p ∷ pictures) chain =
     let here = chain.0 in
     let rest = viewers_fit version (p.id + 1) pictures chain.1 in
-    let from : least ≤ p.id = leb-true least p.id here.1.0 in
     record {
-      above = λ low is. (
-        lower low p.id (omega (arith, is, from)),
-        rest.above low (omega (arith, is, from)),
-      );
-      rising = (rest.above p.id (omega arith), rest.rising);
+      numbers = numbers_rise least p.id (keys_of (viewers_of pictures)) here.1.0 rest.numbers;
       ids = All-cons (InId version) p.id (keys_of (viewers_of pictures)) here.0 rest.ids;
     }
 

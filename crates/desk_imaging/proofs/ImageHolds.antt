@@ -1,8 +1,8 @@
 -- The parts of a desktop that holds together make it.
 use Rattle.std.proofs.Common.{◌≡◌, ℕ, ◌+◌, ◌<◌, ◌≤◌, ◌∙◌, ◌==◌, ◌&&◌, ◌||◌, not, Bool, true, false, cond, length}
 use Rattle.std.proofs.Common.{List, [], ◌∷◌, map, refl, sym, ap, subst, arith, Option, Some, None, get_or}
-use Rattle.std.specs.Prelude.{All, IsTrue, IsSome, is_some, nat_le, option_map, reverse, if◌then◌else◌}
-use Rattle.std.specs.Option.{ForSome}
+use Rattle.std.specs.Prelude.{All, IsTrue, IsSome, is_some, nat_eq, nat_le, option_map, reverse, if◌then◌else◌}
+use Rattle.std.specs.Option.{ForSome, option_eq}
 use Rattle.std.specs.List.{list_all}
 use Rattle.std.specs.List.Sorted.{IsStrictlySortedBy}
 use Rattle.std.specs.Map.{keys_of}
@@ -32,7 +32,7 @@ use Rattle.desk_image.specs.Image.{Image, image_of, picture_of, caret_in, ranked
 use Rattle.desk_imaging.specs.Images.{is_desktop, IsDesktopOf, times_tracked, viewers_of, caret_of, selections_of}
 use Rattle.desk_imaging.specs.Images.{leaves_menu, is_framed, is_in_use, are_texts, has_id, is_kept_known, stands_once}
 use Rattle.desk_imaging.specs.Images.{are_placed, main_size, is_caret, is_selection, is_pictured}
-use Rattle.desk_imaging.specs.Images.{Levels, highest, is_shown, most_ranks, same_position, same_ranked}
+use Rattle.desk_imaging.specs.Images.{Levels, highest, is_shown, most_ranks, same_ranked}
 use Rattle.desk_imaging.proofs.ImageBack.{selections_back, caret_back, viewers_back}
 use Rattle.desk_imaging.proofs.ImageMade.{id_is}
 use Rattle.desk_imaging.proofs.Stacks.{times_reversed, highest_reversed, all_known}
@@ -164,7 +164,7 @@ module _ (viewers : List (ℕ × Viewer)) (columns : Columns) (kept : Option Kep
 
 -- ---- pictures
 
-itself_position : (o : Option ℕ) → same_position o o ≡ true
+itself_position : (o : Option ℕ) → option_eq nat_eq o o ≡ true
 itself_position None = refl
 itself_position (Some n) = eq-eqb n n refl
 

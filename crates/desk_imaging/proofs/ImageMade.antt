@@ -126,8 +126,8 @@ module _ (version written : ℕ) (i : Image) (fits : FitsImage version written i
   all_held : totals i.texts + totals i.files + total i.copied + total i.deleted ≤ most_held
   unfolding FitsImage
   all_held =
-      let texts = texts_are.fits in
-      let files = files_are.fits in
+      let texts = texts_are.pieces.fits in
+      let files = files_are.pieces.fits in
       let copied = total_fits written (most_held - totals i.texts - totals i.files) i.copied fits.1.1.1.1.1.0.1 in
       let deleted = total_fits written (most_held - totals i.texts - totals i.files - total i.copied) i.deleted
       fits.1.1.1.1.1.1.0.1 in
@@ -135,8 +135,8 @@ module _ (version written : ℕ) (i : Image) (fits : FitsImage version written i
 
   pub spellable : IsSpellable version (drafted written i)
   spellable = record {
-    texts = λ k d low. (texts_are.each k d low).some;
-    files = λ k d low. (files_are.each k d low).some;
+    texts = λ k d low. (texts_are.pieces.each k d low).some;
+    files = λ k d low. (files_are.pieces.each k d low).some;
     copied = copied_is.some;
     deleted = deleted_is.some;
     numbers = texts_are.words;
@@ -147,8 +147,8 @@ module _ (version written : ℕ) (i : Image) (fits : FitsImage version written i
 
   drafted_within : IsWithin written (drafted written i)
   drafted_within = record {
-    texts = λ k d low. (texts_are.each k d low).within;
-    files = λ k d low. (files_are.each k d low).within;
+    texts = λ k d low. (texts_are.pieces.each k d low).within;
+    files = λ k d low. (files_are.pieces.each k d low).within;
     copied = copied_is.within;
     deleted = deleted_is.within;
   }
@@ -176,8 +176,8 @@ module _ (version written : ℕ) (i : Image) (fits : FitsImage version written i
     unfolding seen FitsImage
     drafted_looks = record {
       look = fits.0;
-      texts = seen_all i.texts texts_are.each;
-      files = seen_all i.files files_are.each;
+      texts = seen_all i.texts texts_are.pieces.each;
+      files = seen_all i.files files_are.pieces.each;
       copied = seen_looks (λ n. slice_index characters n) (flat i.copied) copied_is.looks;
       deleted = seen_looks (λ n. slice_index characters n) (flat i.deleted) deleted_is.looks;
     }
@@ -188,7 +188,7 @@ module _ (version written : ℕ) (i : Image) (fits : FitsImage version written i
         let keys = keys_of-map_values (seen_text characters) i.files in
         record {
           names = subst (λ ks. All (λ name. IsTrue (is_name name)) ks) (sym keys) files_are.names;
-          rising = subst (λ ks. IsStrictlySortedBy name_cmp ks) (sym keys) files_are.rising;
+          rising = subst (λ ks. IsStrictlySortedBy name_cmp ks) (sym keys) files_are.rise.rising;
           few = (let same = length_seen (seen_text characters) i.files in let few = fits.1.1.1.1.0.0 in
               omega (arith, same, few));
         }
@@ -406,8 +406,8 @@ module _ (written : ℕ) (i : Image) (makes : is_desktop written i ≡ true) whe
     drafted_shaped : (characters : List ℕ) → IsShaped (seen characters (drafted written i))
     unfolding seen FitsImage
     drafted_shaped characters = record {
-      viewers = viewers_hold characters i.texts (viewers_of i.viewers) text_tests (texts_are version written i fits).rising
-          (viewers_are version written i fits).rising;
+      viewers = viewers_hold characters i.texts (viewers_of i.viewers) text_tests
+          (texts_are version written i fits).numbers.rising (viewers_are version written i fits).numbers.rising;
       places = places_hold i.user i.system i.kept (viewers_of i.viewers) placed version
           (user_stack version written i fits) (system_stack version written i fits) fits.1.1.1.1.1.1.1.1.1.1;
       marks = marks_hold characters;

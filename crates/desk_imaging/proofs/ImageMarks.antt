@@ -1,7 +1,8 @@
 -- What is marked in the viewers of an image, where it is what a desktop has there.
 use Rattle.std.proofs.Common.{◌≡◌, ℕ, suc, zero, ◌+◌, ◌<◌, ◌≤◌, ◌∙◌, ◌==◌, ◌&&◌, Bool, true, false, cond, List, [], ◌∷◌}
 use Rattle.std.proofs.Common.{length, map, min, refl, ap, subst, arith, Option, Some, None, ⊎_elim, inl, inr}
-use Rattle.std.specs.Option.{option_or}
+use Rattle.std.specs.Prelude.{nat_eq}
+use Rattle.std.specs.Option.{option_or, option_eq}
 use Rattle.std.specs.List.{list_all, count_by, filter_map, cons_option, range_with_len}
 use Rattle.std.proofs.lemmas.Bool.{and_parts, eqb-true, ne_eqb, cases_lt, cases_eq}
 use Rattle.std.proofs.lemmas.List.Sums.{sum_by-cons}
@@ -11,9 +12,9 @@ use Rattle.desk_image.specs.declared.picture.Ranked.{Ranked}
 use Rattle.desk_image.specs.declared.picture.ViewerPicture.{ViewerPicture}
 use Rattle.desk_image.specs.Image.{caret_in, ranked_in, picture_of}
 use Rattle.desk_imaging.specs.Images.{viewers_of, first_some, with_rank, selected_at, selected_as}
-use Rattle.desk_imaging.specs.Images.{most_ranks, selections_of, same_position, same_ranked, is_pictured}
+use Rattle.desk_imaging.specs.Images.{most_ranks, selections_of, same_ranked, is_pictured}
 
-pub is_position : (a b : Option ℕ) → same_position a b ≡ true → a ≡ b
+pub is_position : (a b : Option ℕ) → option_eq nat_eq a b ≡ true → a ≡ b
 is_position None None is = refl
 is_position None (Some n) is = absurd cc
 is_position (Some m) None is = absurd cc
@@ -41,7 +42,7 @@ module _ (caret : Option Caret) (selections : List Selection) where
   pub picture_is : (p : ViewerPicture) → is_pictured caret selections p ≡ true → IsPicture p
   unfolding is_pictured
   picture_is p is =
-      let parts = and_parts (same_position (caret_in caret p.id) p.caret)
+      let parts = and_parts (option_eq nat_eq (caret_in caret p.id) p.caret)
       (same_ranked (ranked_in 1 selections p.id) p.selection) is in
       record {
         position = is_position (caret_in caret p.id) p.caret parts.0;

@@ -1,9 +1,8 @@
 -- Which desktop has the parts that an image says, and when these make one: what a part has to do with the others.
 use Rattle.std.specs.Prelude.{◌≡◌, ℕ, ◌+◌, ◌^◌, ◌<◌, ◌≤◌, ◌==◌, ◌&&◌, ◌||◌, not, Bool, true, false, if◌then◌else◌}
 use Rattle.std.specs.Prelude.{nat_lt, nat_le, List, [], ◌∷◌, All, length, map, min, reverse, Option, Some}
-use Rattle.std.specs.Prelude.{None, is_some}
-use Rattle.std.specs.Prelude.{option_map}
-use Rattle.std.specs.Option.{option_or}
+use Rattle.std.specs.Prelude.{None, is_some, nat_eq, option_map}
+use Rattle.std.specs.Option.{option_or, option_eq}
 use Rattle.std.specs.List.{list_all, list_any, filter_map, range_with_len}
 use Rattle.std.specs.Map.{keys_of, values_of}
 use Rattle.piece_ring.specs.declared.piece.Piece.{Piece}
@@ -212,12 +211,6 @@ module _ (texts : Texts (List Piece)) (viewers : List (ℕ × Viewer)) (user sys
 
 -- ---- a viewer's caret and selection are those that the desktop has there
 
-abbrev pub same_position : Option ℕ → Option ℕ → Bool
-same_position None None = true
-same_position None (Some n) = false
-same_position (Some m) None = false
-same_position (Some m) (Some n) = m == n
-
 abbrev pub same_ranked : Option Ranked → Option Ranked → Bool
 same_ranked None None = true
 same_ranked None (Some s) = false
@@ -226,7 +219,7 @@ same_ranked (Some r) (Some s) = (r.rank == s.rank) && ((r.beg == s.beg) && (r.en
 
 unfoldable pub is_pictured : Option Caret → List Selection → ViewerPicture → Bool
 is_pictured caret selections p =
-    same_position (caret_in caret p.id) p.caret && same_ranked (ranked_in 1 selections p.id) p.selection
+    option_eq nat_eq (caret_in caret p.id) p.caret && same_ranked (ranked_in 1 selections p.id) p.selection
 
 -- ---- together
 

@@ -8,7 +8,7 @@ ghost use Rattle.desk_image.specs.Pictures.{entry_of, stack_of as levels_of};
 ghost use Rattle.desk_imaging.specs.Images.{size_of, leaves_menu, is_framed, is_in_use, are_texts, has_id};
 ghost use Rattle.desk_imaging.specs.Images.{are_known, is_kept_known, highest};
 ghost use Rattle.desk_imaging.specs.Images.{stands_once, are_placed, is_shown, main_size, is_caret, is_selection};
-ghost use Rattle.desk_imaging.specs.Images.{same_position, same_ranked, is_pictured};
+ghost use Rattle.desk_imaging.specs.Images.{same_ranked, is_pictured};
 
 use crate::imaging::ranked_in;
 use desk_core::tables::{has_id, is_in_sight};
@@ -278,19 +278,6 @@ pub fn are_selections(
 
 // ---- a viewer's caret and selection are those that the desktop has there
 
-/// Whether two positions are the same, or both are missing.
-fn same_position(a: Option<u32>, b: Option<u32>) -> bool
-    ensures { result ≡ same_position a b }
-{
-    match a {
-        None => b.is_none(),
-        Some(m) => match b {
-            None => false,
-            Some(n) => m == n,
-        },
-    }
-}
-
 /// Whether two selections are the same, or both are missing.
 fn same_ranked(a: Option<Ranked>, b: Option<Ranked>) -> bool
     ensures { result ≡ same_ranked a b }
@@ -310,7 +297,7 @@ fn is_pictured(caret: Option<Caret>, selections: &[Selection], picture: &ViewerP
     requires { length selections.now < 2 ^ 8 }
     ensures { result ≡ is_pictured caret selections.now picture.now }
 {
-    same_position(position_in(picture.id, caret), picture.caret)
+    position_in(picture.id, caret) == picture.caret
         && same_ranked(ranked_in(selections, picture.id), picture.selection)
 }
 

@@ -12,7 +12,6 @@ use desk_core::stop::StepResult;
 use desktop_definitions::{Reply, Selection, codes};
 use event_bytes::{Key, TypedBytes};
 use std::alloc::Global;
-use text_core::Buffer;
 
 /// The bytes go to the caret in the current look, and the caret after them, where it is shown. Refused without a
 /// caret.
@@ -75,13 +74,12 @@ fn take_back<S: CharSource>(desk: &mut Desk, alloc: Global, source: &mut S) -> S
         return Ok(Reply::No(codes::NO_CARET));
     };
     if caret.position > 0 {
-        let mut taken = Buffer::new(alloc)?;
         let before = Selection {
             viewer: caret.viewer,
             beg: caret.position - 1,
             end: caret.position,
         };
-        desk.cut_out(alloc, before, &mut taken, source)?;
+        desk.cut_out(alloc, before, source)?;
     }
     Ok(Reply::Done)
 }
@@ -118,9 +116,8 @@ fn cut<S: CharSource>(desk: &mut Desk, alloc: Global, source: &mut S) -> StepRes
     let Some(selection) = desk.selection() else {
         return Ok(Reply::No(codes::NO_SELECTION));
     };
-    let mut taken = Buffer::new(alloc)?;
     desk.copied = desk.copy_of(alloc, selection)?;
-    desk.cut_out(alloc, selection, &mut taken, source)?;
+    desk.cut_out(alloc, selection, source)?;
     Ok(Reply::Done)
 }
 

@@ -11,7 +11,6 @@ use desk_core::viewers::select;
 use desktop_definitions::{Caret, Reply, Selection, codes};
 use piece_ring::{DEFAULT_LOOK, Look};
 use std::alloc::Global;
-use text_core::Buffer;
 
 /// A copy of the newest selection is put in at `pos` in a viewer, and the caret after it, where it is shown.
 /// Refused without a selection.
@@ -88,8 +87,7 @@ pub fn take_out<S: CharSource>(
     if drawn.beg >= drawn.end {
         return Ok(Reply::No(codes::NO_SELECTION));
     }
-    let mut taken = Buffer::new(alloc)?;
-    desk.cut_out(alloc, drawn, &mut taken, source)?;
+    let taken = desk.cut_out(alloc, drawn, source)?;
     desk.deleted = taken;
     Ok(Reply::Done)
 }

@@ -3,14 +3,13 @@ use Rattle.std.proofs.lemmas.Result.{IfOk-weaker}
 use Rattle.piece_ring.specs.Flat.{flat}
 use Rattle.readers_scanners.specs.Reading.{bytes}
 use Rattle.command_table.specs.Parameters.{value}
-use Rattle.desktop_laws.specs.CallLaws.{called_place, place_stands, menu_stands, value_read}
+use Rattle.desktop_laws.specs.CallLaws.{place_stands, menu_stands, value_read}
 use Rattle.desk_core.specs.Kept.{kept}
+use Rattle.desk_commands.proofs.CallLemmas.{call_place}
 use Rattle.desk_commands.proofs.calls.value_of.Goals as goal
 
 pub params-requires-clause-text : goal.params-requires-clause-text
-params-requires-clause-text g c =
-    rw c.text_called-text.ensures (called_place _ _ c.args.call.viewer c.args.call.in_menu c.args.call.after
-    c.requires.over c.requires.call.within)
+params-requires-clause-text g c = rw c.text_called-text.ensures (call_place c.requires.over c.requires.call)
 
 pub params-requires-clause-sel : goal.params-requires-clause-sel
 params-requires-clause-sel g c = rw c.selection_place.ensures (place_stands _ _ c.requires.over)
@@ -20,8 +19,7 @@ params-requires-clause-menu g c = rw c.menu_at_marker.ensures (menu_stands _ _ c
 
 pub returns-clause-exact : goal.returns-clause-exact
 returns-clause-exact g c =
-    let old = g.S.CharSource.characters c.args.source.now in
     IfOk-weaker c.params.result _ _ (λ r fact h. fact h
-    ∙ (λ k. value (bytes old) (flat (c.text_called-text.ensures k)) c.args.call.after (c.selection_place.ensures k)
-    (c.menu_at_marker.ensures k))
-    ∙ value_read old (kept c.args.desk.now) c.args.call) c.params.ensures.value
+    ∙ (λ k. value (bytes (g.S.CharSource.characters c.args.source.now)) (flat (c.text_called-text.ensures k))
+    c.args.call.after (c.selection_place.ensures k) (c.menu_at_marker.ensures k))
+    ∙ value_read _ (kept c.args.desk.now) c.args.call) c.params.ensures.value

@@ -1,6 +1,4 @@
-use Rattle.std.proofs.Common.{◌+◌, ◌-◌, ◌/◌, List, length, sym, ap, ◌∙◌, inr}
-use Rattle.piece_ring.specs.declared.piece.Piece.{Piece}
-use Rattle.piece_ring.specs.Flat.{flat}
+use Rattle.std.proofs.Common.{◌+◌, ◌-◌, ◌/◌, length, sym, ap, ◌∙◌, inr}
 use Rattle.desktop_definitions.specs.Limits.{too_low}
 use Rattle.desktop_definitions.specs.Effects.{viewer_copied}
 use Rattle.desktop_definitions.specs.Seen.{seen}
@@ -11,7 +9,7 @@ use Rattle.desktop_laws.specs.RowLaws.{known_too_low}
 use Rattle.desktop_laws.specs.OpeningOnLaws.{half_free, copied_low, copied_full}
 use Rattle.desktop_laws.specs.OpeningOnLaws.{copied_answered}
 use Rattle.desk_core.specs.Kept.{kept}
-use Rattle.desk_commands.proofs.OpeningLemmas.{answered_there, menu_stands}
+use Rattle.desk_commands.proofs.OpeningLemmas.{answered_there, menu_is}
 use Rattle.desk_commands.proofs.documents.copy_viewer.Goals as goal
 
 pub returns-then-rows-eq1-clause-answered : goal.returns-then-rows-eq1-clause-answered
@@ -24,19 +22,15 @@ returns-then-rows-eq1-clause-answered g c =
     (copied_low (seen old d) c.args.id place.result.x place.result.bottom place.result.top place.ensures
     c.if-rows-eq1.true)
 
-pub text_there-menu-requires : goal.text_there-menu-requires
-text_there-menu-requires g c =
-    menu_stands _ c.requires.over.whole c.args.id c.requires.placed c.viewer_or_none-viewer.ensures
-
 pub returns-then-not-opening_on_fits-clause-answered : goal.returns-then-not-opening_on_fits-clause-answered
 returns-then-not-opening_on_fits-clause-answered g c =
     let d = kept c.args.desk.now in
     let place = c.place_of-place in
     let viewer = c.viewer_or_none-viewer.result in
     let more = c.if-rows-eq1.false in
-    copied_full _ _ d c.args.id place.result.x place.result.bottom place.result.top c.text_there-menu.result.now
+    copied_full _ _ d c.args.id place.result.x place.result.bottom place.result.top c.text_called-menu.result.now
     viewer c.requires.over c.requires.placed place.ensures more c.viewer_or_none-viewer.ensures
-    (ap (λ (pieces : List Piece). flat pieces) c.text_there-menu.ensures)
+    (menu_is d c.args.id c.viewer_or_none-viewer.ensures c.text_called-menu.ensures)
     (λ characters text long. sym (c.opening_on_fits.ensures.fits characters text viewer.main viewer.org
     (long ∙ sym c.len.ensures)
     (inr (half_free d.columns c.args.id place.result.x place.result.bottom place.result.top
@@ -58,7 +52,7 @@ returns-clause-answered g c =
     answered_there c.in_ok-open_on.ensures
     (copied_answered _ _ d c.args.id x place.result.bottom place.result.top c.in_ok-menu.menu
     viewer c.requires.over c.requires.placed place.ensures more c.viewer_or_none-viewer.ensures
-    (c.in_ok-menu.ensures ∙ ap (λ (pieces : List Piece). flat pieces) c.text_there-menu.ensures)
+    (c.in_ok-menu.ensures ∙ menu_is d c.args.id c.viewer_or_none-viewer.ensures c.text_called-menu.ensures)
     (record {
       hold = c.edits_keep_columns.ensures.opened d.columns (new_id d) x y hold (new_fresh d c.requires.over.whole);
       places = λ w. c.edits_place_viewers.ensures.opened d.columns (new_id d) x y w hold;

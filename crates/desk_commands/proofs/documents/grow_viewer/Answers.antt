@@ -1,6 +1,4 @@
-use Rattle.std.proofs.Common.{◌≤◌, List, length, sym, ap, subst, ◌∙◌, arith}
-use Rattle.piece_ring.specs.declared.piece.Piece.{Piece}
-use Rattle.piece_ring.specs.Flat.{flat}
+use Rattle.std.proofs.Common.{◌≤◌, length, sym, ap, subst, ◌∙◌, arith}
 use Rattle.viewer_tracks.specs.declared.display.Track.{Track}
 use Rattle.viewer_tracks.specs.declared.display.TheConstants.{DEPTH}
 use Rattle.viewer_tracks.specs.Columns.{track_of, stack_of}
@@ -12,7 +10,7 @@ use Rattle.desktop_laws.specs.OpeningDone.{can_open}
 use Rattle.desktop_laws.specs.RowLaws.{known_too_deep}
 use Rattle.desktop_laws.specs.GrownLaws.{grown_deep, grown_answered, grown_full}
 use Rattle.desk_core.specs.Kept.{kept}
-use Rattle.desk_commands.proofs.OpeningLemmas.{answered_there, menu_stands}
+use Rattle.desk_commands.proofs.OpeningLemmas.{answered_there, menu_is}
 use Rattle.desk_commands.proofs.documents.grow_viewer.Goals as goal
 
 pub returns-then-levels-eq-DEPTH-clause-answered : goal.returns-then-levels-eq-DEPTH-clause-answered
@@ -26,26 +24,25 @@ returns-then-levels-eq-DEPTH-clause-answered g c =
     (grown_deep (seen old d) v (subst (λ (k : Track). DEPTH ≤ length (stack_of d.columns k)) track
     (omega (arith, c.levels.ensures.depth, c.if-levels-eq-DEPTH.true))))
 
-pub text_there-menu-requires : goal.text_there-menu-requires
-text_there-menu-requires g c =
-    menu_stands _ c.requires.over.whole c.args.id c.requires.placed c.viewer_or_none-viewer.ensures
-
 pub returns-then-not-opening_over_fits-clause-answered : goal.returns-then-not-opening_over_fits-clause-answered
 returns-then-not-opening_over_fits-clause-answered g c =
     let d = kept c.args.desk.now in
     let v = c.args.id in
     let k = c.track_from-track.result in
     let viewer = c.viewer_or_none-viewer.result in
-    grown_full _ _ d v k c.text_there-menu.result.now viewer c.requires.over c.requires.placed
+    grown_full _ _ d v k c.text_called-menu.result.now viewer c.requires.over c.requires.placed
     (c.track_from-track.ensures (track_of d.columns v) c.place_of.ensures.left)
     (omega (arith, c.levels.ensures.depth, c.levels.ensures.few, c.if-levels-eq-DEPTH.false))
-    c.viewer_or_none-viewer.ensures (ap (λ (pieces : List Piece). flat pieces) c.text_there-menu.ensures)
+    c.viewer_or_none-viewer.ensures (menu_is d v c.viewer_or_none-viewer.ensures c.text_called-menu.ensures)
     (λ characters text long. sym (c.opening_over_fits.ensures characters text viewer.main viewer.org k
     (long ∙ sym c.len.ensures))
     ∙ c.if-not-opening_over_fits.true)
 
-pub open_over-requires-clause-can : goal.open_over-requires-clause-can
-open_over-requires-clause-can g c = can_open (kept c.args.desk.now) c.requires.over.whole
+pub open_over-requires : goal.open_over-requires
+open_over-requires g c = (
+  can_open (kept c.args.desk.now) c.requires.over.whole,
+  omega (arith, c.levels.ensures.depth, c.levels.ensures.few, c.if-levels-eq-DEPTH.false),
+)
 
 pub returns-clause-answered : goal.returns-clause-answered
 returns-clause-answered g c =
@@ -58,7 +55,7 @@ returns-clause-answered g c =
     (c.track_from-track.ensures (track_of d.columns v) c.place_of.ensures.left)
     (omega (arith, c.levels.ensures.depth, c.levels.ensures.few, c.if-levels-eq-DEPTH.false))
     c.viewer_or_none-viewer.ensures
-    (c.in_ok-menu.ensures ∙ ap (λ (pieces : List Piece). flat pieces) c.text_there-menu.ensures)
+    (c.in_ok-menu.ensures ∙ menu_is d v c.viewer_or_none-viewer.ensures c.text_called-menu.ensures)
     (λ characters text long. sym (c.opening_over_fits.ensures characters text viewer.main viewer.org k
     (long ∙ ap length c.in_ok-menu.ensures ∙ sym c.len.ensures))
     ∙ c.if-not-opening_over_fits.false))

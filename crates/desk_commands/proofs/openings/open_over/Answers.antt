@@ -11,12 +11,12 @@ use Rattle.desk_commands.proofs.openings.open_over.Goals as goal
 pub cover-requires-clause-fresh : goal.cover-requires-clause-fresh
 cover-requires-clause-fresh c =
     stands_nowhere (kept c.args.desk.now) (kept c.join.new.desk) c.args.menu c.args.main c.args.org c.in_ok-id.id
-    c.requires.can c.in_ok-id.ensures.desk c.in_ok-id.ensures.id
+    c.requires.0 c.in_ok-id.ensures.desk c.in_ok-id.ensures.id
 
 pub cover-requires-clause-room : goal.cover-requires-clause-room
 cover-requires-clause-room c =
     subst (λ (d : KeptDesktop). length (stack_of d.columns c.args.track) < DEPTH) (sym c.in_ok-id.ensures.desk)
-    c.requires.room
+    c.requires.1
 
 pub returns : goal.returns
 unfolding opening_over

@@ -1,14 +1,9 @@
-use Rattle.std.proofs.Common.{arith}
 use Rattle.std.proofs.lemmas.Cmp.{nat_cmp_total, lists_total}
-use Rattle.desk_commands.proofs.RewritingLemmas.{one_inside, table_long, put_further}
+use Rattle.desk_commands.proofs.RewritingLemmas.{one_ready, put_further}
 use Rattle.desk_commands.proofs.rewriting.put_files.Goals as goal
 
-pub put_text-requires-clause-inside : goal.put_text-requires-clause-inside
-put_text-requires-clause-inside g c = one_inside c.in-Some.ensures.steps c.loop-name.invariant.inside
-
-pub put_text-requires-clause-room : goal.put_text-requires-clause-room
-put_text-requires-clause-room g c = omega
-    (arith, table_long c.in-Some.ensures.steps, c.loop-name.invariant.longer, c.requires.room)
+pub put_text-requires : goal.put_text-requires
+put_text-requires g c = one_ready c.in-Some.ensures.steps c.loop-name.invariant c.requires.room
 
 pub loop-name-preserved : goal.loop-name-preserved
 loop-name-preserved g c = let done = c.in_ok-moved.ensures in

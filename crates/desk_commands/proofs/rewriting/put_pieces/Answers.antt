@@ -9,8 +9,7 @@ use Rattle.desk_commands.proofs.rewriting.put_pieces.Goals as goal
 
 pub put_piece-requires-clause-inside : goal.put_piece-requires-clause-inside
 put_piece-requires-clause-inside g c =
-    let some = c.in-Some.ensures.whole.0 in
-    piece_inside c.in-Some.ensures.pieces (omega (arith, some)) c.loop-piece.invariant.inside
+    piece_inside c.in-Some.ensures.pieces c.in-Some.ensures.whole c.loop-piece.invariant.inside
 
 pub add-requires-clause-whole : goal.add-requires-clause-whole
 add-requires-clause-whole g c =

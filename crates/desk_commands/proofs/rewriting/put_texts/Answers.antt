@@ -1,14 +1,10 @@
-use Rattle.std.proofs.Common.{refl, arith}
+use Rattle.std.proofs.Common.{refl}
 use Rattle.std.proofs.lemmas.Cmp.{nat_cmp_total}
-use Rattle.desk_commands.proofs.RewritingLemmas.{one_inside, table_long, put_further}
+use Rattle.desk_commands.proofs.RewritingLemmas.{one_ready, put_further}
 use Rattle.desk_commands.proofs.rewriting.put_texts.Goals as goal
 
-pub put_text-requires-clause-inside : goal.put_text-requires-clause-inside
-put_text-requires-clause-inside g c = one_inside c.in-Some.ensures.steps c.loop-number.invariant.inside
-
-pub put_text-requires-clause-room : goal.put_text-requires-clause-room
-put_text-requires-clause-room g c = omega
-    (arith, table_long c.in-Some.ensures.steps, c.loop-number.invariant.longer, c.requires.room)
+pub put_text-requires : goal.put_text-requires
+put_text-requires g c = one_ready c.in-Some.ensures.steps c.loop-number.invariant c.requires.room
 
 pub loop-number-preserved : goal.loop-number-preserved
 loop-number-preserved g c = let done = c.in_ok-moved.ensures in

@@ -10,8 +10,8 @@ invariant-loop g l =
     let s = g.S.CharSource in
     record {
       way : IsAt s.characters s.failures s.honest s.same_ground l.fn.source l.source (flat l.text) l.reader
-          (l.beg + length l.pattern.items);
+          (l.fn.selection.beg + length l.pattern.items);
       long : length l.pattern.items ≡ l.counter;
       read : s.honest l.fn.source
-          → AreRead (bytes (s.characters l.fn.source) (flat l.text)) l.beg l.pattern.items;
+          → AreRead (bytes (s.characters l.fn.source) (flat l.text)) l.fn.selection.beg l.pattern.items;
     }

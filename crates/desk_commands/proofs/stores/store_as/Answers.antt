@@ -1,18 +1,14 @@
-use Rattle.std.proofs.Common.{◌≡◌, ◌∙◌, ◌+◌, ℕ, length, [], ap, sym, subst, arith}
+use Rattle.std.specs.Prelude.{⊤}
+use Rattle.std.proofs.Common.{◌≡◌, ◌∙◌, ◌+◌, length, [], ap, sym, arith}
 use Rattle.piece_ring.specs.Flat.{flat}
-use Rattle.piece_ring.specs.Offsets.{AreWithin}
-use Rattle.piece_ring.specs.Text.{Text}
-use Rattle.readers_scanners.specs.Reading.{contents}
-use Rattle.desktop_definitions.specs.Viewers.{viewer_or_none, main_of}
+use Rattle.desktop_definitions.specs.Viewers.{main_of}
 use Rattle.desktop_definitions.specs.Seen.{seen}
-use Rattle.desktop_laws.specs.RowLaws.{has_space, space_written, over_built}
-use Rattle.desktop_laws.specs.RowPartLaws.{kept_main, kept_main_seen, kept_main_long, text_within}
+use Rattle.desktop_laws.specs.RowLaws.{has_space, space_written}
+use Rattle.desktop_laws.specs.RowPartLaws.{kept_main, kept_main_long}
 use Rattle.desktop_laws.specs.KeyLaws.{main_small}
-use Rattle.desktop_laws.specs.StoreLaws.{files_small, storing_refused, storing_full, storing_stands, storing_short}
-use Rattle.desktop_laws.specs.StoreLaws.{storing_answered}
-use Rattle.desktop_definitions.specs.Looks.{AreLooks}
-use Rattle.desktop_laws.specs.LookedLaws.{kept_text_looks}
+use Rattle.desktop_laws.specs.StoreLaws.{files_small, storing_refused, storing_full}
 use Rattle.desk_core.specs.Kept.{kept}
+use Rattle.desk_commands.proofs.StoringLemmas.{copy_stands, copy_short, copy_answered}
 use Rattle.desk_commands.proofs.stores.store_as.Goals as goal
 
 pub returns-then-not-has_room-clause-answered : goal.returns-then-not-has_room-clause-answered
@@ -57,23 +53,14 @@ returns-then-not-fits_more-clause-answered g c =
 
 pub log_line-requires-clause-stands : goal.log_line-requires-clause-stands
 log_line-requires-clause-stands g c =
-    let s = g.S.CharSource in
-    let old = s.characters c.args.source.now in
-    let d = kept c.args.desk.now in
-    let v = c.args.id in
-    let same = c.in_ok-copy.ensures ∙ ap flat c.main_text-text.ensures in
-    storing_stands (s.honest c.args.source.now) old d c.requires.over c.args.name.now (main_of (seen old d) v)
-    c.storing_line-line.result.items c.len.result c.length_of.result (c.len-2.result + c.len-3.result)
+    let old = g.S.CharSource.characters c.args.source.now in
+    copy_stands ⊤ old (kept c.args.desk.now) c.requires.over c.args.name.now c.args.id c.storing_line-line.result.items
+    c.len.result c.length_of.result (c.len-2.result + c.len-3.result)
     (sym (c.has_room.ensures old) ∙ c.if-not-has_room.false)
-    (c.len.ensures ∙ ap (λ pieces. length (flat pieces)) c.main_text-text.ensures ∙ sym (kept_main_long old d v))
-    c.storing_line-line.ensures
+    (c.len.ensures ∙ ap (λ pieces. length (flat pieces)) c.main_text-text.ensures) c.storing_line-line.ensures
     (omega (arith, c.len.ensures, c.len-2.ensures, c.len-3.ensures.value)) c.length_of.ensures
     c.put.new.files.entries c.in_ok-copy.copy c.in_ok-put.ensures.put c.in_ok-put.ensures.valid
-    (subst (AreWithin (length old)) (sym same)
-    (text_within (length old) d (viewer_or_none d.viewers v).main (over_built old d c.requires.over).within))
-    (subst AreLooks (sym same)
-    (kept_text_looks (length old) d (over_built old d c.requires.over) (viewer_or_none d.viewers v).main))
-    (ap (λ (t : Text ℕ). contents old t) same ∙ sym (kept_main_seen old d v))
+    (c.in_ok-copy.ensures ∙ ap flat c.main_text-text.ensures)
 
 pub log_line-requires-clause-room : goal.log_line-requires-clause-room
 unfolding seen
@@ -85,25 +72,16 @@ log_line-requires-clause-room g c =
 
 pub log_line-requires-clause-short : goal.log_line-requires-clause-short
 log_line-requires-clause-short g c =
-    let s = g.S.CharSource in
-    let old = s.characters c.args.source.now in
+    let old = g.S.CharSource.characters c.args.source.now in
     let d = kept c.args.desk.now in
-    let v = c.args.id in
     let all = c.len-2.result + c.len-3.result in
     let gone = c.length_of.result in
-    let same = c.in_ok-copy.ensures ∙ ap flat c.main_text-text.ensures in
-    let low = storing_short (s.honest c.args.source.now) old d c.requires.over c.args.name.now (main_of (seen old d) v)
-    c.storing_line-line.result.items c.len.result gone all
-    (sym (c.has_room.ensures old) ∙ c.if-not-has_room.false)
-    (c.len.ensures ∙ ap (λ pieces. length (flat pieces)) c.main_text-text.ensures ∙ sym (kept_main_long old d v))
-    c.storing_line-line.ensures
+    let low = copy_short ⊤ old d c.requires.over c.args.name.now c.args.id c.storing_line-line.result.items
+    c.len.result gone all (sym (c.has_room.ensures old) ∙ c.if-not-has_room.false)
+    (c.len.ensures ∙ ap (λ pieces. length (flat pieces)) c.main_text-text.ensures) c.storing_line-line.ensures
     (omega (arith, c.len.ensures, c.len-2.ensures, c.len-3.ensures.value)) c.length_of.ensures
     c.put.new.files.entries c.in_ok-copy.copy c.in_ok-put.ensures.put c.in_ok-put.ensures.valid
-    (subst (AreWithin (length old)) (sym same)
-    (text_within (length old) d (viewer_or_none d.viewers v).main (over_built old d c.requires.over).within))
-    (subst AreLooks (sym same)
-    (kept_text_looks (length old) d (over_built old d c.requires.over) (viewer_or_none d.viewers v).main))
-    (ap (λ (t : Text ℕ). contents old t) same ∙ sym (kept_main_seen old d v))
+    (c.in_ok-copy.ensures ∙ ap flat c.main_text-text.ensures)
     (ap (λ n. has_space (seen [] d) n all gone) (sym c.len-4.ensures.value)
     ∙ sym (c.fits_more.ensures []) ∙ c.if-not-fits_more.false) in
     let long = ap length c.as_slice.ensures.value in
@@ -114,25 +92,18 @@ returns-clause-answered g c =
     let s = g.S.CharSource in
     let old = s.characters c.args.source.now in
     let d = kept c.args.desk.now in
-    let v = c.args.id in
     let all = c.len-2.result + c.len-3.result in
     let gone = c.length_of.result in
     let line = c.as_slice.result.now in
     let long = ap length c.as_slice.ensures.value in
-    let same = c.in_ok-copy.ensures ∙ ap flat c.main_text-text.ensures in
     let made : length line ≡ c.len-4.result = long ∙ sym c.len-4.ensures.value in
-    storing_answered (s.honest c.args.source.now) old d c.requires.over c.args.name.now (main_of (seen old d) v)
-    line c.len.result gone all
-    (sym (c.has_room.ensures old) ∙ c.if-not-has_room.false)
-    (c.len.ensures ∙ ap (λ pieces. length (flat pieces)) c.main_text-text.ensures ∙ sym (kept_main_long old d v))
+    copy_answered (s.honest c.args.source.now) old d c.requires.over c.args.name.now c.args.id line c.len.result gone
+    all (sym (c.has_room.ensures old) ∙ c.if-not-has_room.false)
+    (c.len.ensures ∙ ap (λ pieces. length (flat pieces)) c.main_text-text.ensures)
     (c.as_slice.ensures.value ∙ c.storing_line-line.ensures)
     (omega (arith, long, c.len.ensures, c.len-2.ensures, c.len-3.ensures.value)) c.length_of.ensures
     c.put.new.files.entries c.in_ok-copy.copy c.in_ok-put.ensures.put c.in_ok-put.ensures.valid
-    (subst (AreWithin (length old)) (sym same)
-    (text_within (length old) d (viewer_or_none d.viewers v).main (over_built old d c.requires.over).within))
-    (subst AreLooks (sym same)
-    (kept_text_looks (length old) d (over_built old d c.requires.over) (viewer_or_none d.viewers v).main))
-    (ap (λ (t : Text ℕ). contents old t) same ∙ sym (kept_main_seen old d v))
-    (s.characters c.log_line.new.source) (kept c.log_line.new.desk) c.in_ok-log_line.ensures.logged
+    (c.in_ok-copy.ensures ∙ ap flat c.main_text-text.ensures) (s.characters c.log_line.new.source)
+    (kept c.log_line.new.desk) c.in_ok-log_line.ensures.logged
     (λ among. ap (λ n. has_space (seen among d) n all gone) made
     ∙ sym (c.fits_more.ensures among) ∙ c.if-not-fits_more.false)

@@ -14,6 +14,7 @@ loop-at-preserved g c =
     let s = g.S.CharSource in
     let i = c.loop-at.invariant in
     let text = flat c.args.text.now in
+    let change = c.args.change in
     let olds = c.args.viewers.now.items in
     let nows = c.loop-at.viewers.items in
     let at = c.loop-at.at in
@@ -22,13 +23,12 @@ loop-at-preserved g c =
     let size = c.len-at-end.ensures in
     let long = i.moved.as_long in
     record {
-      moved = moved_more c.args.number (length text) at olds nows old c.follow.new.entry i.moved
+      moved = moved_more change.number (length text) at olds nows old c.follow.new.entry i.moved
           (omega (arith, test, size, long)) c.index_mut-entry.ensures.value c.in_ok-follow.ensures.moved;
       exact = λ h.
           let f : ℕ × Viewer → ℕ × Viewer = λ e. (
             e.0,
-            followed c.args.number
-                (bytes (s.characters c.args.source.now) text) c.args.pos c.args.more c.args.fewer e.1,
+            followed change.number (bytes (s.characters c.args.source.now) text) change.pos change.more change.fewer e.1,
           ) in
           let is : c.follow.new.entry ≡ f old =
           rw (i.reads.same h) at (c.in_ok-follow.ensures.exact (i.reads.still h)) in

@@ -11,11 +11,11 @@ abbrev pub invariant-loop-at : goal.invariant-loop-at
 invariant-loop-at g l =
     let s = g.S.CharSource in
     record {
-      moved : HaveMoved l.number (length (flat l.text)) l.at l.fn.viewers.items l.viewers.items;
+      moved : HaveMoved l.change.number (length (flat l.text)) l.at l.fn.viewers.items l.viewers.items;
       exact : s.honest l.fn.source → l.viewers.items ≡ map (λ e. (
         e.0,
-        followed l.number
-            (bytes (s.characters l.fn.source) (flat l.text)) l.pos l.more l.fewer e.1,
+        followed l.change.number (bytes (s.characters l.fn.source) (flat l.text)) l.change.pos l.change.more
+            l.change.fewer e.1,
       )) (take l.at l.fn.viewers.items)
           ++ drop l.at l.fn.viewers.items;
       reads : OnlyReads s.characters s.failures s.honest s.same_ground l.fn.source l.source;

@@ -46,14 +46,17 @@ append-requires g c =
     let low = space_written _ _ _ 0 (sym (c.fits_more.ensures []) ∙ c.if-not-fits_more.false) in
     omega (arith, low, c.requires.counted)
 
-pub put_at_caret-requires-clause-built : goal.put_at_caret-requires-clause-built
-put_at_caret-requires-clause-built g c =
+pub put_at_caret-requires-clause-at : goal.put_at_caret-requires-clause-at
+put_at_caret-requires-clause-at g c =
     let old = g.S.CharSource.characters c.args.source.now in
     let d = kept c.args.desk.now in
     let grown : length (g.S.CharSource.characters c.append.new.self) ≡ length old + length c.as_bytes-bytes.result.now =
     ap length c.in_ok-append.ensures.added ∙ length-append old c.as_bytes-bytes.result.now in
-    built_longer (length old) (length (g.S.CharSource.characters c.append.new.self)) d
-    (omega (arith, grown)) (over_built old d c.requires)
+    record {
+      built = built_longer (length old) (length (g.S.CharSource.characters c.append.new.self)) d
+          (omega (arith, grown)) (over_built old d c.requires);
+      stands = c.in-Some.ensures.stands;
+    }
 
 pub put_at_caret-requires-clause-goes : goal.put_at_caret-requires-clause-goes
 unfolding seen

@@ -1,6 +1,6 @@
 use Rattle.std.proofs.Common.{◌∙◌, sym, arith}
 use Rattle.desktop_definitions.specs.Seen.{seen}
-use Rattle.desktop_laws.specs.RowLaws.{known_no_selection}
+use Rattle.desktop_laws.specs.RowLaws.{known_no_selection, over_built}
 use Rattle.desktop_laws.specs.KeyLaws.{copied_to_none, copied_to_full, copied_to_answered}
 use Rattle.desk_core.proofs.StretchLemmas.{refused_row}
 use Rattle.desk_core.proofs.UnreadLemmas.{refusal_is}
@@ -17,6 +17,9 @@ returns-then-not-fits_more-clause-answered g c =
     let stands = c.in-Some.ensures in
     copied_to_full _ _ _ c.requires.over _ (sym stands.is) stands.some stands.stands.place _ _ c.requires.at.placed
     (sym (c.fits_more.ensures _) ∙ c.if-not-fits_more.true)
+
+pub put_in-requires-clause-at : goal.put_in-requires-clause-at
+put_in-requires-clause-at g c = record { built = over_built _ _ c.requires.over; stands = c.requires.at }
 
 pub put_in-requires-clause-goes : goal.put_in-requires-clause-goes
 put_in-requires-clause-goes g c = c.in_ok-copy.ensures.goes _ _ c.requires.over

@@ -27,9 +27,11 @@ returns-then-not-fits_more-clause-answered g c =
     sent_full _ _ _ c.requires.over _ (sym stands.is) stands.stands.placed _ c.if-drawn.false c.requires.at.place
     (sym (c.fits_more.ensures _) ∙ c.if-not-fits_more.true)
 
-pub put_at_caret-requires-clause-built : goal.put_at_caret-requires-clause-built
-put_at_caret-requires-clause-built g c =
-    selected_built _ c.requires.over c.requires.at c.if-drawn.false c.in_ok-select.ensures
+pub put_at_caret-requires-clause-at : goal.put_at_caret-requires-clause-at
+put_at_caret-requires-clause-at g c = record {
+  built = selected_built _ c.requires.over c.requires.at c.if-drawn.false c.in_ok-select.ensures;
+  stands = record { placed = c.in-Some.ensures.stands.placed; place = c.in-Some.ensures.stands.place };
+}
 
 pub put_at_caret-requires-clause-goes : goal.put_at_caret-requires-clause-goes
 put_at_caret-requires-clause-goes g c =

@@ -10,6 +10,6 @@ returns-then-drawn-clause-answered g c =
 
 pub returns-clause-answered : goal.returns-clause-answered
 returns-clause-answered g c =
-    let reads = c.in_ok-cut_out.ensures.reads in
+    let reads = c.in_ok-taken.ensures.reads in
     taken_out_answered _ _ _ _ _ c.requires.over reads.as_long reads.same _ _ _ c.if-drawn.false c.requires.at.place
-    c.in_ok-cut_out.ensures.taken c.in_ok-cut_out.ensures.changed refl
+    c.in_ok-taken.ensures.taken c.in_ok-taken.ensures.changed refl

@@ -2,7 +2,7 @@ use Rattle.std.proofs.Common.{◌++◌, ◌∙◌, List, ap, sym}
 use Rattle.piece_ring.specs.declared.piece.Piece.{Piece}
 use Rattle.piece_ring.specs.Flat.{flat}
 use Rattle.desktop_definitions.specs.Seen.{seen, seen_text}
-use Rattle.desktop_laws.specs.RowLaws.{has_space, known_no_caret}
+use Rattle.desktop_laws.specs.RowLaws.{has_space, known_no_caret, over_built}
 use Rattle.desktop_laws.specs.SearchLaws.{put_none, put_full, put_answered, buffer_seen}
 use Rattle.desk_core.specs.Kept.{kept}
 use Rattle.desk_core.proofs.StretchLemmas.{refused_row, buffer_goes}
@@ -23,6 +23,12 @@ returns-then-not-fits_more-clause-answered g c =
     (sym c.in-Some.ensures.is) c.in-Some.ensures.stands.placed
     (ap (λ n. has_space (seen old d) 0 n 0) (sym c.len.ensures)
     ∙ sym (c.fits_more.ensures old) ∙ c.if-not-fits_more.true)
+
+pub put_at_caret-requires-clause-at : goal.put_at_caret-requires-clause-at
+put_at_caret-requires-clause-at g c = record {
+  built = over_built _ (kept c.args.self.now) c.requires.over;
+  stands = c.in-Some.ensures.stands;
+}
 
 pub put_at_caret-requires-clause-goes : goal.put_at_caret-requires-clause-goes
 put_at_caret-requires-clause-goes g c =

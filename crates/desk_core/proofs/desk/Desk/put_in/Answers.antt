@@ -1,4 +1,5 @@
 use Rattle.std.proofs.Common.{ℕ, IsSome, subst, sym}
+use Rattle.viewer_tracks.specs.Columns.{IsOnTop}
 use Rattle.desktop_definitions.specs.Tables.{numbered}
 use Rattle.desktop_laws.specs.RowLaws.{main_kept}
 use Rattle.desktop_laws.specs.RowPartLaws.{put_in_changed}
@@ -10,14 +11,16 @@ use Rattle.desk_core.proofs.desk.Desk.put_in.Goals as goal
 pub insert-requires-clause-there : goal.insert-requires-clause-there
 insert-requires-clause-there g c =
     subst (λ (n : ℕ). IsSome (numbered c.args.self.now.texts.entries n)) (sym c.main_of-number.ensures)
-    (main_kept _ (kept c.args.self.now) c.requires.built c.args.id
-    (on_top_placed c.args.self.now.tracks c.args.id c.requires.at.placed))
+    (main_kept _ (kept c.args.self.now) c.requires.at.built c.args.id
+    (on_top_placed c.args.self.now.tracks c.args.id c.requires.at.stands.placed))
 
-pub show_caret-requires-clause-place : goal.show_caret-requires-clause-place
-show_caret-requires-clause-place g c =
-    room_after (kept c.args.self.now) (kept c.insert.new.self) c.args.id c.args.pos c.main_of-number.result
-    c.len-len.result _ c.main_of-number.ensures c.len-len.ensures c.in_ok-insert.ensures.changed.rest.viewers
-    c.requires.at.place c.in_ok-insert.ensures.longer
+pub show_caret-requires-clause-at : goal.show_caret-requires-clause-at
+show_caret-requires-clause-at g c = record {
+  placed = subst (IsOnTop c.args.id) (sym c.in_ok-insert.ensures.columns) c.requires.at.stands.placed;
+  place = room_after (kept c.args.self.now) (kept c.insert.new.self) c.args.id c.args.pos c.main_of-number.result
+      c.len-len.result _ c.main_of-number.ensures c.len-len.ensures c.in_ok-insert.ensures.changed.rest.viewers
+      c.requires.at.stands.place c.in_ok-insert.ensures.longer;
+}
 
 pub returns-clause-changed : goal.returns-clause-changed
 returns-clause-changed g c =

@@ -1,0 +1,70 @@
+-- A copy of a viewer's main text becomes a file, with a line of the log.
+use Rattle.std.specs.Prelude.{◌≡◌, ℕ, ◌+◌, ◌≤◌, true, IsTrue, List, [], length, Ok}
+use Rattle.std.proofs.Common.{ap, sym, subst, ◌∙◌}
+use Rattle.piece_ring.specs.declared.piece.Piece.{Piece}
+use Rattle.piece_ring.specs.Flat.{flat}
+use Rattle.piece_ring.specs.Offsets.{AreWithin}
+use Rattle.piece_ring.specs.Text.{Text}
+use Rattle.event_bytes.specs.Bytes.{is_name}
+use Rattle.readers_scanners.specs.Reading.{contents}
+use Rattle.desktop_definitions.specs.declared.reply.Reply.TheVariants.{Done}
+use Rattle.desktop_definitions.specs.Limits.{most_held, too_many_files}
+use Rattle.desktop_definitions.specs.Needs.{unless}
+use Rattle.desktop_definitions.specs.Tables.{Files, put, has_room, lengths}
+use Rattle.desktop_definitions.specs.Desktop.{KeptDesktop, held}
+use Rattle.desktop_definitions.specs.Viewers.{viewer_or_none, main_of}
+use Rattle.desktop_definitions.specs.Effects.{storing_line, stored_as}
+use Rattle.desktop_definitions.specs.Log.{logged}
+use Rattle.desktop_definitions.specs.Looks.{AreLooks}
+use Rattle.desktop_definitions.specs.Step.{settled}
+use Rattle.desktop_definitions.specs.Outcome.{IsAnswered}
+use Rattle.desktop_definitions.specs.Seen.{seen, seen_text, seen_table}
+use Rattle.desktop_definitions.specs.Sound.{IsBuilt, IsOver}
+use Rattle.desktop_definitions.specs.Changed.{IsExtended, IsStanding}
+use Rattle.desktop_laws.specs.RowLaws.{has_space, over_built}
+use Rattle.desktop_laws.specs.RowPartLaws.{kept_main, kept_main_seen, kept_main_long, text_within}
+use Rattle.desktop_laws.specs.LookedLaws.{kept_text_looks}
+use Rattle.desktop_laws.specs.StoreLaws.{storing_stands, storing_short, storing_answered}
+
+module _ (H : Type 0) (old : List ℕ) (d : KeptDesktop) (over : IsOver old d) (name : List ℕ) (v : ℕ) (line : List ℕ)
+    (size gone all : ℕ) (room : has_room (seen_table old d.files) name ≡ true)
+    (size_is : size ≡ length (flat (kept_main d v))) (line_is : line ≡ storing_line name size)
+    (all_is : all ≡ size + length line)
+    (sum : (among : List ℕ) (new : Text ℕ) → lengths (put (seen_table among d.files) name new) + gone
+    ≡ lengths (seen_table among d.files) + length new)
+    (files : Files (List Piece)) (pieces : List Piece) (is : files ≡ put d.files name pieces)
+    (valid : IsTrue (is_name name)) (same : flat pieces ≡ flat (kept_main d v)) where
+  built : IsBuilt (length old) d
+  built = over_built old d over
+
+  size_seen : size ≡ length (main_of (seen old d) v)
+  size_seen = size_is ∙ sym (kept_main_long old d v)
+
+  within : AreWithin (length old) (flat pieces)
+  within = subst (AreWithin (length old)) (sym same)
+      (text_within (length old) d (viewer_or_none d.viewers v).main built.within)
+
+  looks : AreLooks (flat pieces)
+  looks = subst AreLooks (sym same) (kept_text_looks (length old) d built (viewer_or_none d.viewers v).main)
+
+  reads : seen_text old pieces ≡ main_of (seen old d) v
+  reads = ap (λ (t : Text ℕ). contents old t) same ∙ sym (kept_main_seen old d v)
+
+  -- the line can go into the log then
+  pub copy_stands : IsStanding old (record d { files = files })
+  copy_stands = storing_stands H old d over name (main_of (seen old d) v) line size gone all room size_seen line_is
+      all_is sum files pieces is valid within looks reads
+
+  pub copy_short : has_space (seen [] d) (length line) all gone ≡ true
+      → held (seen [] (record d { files = files })) + length line ≤ most_held
+  copy_short = storing_short H old d over name (main_of (seen old d) v) line size gone all room size_seen line_is
+      all_is sum files pieces is valid within looks reads
+
+  -- the file is there, and the line in the log
+  pub copy_answered : (new : List ℕ) (after : KeptDesktop)
+      → IsExtended H old new (record d { files = files }) after (λ x. logged x line) (length line)
+      → ((among : List ℕ) → has_space (seen among d) (length line) all gone ≡ true)
+      → IsAnswered H old new d after (settled (seen old d) (unless (has_room (seen old d).files name) too_many_files
+      (Ok (stored_as (seen old d) name (main_of (seen old d) v))))) Done
+  copy_answered = storing_answered H old d over name (main_of (seen old d) v) line size gone all room size_seen line_is
+      all_is sum files pieces is valid within looks reads
