@@ -43,7 +43,7 @@ impl<D: Disk> Drop for SectorSink<'_, D> {
 impl<'a, D: Disk> ByteSink for SectorSink<'a, D> {
     ghost use Rattle.sector_disk.specs.Trail.{now};
     ghost use Rattle.sector_streams.specs.Filling.{HasTaken, OnSameSectors};
-    ghost use Rattle.sector_streams.specs.Joined.{stretch_self, stretch_through};
+    ghost use Rattle.sector_streams.specs.JoinedLaws.{stretch_self, stretch_through};
 
     ghost has_put = { λ s bytes. D.honest s.disk.now → HasTaken (now (D.trail s.disk.now)).reads s.filling.now bytes };
 

@@ -43,7 +43,7 @@ impl<D: Disk> Drop for SectorSource<'_, D> {
 impl<'a, D: Disk> ByteSource for SectorSource<'a, D> {
     ghost use Rattle.sector_disk.specs.Trail.{now};
     ghost use Rattle.sector_streams.specs.Draining.{IsLoaded, bytes_left, OnSameBytes};
-    ghost use Rattle.sector_streams.specs.Joined.{stretch_self, stretch_through};
+    ghost use Rattle.sector_streams.specs.JoinedLaws.{stretch_self, stretch_through};
 
     ghost remaining = { λ s. bytes_left (now (D.trail s.disk.now)).reads s.draining.now };
 
