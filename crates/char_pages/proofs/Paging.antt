@@ -1,12 +1,22 @@
 -- Characters of which the first stand on a disk: where each is found, writes to other sectors, and more of them on the
 -- disk than before.
 use Rattle.std.proofs.Common.{◌≡◌, ℕ, ◌+◌, ◌-◌, ◌/◌, ◌%◌, ◌<◌, ◌≤◌, List, ◌++◌, length, get_or, take, drop}
-use Rattle.std.proofs.Common.{Result, Ok, Err, sym, ◌∙◌, ap, arith, length-append, slice_range}
+use Rattle.std.proofs.Common.{Result, Ok, Err, sym, ◌∙◌, ap, subst, arith, length-append, slice_range}
 use Rattle.std.proofs.lemmas.List.{get_or-append_right, get_or_append_left, take-append-drop, get_or-take, get_or-drop}
 use Rattle.std.proofs.lemmas.List.{ext_get_or, length-drop, length-take-le}
 use Rattle.std.proofs.Math.Seq.{drop-append-add}
 use Rattle.sector_disk.specs.declared.disk.TheConstants.{SECTOR_BYTES}
-use Rattle.sector_disk.specs.Trail.{Content, CountsFault}
+use Rattle.std.specs.Borrow.{GName}
+use Rattle.sector_disk.specs.declared.disk.Disk.{Ghosts}
+use Rattle.sector_disk.specs.Trail.{Content, CountsFault, Nowhere, now}
+use Rattle.sector_disk.specs.Confined.{IsConfined}
+use Rattle.sector_disk.proofs.Touching.{still_all}
+use Rattle.char_file.specs.Source.{OnlyReads}
+use Rattle.char_pages.specs.declared.pages.Pages.{Pages}
+use Rattle.char_pages.specs.Cached.{AreTrue, AddsSector}
+use Rattle.char_pages.specs.Pages.{paged_characters, base_of, saved_of, rest_of, renewed_of, cached_of}
+use Rattle.char_pages.specs.Ground.{OnlyLooked, OnSamePages, none_more}
+use Rattle.char_pages.proofs.Caching.{true_with}
 use Rattle.sector_disk.specs.Stored.{stored, stored_at, stored_same, length-stored}
 
 module _ (c : Content) (base saved : ℕ) (rest : List ℕ) where
@@ -107,6 +117,49 @@ paged_as_long c c' base base' saved saved' rest rest' same_saved same_rest = len
 pub no_fewer_by : {T E : Type 0} {old new : ℕ} (result : Result T E) → CountsFault result old new → old ≤ new
 no_fewer_by (Ok t) same = omega (arith, same)
 no_fewer_by (Err e) rose = omega (arith, rose)
+
+-- a call that needed one sector only looked
+pub looked_up : {D : Type 0} {d : Ghosts D} {T E : Type 0} {result : Result T E} {old new : D} {p p' : Pages} {n : ℕ}
+    → AddsSector (d.honest old) (now (d.trail old)).reads n (cached_of p) (cached_of p') → base_of p' ≡ base_of p
+    → saved_of p' ≡ saved_of p → rest_of p' ≡ rest_of p → renewed_of p' ≡ renewed_of p
+    → IsConfined d.size d.honest d.trail Nowhere old new → CountsFault result (d.failures old) (d.failures new)
+    → OnlyLooked d result old new p p'
+looked_up {p' = p'} adds base saved rest renewed kept cause = record {
+  cached = λ h true_of. subst (λ (content : Content). AreTrue content (cached_of p'))
+      (sym (still_all _ _ (kept.moments h))) (true_with adds h true_of);
+  base = base;
+  counted = saved;
+  rest = rest;
+  renewed = renewed;
+  kept = kept;
+  cause = cause;
+}
+
+-- what was only looked at is a source that was only read: S is the source, which joins pages to their disk
+module _ {D : Type 0} {d : Ghosts D} {S : Type 0} (disk_of : S → D) (pages_of : S → Pages)
+    (disk_name pages_name : S → GName) where
+  pub only_read : {T E : Type 0} {result : Result T E} {old new : S} → disk_name new ≡ disk_name old
+      → pages_name new ≡ pages_name old
+      → OnlyLooked d result (disk_of old) (disk_of new) (pages_of old) (pages_of new)
+      → OnlyReads (λ s. paged_characters (now (d.trail (disk_of s))).reads (pages_of s)) (λ s. d.failures (disk_of s))
+      (λ s. d.honest (disk_of s)) (λ a b. OnSamePages d (disk_of a) (disk_of b) (pages_of a) (pages_of b)
+      (disk_name a) (disk_name b) (pages_name a) (pages_name b)) old new
+  only_read {result = result} same_disk same_pages r = record {
+    as_long = paged_as_long _ _ _ _ _ _ _ _ r.counted r.rest;
+    same = λ h. paged_same (still_all _ _ (r.kept.moments h)) r.base r.counted r.rest;
+    still = r.kept.still;
+    already = r.kept.already;
+    stands = record {
+      confined = r.kept;
+      same_base = r.base;
+      before = λ not. sym r.renewed ∙ not;
+      same_saved = λ not. r.counted;
+      only_added = λ not. none_more _ _ r.rest;
+      same_disk = same_disk;
+      same_pages = same_pages;
+    };
+    no_fewer = no_fewer_by result r.cause;
+  }
 
 -- where none stands on the disk, they are those in memory
 pub paged_in_memory : (c : Content) (base saved : ℕ) (rest made : List ℕ) → saved ≡ 0 → rest ≡ made

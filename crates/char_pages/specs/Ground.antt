@@ -1,14 +1,15 @@
 -- What stays the same of a source over a disk and pages, and its laws.
-use Rattle.std.specs.Prelude.{◌≡◌, ℕ, List, [], ◌++◌, false}
+use Rattle.std.specs.Prelude.{◌≡◌, ℕ, List, [], ◌++◌, false, Result}
 use Rattle.std.specs.Borrow.{GName}
 use Rattle.std.proofs.Common.{refl, sym, ◌∙◌, ap, append_assoc}
 use Rattle.std.proofs.lemmas.List.{append-nil}
 use Rattle.sector_disk.specs.declared.disk.Disk.{Ghosts}
-use Rattle.sector_disk.specs.Trail.{Nowhere}
+use Rattle.sector_disk.specs.Trail.{Nowhere, CountsFault, now}
 use Rattle.sector_disk.specs.Confined.{IsConfined}
 use Rattle.sector_disk.proofs.Confinement.{stays_put, joined}
 use Rattle.char_pages.specs.declared.pages.Pages.{Pages}
-use Rattle.char_pages.specs.Pages.{base_of, saved_of, rest_of, renewed_of}
+use Rattle.char_pages.specs.Cached.{AreTrue}
+use Rattle.char_pages.specs.Pages.{base_of, saved_of, rest_of, renewed_of, cached_of}
 
 -- a list, and perhaps more behind it
 abbrev pub IsLonger : List ℕ → List ℕ → Type 0
@@ -38,6 +39,19 @@ more_again old mid new first second = (
   second.1 ∙ ap (λ l. l ++ second.0) first.1
       ∙ append_assoc old first.0 second.0,
 )
+
+-- What a call leaves that only looks at pages and at their disk: all characters are where they were, and what is in
+-- memory of an honest disk is what stands there, as before.
+pub record OnlyLooked {D : Type 0} (d : Ghosts D) {T E : Type 0} (result : Result T E) (old new : D) (p p' : Pages)
+    : Type 0 where
+  pub cached : d.honest old → AreTrue (now (d.trail old)).reads (cached_of p)
+      → AreTrue (now (d.trail new)).reads (cached_of p')
+  pub base : base_of p' ≡ base_of p
+  pub counted : saved_of p' ≡ saved_of p
+  pub rest : rest_of p' ≡ rest_of p
+  pub renewed : renewed_of p' ≡ renewed_of p
+  pub kept : IsConfined d.size d.honest d.trail Nowhere old new
+  pub cause : CountsFault result (d.failures old) (d.failures new)
 
 module _ {D : Type 0} {d : Ghosts D} where
   pub pages_self : {s : D} {p : Pages} {disk pages : GName} → OnSamePages d s s p p disk disk pages pages

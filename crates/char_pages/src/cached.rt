@@ -3,8 +3,9 @@ ghost use Rattle.std.specs.Prelude.{◌≡◌, ◌<◌, ◌≤◌, ◌+◌, get_
 ghost use Rattle.sector_disk.specs.declared.disk.TheConstants.{SECTOR_BYTES};
 ghost use Rattle.sector_disk.specs.Trail.{Content, CountsFault, Nowhere, now};
 ghost use Rattle.sector_disk.specs.Confined.{IsConfined};
-ghost use Rattle.char_pages.specs.Cached.{AreTrue, AddsSector, IsCountIn};
+ghost use Rattle.char_pages.specs.Cached.{AreTrue, AddsSector, LooksUp, IsCountIn, Tells, TellsCount};
 
+use crate::part::Part;
 use char_file::count_range;
 use lru::LruCache;
 use sector_disk::{Disk, Fault, SECTOR_BYTES, Sector};
@@ -63,13 +64,8 @@ pub(crate) fn sector_of<D: Disk>(disk: &mut D, cache: &mut Cache, n: u32) -> Res
 fn looked_up<D: Disk>(disk: &mut D, cache: &mut Cache, n: u32, at: usize) -> Result<u8, Fault>
     requires there { n < D.size disk.old }
     requires within { at < SECTOR_BYTES }
-    ensures value { IfOk result (λ byte. D.honest disk.old → AreTrue (now (D.trail disk.old)).reads cache.old.entries
-        → byte ≡ get_or ((now (D.trail disk.old)).reads n) at 0) }
-    ensures cached { AddsSector (D.honest disk.old) (now (D.trail disk.old)).reads n cache.old.entries
-        cache.new.entries }
-    ensures capacity { cache.new.cap ≡ cache.old.cap }
-    ensures kept { IsConfined D.size D.honest D.trail Nowhere disk.old disk.new }
-    ensures cause { CountsFault result (D.failures disk.old) (D.failures disk.new) }
+    ensures value { Tells D.Disk n (λ sector byte. byte ≡ get_or sector at 0) result disk.old cache.old }
+    ensures looked { LooksUp D.Disk n result disk.old disk.new cache.old cache.new }
 {
     let sector = sector_of(disk, cache, n)?;
     Ok(sector[at])
@@ -85,13 +81,8 @@ pub(crate) fn byte_of<D: Disk>(
 ) -> Result<u8, Fault>
     requires there { n < D.size disk.old }
     requires within { at < SECTOR_BYTES }
-    ensures value { IfOk result (λ byte. D.honest disk.old → AreTrue (now (D.trail disk.old)).reads cache.old.entries
-        → byte ≡ get_or ((now (D.trail disk.old)).reads n) at 0) }
-    ensures cached { AddsSector (D.honest disk.old) (now (D.trail disk.old)).reads n cache.old.entries
-        cache.new.entries }
-    ensures capacity { cache.new.cap ≡ cache.old.cap }
-    ensures kept { IsConfined D.size D.honest D.trail Nowhere disk.old disk.new }
-    ensures cause { CountsFault result (D.failures disk.old) (D.failures disk.new) }
+    ensures value { Tells D.Disk n (λ sector byte. byte ≡ get_or sector at 0) result disk.old cache.old }
+    ensures looked { LooksUp D.Disk n result disk.old disk.new cache.old cache.new }
 {
     match newest(cache, n, at) {
         Some(byte) => Ok(byte),
@@ -99,25 +90,23 @@ pub(crate) fn byte_of<D: Disk>(
     }
 }
 
-/// How many of `few` bytes of a sector, from byte `at` on, are the wanted byte.
-fn count_in(sector: &Sector, at: u32, few: u32, wanted: u8) -> u32
-    requires { at + few ≤ SECTOR_BYTES }
-    ensures count { IsCountIn sector.now at few wanted result }
-    ensures most { result ≤ few }
+/// How many bytes of a part of a sector are the wanted byte.
+fn count_in(sector: &Sector, part: Part) -> u32
+    ensures count { IsCountIn sector.now part result }
+    ensures most { result ≤ part.few }
 {
-    count_range(sector, at as usize, few, wanted)
+    count_range(sector, part.at as usize, part.few, part.wanted)
 }
 
 /// The same of sector n, if that is the sector that was asked for last. It looks nothing up and moves nothing.
-fn newest_count(cache: &Cache, n: u32, at: u32, few: u32, wanted: u8) -> Option<u32>
-    requires { at + few ≤ SECTOR_BYTES }
+fn newest_count(cache: &Cache, n: u32, part: Part) -> Option<u32>
     ensures count { IfSome result (λ found. (c : Content) → AreTrue c cache.now.entries
-        → IsCountIn (c n) at few wanted found) }
-    ensures most { IfSome result (λ found. found ≤ few) }
+        → IsCountIn (c n) part found) }
+    ensures most { IfSome result (λ found. found ≤ part.few) }
 {
     if let Some((number, sector)) = cache.peek_mru() {
         if *number == n {
-            return Some(count_in(sector, at, few, wanted));
+            return Some(count_in(sector, part));
         }
     }
     None
@@ -125,52 +114,29 @@ fn newest_count(cache: &Cache, n: u32, at: u32, few: u32, wanted: u8) -> Option<
 
 /// The same of sector n, which mostly isn't the one that was asked for last. It is compiled apart, as `looked_up` is.
 #[inline(never)]
-fn looked_up_count<D: Disk>(
-    disk: &mut D,
-    cache: &mut Cache,
-    n: u32,
-    at: u32,
-    few: u32,
-    wanted: u8,
-) -> Result<u32, Fault>
-    requires there { n < D.size disk.old }
-    requires within { at + few ≤ SECTOR_BYTES }
-    ensures value { IfOk result (λ found. D.honest disk.old → AreTrue (now (D.trail disk.old)).reads cache.old.entries
-        → IsCountIn ((now (D.trail disk.old)).reads n) at few wanted found) }
-    ensures most { IfOk result (λ found. found ≤ few) }
-    ensures cached { AddsSector (D.honest disk.old) (now (D.trail disk.old)).reads n cache.old.entries
-        cache.new.entries }
-    ensures capacity { cache.new.cap ≡ cache.old.cap }
-    ensures kept { IsConfined D.size D.honest D.trail Nowhere disk.old disk.new }
-    ensures cause { CountsFault result (D.failures disk.old) (D.failures disk.new) }
+fn counted<D: Disk>(disk: &mut D, cache: &mut Cache, n: u32, part: Part) -> Result<u32, Fault>
+    requires { n < D.size disk.old }
+    ensures value { TellsCount D.Disk n part result disk.old cache.old }
+    ensures looked { LooksUp D.Disk n result disk.old disk.new cache.old cache.new }
 {
     let sector = sector_of(disk, cache, n)?;
-    Ok(count_in(&sector, at, few, wanted))
+    Ok(count_in(&sector, part))
 }
 
-/// How many of `few` bytes of sector n, from byte `at` on, are the wanted byte. A sector that the cache doesn't hold is
-/// read from the disk and put into it. Where there is no memory to put it there, its bytes are counted all the same.
+/// How many bytes of a part of sector n are the wanted byte. A sector that the cache doesn't hold is read from the disk
+/// and put into it. Where there is no memory to put it there, its bytes are counted all the same.
 pub(crate) fn count_of<D: Disk>(
     disk: &mut D,
     cache: &mut Cache,
     n: u32,
-    at: u32,
-    few: u32,
-    wanted: u8,
+    part: Part,
 ) -> Result<u32, Fault>
-    requires there { n < D.size disk.old }
-    requires within { at + few ≤ SECTOR_BYTES }
-    ensures value { IfOk result (λ found. D.honest disk.old → AreTrue (now (D.trail disk.old)).reads cache.old.entries
-        → IsCountIn ((now (D.trail disk.old)).reads n) at few wanted found) }
-    ensures most { IfOk result (λ found. found ≤ few) }
-    ensures cached { AddsSector (D.honest disk.old) (now (D.trail disk.old)).reads n cache.old.entries
-        cache.new.entries }
-    ensures capacity { cache.new.cap ≡ cache.old.cap }
-    ensures kept { IsConfined D.size D.honest D.trail Nowhere disk.old disk.new }
-    ensures cause { CountsFault result (D.failures disk.old) (D.failures disk.new) }
+    requires { n < D.size disk.old }
+    ensures value { TellsCount D.Disk n part result disk.old cache.old }
+    ensures looked { LooksUp D.Disk n result disk.old disk.new cache.old cache.new }
 {
-    match newest_count(cache, n, at, few, wanted) {
+    match newest_count(cache, n, part) {
         Some(found) => Ok(found),
-        None => looked_up_count(disk, cache, n, at, few, wanted),
+        None => counted(disk, cache, n, part),
     }
 }

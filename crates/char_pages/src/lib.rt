@@ -9,6 +9,7 @@
 mod cached;
 mod paged;
 mod pages;
+mod part;
 
 pub use paged::Paged;
 pub use pages::{CACHED_SECTORS, Pages};

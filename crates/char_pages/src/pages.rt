@@ -7,6 +7,7 @@ ghost use Rattle.char_pages.specs.declared.pages.TheConstants.{CACHED_SECTORS};
 ghost use Rattle.char_pages.specs.Cached.{AreBelow};
 
 use crate::cached::{Cache, byte_of, count_of};
+use crate::part::Part;
 use char_file::{MOST_CHARACTERS, NoMemory, count_range};
 use lru::LruCache;
 use sector_disk::{Disk, Fault, SECTOR_BYTES};
@@ -63,9 +64,9 @@ fn drop_front(bytes: &mut Vec<u8>, n: usize)
 
 impl Pages {
     ghost use Rattle.std.specs.Prelude.{◌-◌, ◌<◌, ◌++◌, [], get_or, IfOk, OnOk, OnErr, false};
-    ghost use Rattle.sector_disk.specs.Trail.{CountsFault, Nowhere, now};
-    ghost use Rattle.sector_disk.specs.Confined.{IsConfined};
+    ghost use Rattle.sector_disk.specs.Trail.{now};
     ghost use Rattle.char_pages.specs.Cached.{AreTrue};
+    ghost use Rattle.char_pages.specs.Ground.{OnlyLooked};
     ghost use Rattle.char_pages.specs.Pages.{base_of, saved_of, saved_sectors, rest_of, many_of, cached_of, held_in};
     ghost use Rattle.char_pages.specs.Pages.{renewed_of};
     ghost use Rattle.char_pages.specs.Pages.{paged_characters};
@@ -162,14 +163,7 @@ impl Pages {
         ensures value { IfOk result (λ byte. D.honest disk.old
             → AreTrue (now (D.trail disk.old)).reads (cached_of self.old)
             → byte ≡ get_or (paged_characters (now (D.trail disk.old)).reads self.old) offset 0) }
-        ensures cached { D.honest disk.old → AreTrue (now (D.trail disk.old)).reads (cached_of self.old)
-            → AreTrue (now (D.trail disk.new)).reads (cached_of self.new) }
-        ensures base { base_of self.new ≡ base_of self.old }
-        ensures counted { saved_of self.new ≡ saved_of self.old }
-        ensures rest { rest_of self.new ≡ rest_of self.old }
-        ensures renewed { renewed_of self.new ≡ renewed_of self.old }
-        ensures kept { IsConfined D.size D.honest D.trail Nowhere disk.old disk.new }
-        ensures cause { CountsFault result (D.failures disk.old) (D.failures disk.new) }
+        ensures reads { OnlyLooked D.Disk result disk.old disk.new self.old self.new }
     {
         if offset < self.saved {
             let _ = disk.sectors(); // it is below 2 ^ 32, and so is each sector's number
@@ -198,14 +192,7 @@ impl Pages {
         ensures looked { IfOk result (IsCountedFrom
             (D.honest disk.old × AreTrue (now (D.trail disk.old)).reads (cached_of self.old))
             (paged_characters (now (D.trail disk.old)).reads self.old) offset most wanted) }
-        ensures cached { D.honest disk.old → AreTrue (now (D.trail disk.old)).reads (cached_of self.old)
-            → AreTrue (now (D.trail disk.new)).reads (cached_of self.new) }
-        ensures base { base_of self.new ≡ base_of self.old }
-        ensures counted { saved_of self.new ≡ saved_of self.old }
-        ensures rest { rest_of self.new ≡ rest_of self.old }
-        ensures renewed { renewed_of self.new ≡ renewed_of self.old }
-        ensures kept { IsConfined D.size D.honest D.trail Nowhere disk.old disk.new }
-        ensures cause { CountsFault result (D.failures disk.old) (D.failures disk.new) }
+        ensures reads { OnlyLooked D.Disk result disk.old disk.new self.old self.new }
     {
         if offset >= self.saved {
             let at = (offset - self.saved) as usize;
@@ -215,7 +202,7 @@ impl Pages {
         let at = offset % SECTOR_BYTES;
         let few = most.min(SECTOR_BYTES - at);
         let sector = self.base + offset / SECTOR_BYTES;
-        let found = count_of(disk, &mut self.cache, sector, at, few, wanted)?;
+        let found = count_of(disk, &mut self.cache, sector, Part { at, few, wanted })?;
         Ok((few, found))
     }
 

@@ -4,7 +4,8 @@ ghost use Rattle.std.specs.Prelude.{◌≡◌, ◌++◌, [], IfOk, OnErr};
 use crate::paste::HostPaste;
 use host_files::open_regular;
 use std::fs::File;
-use terminal_keyboard::{Hearing, Keyboard, KeyboardEnd, Log};
+use terminal_keyboard::{Hearing, Keyboard, KeyboardEnd, Trace};
+use terminal_presses::Heard;
 
 /// The most bytes of a file that is brought in: as many as a desktop can hold.
 pub const MOST_BROUGHT: u64 = 262_144;
@@ -21,19 +22,19 @@ pub struct DeskKeyboard<'a, K> {
     host: &'a HostRuntime,
     terminal: K,
     brought: Option<HostPaste<File>>,
-    log: Log,
+    log: Trace<Heard>,
 }
 
 impl<'a, K: Keyboard> DeskKeyboard<'a, K> {
     /// A keyboard of which nothing was heard.
     pub fn new(host: &'a HostRuntime, terminal: K) -> DeskKeyboard<'a, K>
-        ensures { result.log.heard ≡ [] }
+        ensures { result.log.items ≡ [] }
     {
         DeskKeyboard {
             host,
             terminal,
             brought: None,
-            log: Log::new(),
+            log: Trace::new(),
         }
     }
 
@@ -53,14 +54,14 @@ impl<'a, K: Keyboard> DeskKeyboard<'a, K> {
 }
 
 impl<K: Keyboard> Keyboard for DeskKeyboard<'_, K> {
-    ghost heard = { λ k. k.log.heard };
+    ghost heard = { λ k. k.log.items };
 
     fn hear(&mut self) -> Result<Hearing, KeyboardEnd> {
         let hearing = match self.told_of_file() {
             Some(told) => told,
             None => self.terminal.hear()?,
         };
-        self.log = self.log.then(&hearing);
+        self.log.add(hearing.as_slice());
         Ok(hearing)
     }
 

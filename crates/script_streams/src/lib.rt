@@ -4,7 +4,6 @@
 //! them a call that says that its reader or its writer failed has to say so truly.
 #![tactic(auto)]
 
-mod count;
 mod reader;
 mod writer;
 

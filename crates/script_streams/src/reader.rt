@@ -4,7 +4,7 @@ ghost use Rattle.std.specs.Io.{ReadsAtMost};
 ghost use Rattle.std.specs.Io.KnownBytes.{ReadConsumes};
 ghost use Rattle.script_streams.specs.Counting.{CountsFault};
 
-use crate::count::CallCount;
+use ghost_traces::Count;
 use std::io::Read;
 
 /// A read that failed.
@@ -37,8 +37,8 @@ pub trait ScriptReader {
 #[derive(Drop)]
 pub struct CountedReader<R: Read> {
     reader: R,
-    given: CallCount,
-    failed: CallCount,
+    given: Count,
+    failed: Count,
 }
 
 impl<R: Read> CountedReader<R> {
@@ -50,8 +50,8 @@ impl<R: Read> CountedReader<R> {
     {
         CountedReader {
             reader,
-            given: CallCount::new(),
-            failed: CallCount::new(),
+            given: Count::new(),
+            failed: Count::new(),
         }
     }
 }
@@ -59,9 +59,9 @@ impl<R: Read> CountedReader<R> {
 impl<R: Read> ScriptReader for CountedReader<R> {
     ghost remaining = { λ r. R.remaining r.reader };
 
-    ghost reads = { λ r. r.given.count };
+    ghost reads = { λ r. r.given };
 
-    ghost failures = { λ r. r.failed.count };
+    ghost failures = { λ r. r.failed };
 
     fn read_some(&mut self, buffer: &mut [u8]) -> Result<usize, InputFault> {
         match self.reader.read(buffer) {

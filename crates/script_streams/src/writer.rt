@@ -4,7 +4,7 @@ ghost use Rattle.std.specs.Io.{WritesAtMost};
 ghost use Rattle.std.specs.Io.KnownBytes.{Keeps, WriteAppends};
 ghost use Rattle.script_streams.specs.Counting.{CountsFault};
 
-use crate::count::CallCount;
+use ghost_traces::Count;
 use std::io::Write;
 
 /// The output took no more.
@@ -37,7 +37,7 @@ pub trait AnswerWriter {
 #[derive(Drop)]
 pub struct CountedWriter<W: Write> {
     writer: W,
-    failed: CallCount,
+    failed: Count,
 }
 
 impl<W: Write> CountedWriter<W> {
@@ -48,13 +48,13 @@ impl<W: Write> CountedWriter<W> {
     {
         CountedWriter {
             writer,
-            failed: CallCount::new(),
+            failed: Count::new(),
         }
     }
 
     /// Counts a call that failed.
     fn fault(&mut self) -> OutputFault
-        ensures counted { self.new.failed.count ≡ self.old.failed.count + 1 }
+        ensures counted { self.new.failed ≡ self.old.failed + 1 }
         ensures same { self.new.writer ≡ self.old.writer }
     {
         self.failed.rise();
@@ -65,7 +65,7 @@ impl<W: Write> CountedWriter<W> {
 impl<W: Write> AnswerWriter for CountedWriter<W> {
     ghost contents = { λ w. W.contents w.writer };
 
-    ghost failures = { λ w. w.failed.count };
+    ghost failures = { λ w. w.failed };
 
     fn write_some(&mut self, bytes: &[u8]) -> Result<usize, OutputFault> {
         match self.writer.write(bytes) {

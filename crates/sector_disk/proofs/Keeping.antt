@@ -13,7 +13,7 @@ use Rattle.std.proofs.lemmas.Bool.Decides.{nat_tests}
 use Rattle.sector_disk.specs.declared.sectors.Sectors.{Sectors}
 use Rattle.sector_disk.specs.Trail.{written, settled}
 use Rattle.sector_disk.specs.Memory.{blank, zeros}
-use Rattle.sector_disk.specs.Sectors.{seen, held, IsAsBefore, IsOpened, IsPut}
+use Rattle.sector_disk.specs.Sectors.{seen, held, IsAsBefore, IsWritten, IsOpened, IsPut}
 
 abbrev Map : Type 0
 Map = BTreeMap ℕ (List ℕ)
@@ -212,13 +212,21 @@ module _ (old new : Sectors) (n : ℕ) (bytes : List ℕ) (room : is_some (get n
   is_open false quiet = opened old new.settled n (bytes_in old.latest n) refl quiet
       (subst (λ o. IsPut old.settled new.settled n o) (some_bytes (get nat_cmp old.latest n) room) (keeps quiet))
 
-  pub overwritten : seen new ≡ written (seen old) n bytes
-  overwritten = wrote old (with_settled new.settled) new n bytes
-      (is_open (is_some (get nat_cmp old.settled n)) refl) put refl
+  pub overwritten : IsWritten old new n bytes
+  overwritten =
+      let open_there = is_open (is_some (get nat_cmp old.settled n)) refl in
+      record {
+        reads = wrote old (with_settled new.settled) new n bytes open_there put refl;
+        settled = still_held old (with_settled new.settled) new n bytes open_there put refl;
+      }
 
-  pub held_on : held new ≡ held old
-  held_on = still_held old (with_settled new.settled) new n bytes
-      (is_open (is_some (get nat_cmp old.settled n)) refl) put refl
+-- a write after calls that left all as it was
+pub written_after : {old mid new : Sectors} {n : ℕ} {bytes : List ℕ} → IsAsBefore old mid → IsWritten mid new n bytes
+    → IsWritten old new n bytes
+written_after {n = n} {bytes = bytes} same write = record {
+  reads = write.reads ∙ ap (λ m. written m n bytes) same.reads;
+  settled = write.settled ∙ same.settled;
+}
 
 -- after a sync, where nothing is kept beside what is read
 pub all_settled : (old : Sectors) (kept : Map) → IsEmpty kept

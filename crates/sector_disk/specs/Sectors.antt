@@ -6,7 +6,7 @@ use Rattle.std.specs.Ordering.{nat_cmp}
 use Rattle.std.specs.BTreeMap.{BTreeMap, get, is_at}
 use Rattle.sector_disk.specs.declared.call.DiskCall.{DiskCall}
 use Rattle.sector_disk.specs.declared.sectors.Sectors.{Sectors}
-use Rattle.sector_disk.specs.Trail.{Content, Moment, now}
+use Rattle.sector_disk.specs.Trail.{Content, Moment, now, written}
 use Rattle.sector_disk.specs.Memory.{zeros, trail_of, IsLastSync}
 
 -- a map has this at a number, and at each other number what it had
@@ -28,6 +28,11 @@ held s n = unwrap_or (get nat_cmp s.settled n) (unwrap_or (get nat_cmp s.latest 
 -- all of it is as it was
 pub record IsAsBefore (old new : Sectors) : Type 0 where
   pub reads : seen new ≡ seen old
+  pub settled : held new ≡ held old
+
+-- a sector was written, and what each held at the last sync is as it was
+pub record IsWritten (old new : Sectors) (n : ℕ) (bytes : List ℕ) : Type 0 where
+  pub reads : seen new ≡ written (seen old) n bytes
   pub settled : held new ≡ held old
 
 -- a sector is pending, and else all is as it was

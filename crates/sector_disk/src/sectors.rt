@@ -5,9 +5,9 @@ ghost use Rattle.std.specs.BTreeMap.{get, Updates, IsUnchanged};
 ghost use Rattle.std.specs.Ordering.{nat_cmp};
 ghost use Rattle.std.specs.Set.{is_member};
 ghost use Rattle.std.specs.List.Sorted.{IsStrictlySortedBy};
-ghost use Rattle.sector_disk.specs.Trail.{written, settled};
+ghost use Rattle.sector_disk.specs.Trail.{settled};
 ghost use Rattle.sector_disk.specs.Memory.{blank, zeros};
-ghost use Rattle.sector_disk.specs.Sectors.{seen, held, IsAsBefore, IsPut};
+ghost use Rattle.sector_disk.specs.Sectors.{seen, held, IsAsBefore, IsPut, IsWritten};
 
 use crate::heap::HeapSector;
 use crate::{NoMemory, SECTOR_BYTES, Sector};
@@ -175,8 +175,7 @@ impl Sectors {
 
     /// Writes sector `n`. `NoMemory`: there was no memory for it, and nothing is changed.
     pub(crate) fn write(&mut self, n: u32, bytes: &Sector) -> Result<(), NoMemory>
-        ensures written { OnOk result (seen self.new ≡ written (seen self.old) n bytes.now) }
-        ensures settled { OnOk result (held self.new ≡ held self.old) }
+        ensures written { OnOk result (IsWritten self.old self.new n bytes.now) }
         ensures refused { OnErr result (IsAsBefore self.old self.new) }
     {
         if self.put(n, bytes)? {

@@ -1,13 +1,13 @@
 -- Bytes that come one by one, and the sectors that they fill.
 use Rattle.std.specs.Prelude.{◌≡◌, ◌<◌, ◌≤◌, ◌+◌, ◌*◌, ℕ, List, length, get_or}
 use Rattle.std.specs.Borrow.{GName}
-use Rattle.std.proofs.Common.{refl, ◌∙◌, subst}
+use Rattle.std.proofs.Common.{subst}
 use Rattle.sector_disk.specs.declared.disk.Disk.{Ghosts}
 use Rattle.sector_disk.specs.Trail.{Content}
 use Rattle.sector_disk.specs.Confined.{IsConfined}
-use Rattle.sector_disk.proofs.Confinement.{stays_put, joined}
 use Rattle.sector_disk.specs.declared.disk.TheConstants.{SECTOR_BYTES}
 use Rattle.sector_streams.specs.declared.filling.Filling.{Filling}
+use Rattle.sector_streams.specs.Joined.{OnSameStretch}
 
 -- the first sector that it fills, and how many it may fill
 abbrev pub first_sector : Filling → ℕ
@@ -37,14 +37,9 @@ abbrev pub HasTaken : Content → Filling → List ℕ → Type 0
 HasTaken c f bytes = length bytes ≤ SECTOR_BYTES * most_sectors f → IsSpread c f.from f.full f.used f.buffer bytes
 
 -- two states of a sink over the same disk and the same sectors, between which no other sector was written
-pub record OnSameSectors {D : Type 0} (d : Ghosts D) (old new : D) (f f' : Filling)
-    (disk disk' filling filling' : GName) : Type 0 where
-  pub confined : IsConfined d.size d.honest d.trail (SectorsOf f) old new
-  pub same_first : first_sector f' ≡ first_sector f
-  pub same_most : most_sectors f' ≡ most_sectors f
-  -- the borrows are the same
-  pub same_disk : disk' ≡ disk
-  pub same_filling : filling' ≡ filling
+abbrev pub OnSameSectors : {D : Type 0} → Ghosts D → D → D → Filling → Filling → GName → GName → GName → GName → Type 0
+OnSameSectors d old new f f' = OnSameStretch d InRange old new (first_sector f) (first_sector f')
+    (most_sectors f) (most_sectors f')
 
 -- calls that were confined to the sectors of a filling were confined to these numbers
 pub sectors_are : {D : Type 0} (d : Ghosts D) (f : Filling) {from limit : ℕ} {old new : D} → first_sector f ≡ from
@@ -53,25 +48,3 @@ pub sectors_are : {D : Type 0} (d : Ghosts D) (f : Filling) {from limit : ℕ} {
 sectors_are d f {from = from} {old = old} {new = new} same_first same_most run =
     subst (λ n. IsConfined d.size d.honest d.trail (InRange from n) old new) same_most
     (subst (λ n. IsConfined d.size d.honest d.trail (InRange n (most_sectors f)) old new) same_first run)
-
-module _ {D : Type 0} {d : Ghosts D} where
-  pub sectors_self : {s : D} {f : Filling} {disk filling : GName} → OnSameSectors d s s f f disk disk filling filling
-  sectors_self {s = s} {f = f} = record {
-    confined = stays_put d.size d.honest d.trail (SectorsOf f) s;
-    same_first = refl;
-    same_most = refl;
-    same_disk = refl;
-    same_filling = refl;
-  }
-
-  pub sectors_through : {s s' s'' : D} {f f' f'' : Filling} {i i' i'' j j' j'' : GName}
-      → OnSameSectors d s s' f f' i i' j j' → OnSameSectors d s' s'' f' f'' i' i'' j' j''
-      → OnSameSectors d s s'' f f'' i i'' j j''
-  sectors_through {f' = f'} x y = record {
-    confined = joined d.size d.honest d.trail x.confined
-        (sectors_are d f' x.same_first x.same_most y.confined);
-    same_first = y.same_first ∙ x.same_first;
-    same_most = y.same_most ∙ x.same_most;
-    same_disk = y.same_disk ∙ x.same_disk;
-    same_filling = y.same_filling ∙ x.same_filling;
-  }

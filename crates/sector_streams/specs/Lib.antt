@@ -1,2 +1,4 @@
+pub mod Joined
+pub mod JoinedLaws
 pub mod Filling
 pub mod Draining

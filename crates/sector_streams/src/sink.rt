@@ -42,7 +42,8 @@ impl<D: Disk> Drop for SectorSink<'_, D> {
 
 impl<'a, D: Disk> ByteSink for SectorSink<'a, D> {
     ghost use Rattle.sector_disk.specs.Trail.{now};
-    ghost use Rattle.sector_streams.specs.Filling.{HasTaken, OnSameSectors, sectors_self, sectors_through};
+    ghost use Rattle.sector_streams.specs.Filling.{HasTaken, OnSameSectors};
+    ghost use Rattle.sector_streams.specs.JoinedLaws.{stretch_self, stretch_through};
 
     ghost has_put = { λ s bytes. D.honest s.disk.now → HasTaken (now (D.trail s.disk.now)).reads s.filling.now bytes };
 
@@ -51,9 +52,9 @@ impl<'a, D: Disk> ByteSink for SectorSink<'a, D> {
     ghost same_ground = { λ a b. OnSameSectors D.Disk a.disk.now b.disk.now a.filling.now b.filling.now
         a.disk.ghost_name b.disk.ghost_name a.filling.ghost_name b.filling.ghost_name };
 
-    ghost ground_self = { λ s. sectors_self };
+    ghost ground_self = { λ s. stretch_self };
 
-    ghost ground_through = { λ a b c ab bc. sectors_through ab bc };
+    ghost ground_through = { λ a b c ab bc. stretch_through ab bc };
 
     /// Takes the bytes. `Fault`: the disk failed in this call.
     fn put(&mut self, bytes: &[u8]) -> Result<(), Fault> {

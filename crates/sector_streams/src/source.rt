@@ -42,7 +42,8 @@ impl<D: Disk> Drop for SectorSource<'_, D> {
 
 impl<'a, D: Disk> ByteSource for SectorSource<'a, D> {
     ghost use Rattle.sector_disk.specs.Trail.{now};
-    ghost use Rattle.sector_streams.specs.Draining.{IsLoaded, bytes_left, OnSameBytes, bytes_self, bytes_through};
+    ghost use Rattle.sector_streams.specs.Draining.{IsLoaded, bytes_left, OnSameBytes};
+    ghost use Rattle.sector_streams.specs.JoinedLaws.{stretch_self, stretch_through};
 
     ghost remaining = { λ s. bytes_left (now (D.trail s.disk.now)).reads s.draining.now };
 
@@ -53,9 +54,9 @@ impl<'a, D: Disk> ByteSource for SectorSource<'a, D> {
     ghost same_ground = { λ a b. OnSameBytes D.Disk a.disk.now b.disk.now a.draining.now b.draining.now
         a.disk.ghost_name b.disk.ghost_name a.draining.ghost_name b.draining.ghost_name };
 
-    ghost ground_self = { λ s. bytes_self };
+    ghost ground_self = { λ s. stretch_self };
 
-    ghost ground_through = { λ a b c ab bc. bytes_through ab bc };
+    ghost ground_through = { λ a b c ab bc. stretch_through ab bc };
 
     /// The next byte; None at the end. `Fault`: the disk failed in this call.
     fn get(&mut self) -> Result<Option<u8>, Fault> {

@@ -7,12 +7,11 @@
 
 mod hearing;
 mod keyboard;
-mod log;
 mod script;
 mod terminal;
 
+pub use ghost_traces::Trace;
 pub use hearing::{Hearing, MOST_HEARD};
 pub use keyboard::{Keyboard, KeyboardEnd};
-pub use log::Log;
 pub use script::ScriptedKeyboard;
 pub use terminal::{StandardInput, TerminalInput};

@@ -6,8 +6,9 @@ ghost use Rattle.terminal_keyboard.specs.Hearings.{heard_bytes, is_quiet as is_q
 
 use crate::hearing::{Hearing, MOST_HEARD};
 use crate::keyboard::{Keyboard, KeyboardEnd};
-use crate::log::Log;
+use ghost_traces::Trace;
 use std::io::{ErrorKind, IsTerminal, Read, Stdin};
+use terminal_presses::Heard;
 
 /// Standard input as a keyboard.
 pub type StandardInput = TerminalInput<Stdin>;
@@ -21,28 +22,28 @@ pub type StandardInput = TerminalInput<Stdin>;
 pub struct TerminalInput<R> {
     reader: R,
     was_quiet: bool,
-    log: Log,
+    log: Trace<Heard>,
 }
 
 impl<R: Read + IsTerminal> TerminalInput<R> {
     /// A keyboard of which nothing was heard.
     pub fn new(reader: R) -> TerminalInput<R>
-        ensures { result.log.heard ≡ [] }
+        ensures { result.log.items ≡ [] }
     {
         TerminalInput {
             reader,
             was_quiet: false,
-            log: Log::new(),
+            log: Trace::new(),
         }
     }
 }
 
 impl<R: Read + IsTerminal> Keyboard for TerminalInput<R> {
-    ghost heard = { λ k. k.log.heard };
+    ghost heard = { λ k. k.log.items };
 
     fn hear(&mut self) -> Result<Hearing, KeyboardEnd> {
         let hearing = listen(&mut self.reader, &mut self.was_quiet)?;
-        self.log = self.log.then(&hearing);
+        self.log.add(hearing.as_slice());
         Ok(hearing)
     }
 

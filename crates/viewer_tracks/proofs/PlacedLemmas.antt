@@ -9,9 +9,9 @@ use Rattle.viewer_tracks.specs.Display.{track_at}
 use Rattle.viewer_tracks.specs.Viewers.{Entry, bottom_of, top_of, entry_viewer, viewer_at, times_in, entry_of, id_number}
 use Rattle.viewer_tracks.specs.Edits.{opened, changed}
 use Rattle.viewer_tracks.specs.Columns.{Columns, IsColumns, IsPlaced, IsOnTop, stack_of, with_stack, topmost}
-use Rattle.viewer_tracks.specs.Columns.{with_topmost, shown, track_on, whole_track, closed_on, times_on, times_placed}
+use Rattle.viewer_tracks.specs.Columns.{with_topmost, with_shown, shown, track_on, whole_track, closed_on, times_on}
 use Rattle.viewer_tracks.specs.Columns.{times_shown, times_meant, track_of, placed_in, StandsAt, seen_at, replaced_at}
-use Rattle.viewer_tracks.specs.Columns.{after_open, after_open_track, after_change, after_close}
+use Rattle.viewer_tracks.specs.Columns.{times_placed, after_open, after_open_track, after_change, after_close}
 use Rattle.viewer_tracks.proofs.Once.{times_in-changed}
 use Rattle.viewer_tracks.proofs.CountLemmas.{opened_counts, seen_in, there_at}
 use Rattle.viewer_tracks.proofs.StackLemmas.{topmost_track, topmost_times, topmost-with_topmost, topmost-closed_on}
@@ -19,22 +19,32 @@ use Rattle.viewer_tracks.proofs.StackLemmas.{times-with_topmost, times-closed_on
 use Rattle.viewer_tracks.proofs.ColumnLemmas.{stack_in, times-with_stack, times-whole_track, shown_in, on_top}
 use Rattle.viewer_tracks.proofs.ColumnLemmas.{placed_on_top}
 
+-- a viewer changes its height in the track that shows it, which has as many of each viewer then
+abbrev changed_on : Columns → ℕ → ℕ → List Entry
+changed_on c v y =
+    let t = shown c (track_of c v) in changed t (entry_of t v) y
+
+changed_counts : (c : Columns) (v y w : ℕ) → times_in w (changed_on c v y) ≡ times_in w (shown c (track_of c v))
+changed_counts c v y w =
+    let t = shown c (track_of c v) in times_in-changed w t (entry_of t v) y
+
 -- who is placed
+edited_places : (c : Columns) (k : Track) (t : List Entry) (w : ℕ) → IsColumns c
+    → times_placed w (with_shown c k t) + times_in w (shown c k) ≡ times_placed w c + times_in w t
+edited_places c k t w sound =
+    let s = stack_of c k in
+    let stack = stack_in c k sound in
+    omega (arith, times-with_stack w c k (with_topmost s t), times-with_topmost w s t stack.some)
+
 pub open_places : (c : Columns) (v x y w : ℕ) → IsColumns c
     → times_placed w (after_open c v x y) + times_meant w (replaced_at c x y) ≡ times_placed w c + times_meant w
     (Some v)
 unfolding after_open
-open_places c v x y w sound =
-    let k = track_at x in
-    let s = stack_of c k in
-    let t = opened (topmost s) v y in
-    let stack = stack_in c k sound in
-    omega (
-      arith,
-      times-with_stack w c k (with_topmost s t),
-      times-with_topmost w s t stack.some,
-      opened_counts v w (topmost s) y _ refl,
-    )
+open_places c v x y w sound = omega (
+  arith,
+  edited_places c (track_at x) (opened (shown c (track_at x)) v y) w sound,
+  opened_counts v w (shown c (track_at x)) y _ refl,
+)
 
 pub cover_places : (c : Columns) (v x w : ℕ)
     → times_placed w (after_open_track c v x) ≡ times_placed w c + times_meant w (Some v)
@@ -53,16 +63,7 @@ pub change_places : (c : Columns) (v y w : ℕ) → IsColumns c → IsOnTop v c
     → times_placed w (after_change c v y) ≡ times_placed w c
 unfolding after_change
 change_places c v y w sound top =
-    let k = track_of c v in
-    let s = stack_of c k in
-    let i = entry_of (topmost s) v in
-    let stack = stack_in c k sound in
-    omega (
-      arith,
-      times-with_stack w c k (with_topmost s (changed (topmost s) i y)),
-      times-with_topmost w s (changed (topmost s) i y) stack.some,
-      times_in-changed w (topmost s) i y,
-    )
+    omega (arith, edited_places c (track_of c v) (changed_on c v y) w sound, changed_counts c v y w)
 
 pub close_places : (c : Columns) (v w : ℕ) → IsColumns c → IsOnTop v c
     → times_placed w (after_close c v) + times_meant w (Some v) ≡ times_placed w c
@@ -78,19 +79,20 @@ shown-with_stack : (w : ℕ) (c : Columns) (k : Track) (s : List (List Entry))
 shown-with_stack w c User s = omega arith
 shown-with_stack w c System s = omega arith
 
+edited_shows : (c : Columns) (k : Track) (t : List Entry) (w : ℕ)
+    → times_shown w (with_shown c k t) + times_in w (shown c k) ≡ times_shown w c + times_in w t
+edited_shows c k t w =
+    let s = stack_of c k in
+    omega (arith, shown-with_stack w c k (with_topmost s t), ap (times_in w) (topmost-with_topmost s t))
+
 pub open_shows : (c : Columns) (v x y w : ℕ) → IsColumns c
     → times_shown w (after_open c v x y) + times_meant w (replaced_at c x y) ≡ times_shown w c + times_meant w (Some v)
 unfolding after_open
-open_shows c v x y w sound =
-    let k = track_at x in
-    let s = stack_of c k in
-    let t = opened (topmost s) v y in
-    omega (
-      arith,
-      shown-with_stack w c k (with_topmost s t),
-      ap (times_in w) (topmost-with_topmost s t),
-      opened_counts v w (topmost s) y _ refl,
-    )
+open_shows c v x y w sound = omega (
+  arith,
+  edited_shows c (track_at x) (opened (shown c (track_at x)) v y) w,
+  opened_counts v w (shown c (track_at x)) y _ refl,
+)
 
 pub cover_shows : (c : Columns) (v x w : ℕ)
     → times_shown w (after_open_track c v x) + times_in w (shown c (track_at x))
@@ -104,16 +106,7 @@ pub change_shows : (c : Columns) (v y w : ℕ) → IsColumns c → IsOnTop v c
     → times_shown w (after_change c v y) ≡ times_shown w c
 unfolding after_change
 change_shows c v y w sound top =
-    let k = track_of c v in
-    let s = stack_of c k in
-    let i = entry_of (topmost s) v in
-    let t = changed (topmost s) i y in
-    omega (
-      arith,
-      shown-with_stack w c k (with_topmost s t),
-      ap (times_in w) (topmost-with_topmost s t),
-      times_in-changed w (topmost s) i y,
-    )
+    omega (arith, edited_shows c (track_of c v) (changed_on c v y) w, changed_counts c v y w)
 
 pub close_shows : (c : Columns) (v w : ℕ) → IsColumns c → IsOnTop v c
     → times_shown w c ≤ times_shown w (after_close c v) + times_meant w (Some v)

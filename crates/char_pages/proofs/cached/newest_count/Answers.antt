@@ -8,4 +8,4 @@ returns-then-number-n-clause-count c = λ content true_of.
     let is : c.in-Some.sector.now ≡ content c.args.n =
     true_of.is (c.in-Some.number.now, c.in-Some.sector.now) (first_entry _ _ (sym c.in-Some.ensures))
     ∙ ap content c.if-number-n.true in
-    subst (λ bytes. IsCountIn bytes c.args.at c.args.few c.args.wanted c.count_in.result) is c.count_in.ensures.count
+    subst (λ bytes. IsCountIn bytes c.args.part c.count_in.result) is c.count_in.ensures.count

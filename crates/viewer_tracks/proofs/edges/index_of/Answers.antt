@@ -1,9 +1,9 @@
-use Rattle.std.proofs.Common.{◌≡◌, ap, sym, subst, ◌∙◌, ℕ, ◌<◌, length, unwrap_or, ◌==◌, rules, tests}
+use Rattle.std.proofs.Common.{◌≡◌, sym, subst, ◌∙◌, ℕ, ◌<◌, length, ◌==◌, rules, tests}
 use Rattle.std.specs.List.{position_or_len}
 use Rattle.std.proofs.lemmas.Iterator.{YieldsList-from_slice}
 use Rattle.std.proofs.lemmas.Iterator.Search.{position_from_yields_List}
 use Rattle.viewer_tracks.specs.declared.edges.Edge.{Edge}
-use Rattle.viewer_tracks.proofs.Positions.{unwrap_or_position}
+use Rattle.viewer_tracks.proofs.Positions.{found_or_length}
 use Rattle.viewer_tracks.proofs.Moving.{entry_of-entries_from, placed_within, within_placed}
 use Rattle.viewer_tracks.proofs.edges.index_of.Goals as goal
 
@@ -11,10 +11,10 @@ pub returns : goal.returns
 returns c =
     let edges = c.args.edges.now in
     let p = λ (e : Edge). e.viewer.0 == c.args.viewer.0 in
-    let found = position_from_yields_List p _ _ c.position.result c.position.ensures.ran
-    (YieldsList-from_slice edges cc) (λ x b q k. search (rules, tests)) in
     let is : c.unwrap_or.result ≡ position_or_len p edges =
-    c.unwrap_or.ensures ∙ ap (λ o. unwrap_or o (length edges)) found ∙ unwrap_or_position p edges in
+    found_or_length p edges c.unwrap_or.ensures
+    (position_from_yields_List p _ _ c.position.result c.position.ensures.ran
+    (YieldsList-from_slice edges cc) (λ x b q k. search (rules, tests))) in
     record {
       entry = is ∙ sym (entry_of-entries_from c.args.viewer.0 0 edges);
       placed = (

@@ -1,8 +1,6 @@
-use Rattle.std.proofs.Common.{refl, sym, ◌∙◌, arith}
+use Rattle.std.proofs.Common.{refl, arith}
 use Rattle.sector_disk.specs.Trail.{now}
-use Rattle.sector_disk.proofs.Touching.{still_all}
-use Rattle.char_pages.specs.Ground.{none_more}
-use Rattle.char_pages.proofs.Paging.{length-paged, paged_same, paged_as_long, no_fewer_by}
+use Rattle.char_pages.proofs.Paging.{length-paged, only_read}
 use Rattle.char_pages.proofs.paged.PagedCharSource.char_at.Goals as goal
 
 pub char_over-requires-clause-within : goal.char_over-requires-clause-within
@@ -12,21 +10,5 @@ char_over-requires-clause-within g c =
     omega (arith, c.requires, length-paged reads p.base p.saved p.rest.items)
 
 pub returns-clause-reads : goal.returns-clause-reads
-returns-clause-reads g c =
-    let r = c.char_over.ensures in
-    record {
-      as_long = paged_as_long _ _ _ _ _ _ _ _ r.counted r.rest;
-      same = λ h. paged_same (still_all _ _ (r.kept.moments h)) r.base r.counted r.rest;
-      still = r.kept.still;
-      already = r.kept.already;
-      stands = record {
-        confined = r.kept;
-        same_base = r.base;
-        before = λ not. sym r.renewed ∙ not;
-        same_saved = λ not. r.counted;
-        only_added = λ not. none_more _ _ r.rest;
-        same_disk = refl;
-        same_pages = refl;
-      };
-      no_fewer = no_fewer_by c.char_over.result r.cause;
-    }
+returns-clause-reads g c = only_read (λ s. s.disk.now) (λ s. s.pages.now) (λ s. s.disk.ghost_name)
+    (λ s. s.pages.ghost_name) refl refl c.char_over.ensures.reads

@@ -1,12 +1,10 @@
-use Rattle.std.proofs.Common.{◌≡◌, ◌-◌, ◌%◌, ◌<◌, length, sym, ◌∙◌, subst, arith}
+use Rattle.std.proofs.Common.{◌≡◌, ◌-◌, ◌%◌, ◌<◌, length, refl, sym, ◌∙◌, arith}
 use Rattle.std.proofs.lemmas.List.{get_or_default}
 use Rattle.std.proofs.lemmas.Result.{IfOk-weaker}
-use Rattle.sector_disk.specs.Trail.{Content, now}
+use Rattle.sector_disk.specs.Trail.{now}
 use Rattle.sector_disk.specs.declared.disk.TheConstants.{SECTOR_BYTES}
-use Rattle.sector_disk.proofs.Touching.{still_all}
-use Rattle.char_pages.specs.Cached.{AreTrue}
-use Rattle.char_pages.proofs.Caching.{true_with, below_with}
-use Rattle.char_pages.proofs.Paging.{paged_in_area, paged_behind}
+use Rattle.char_pages.proofs.Caching.{below_with}
+use Rattle.char_pages.proofs.Paging.{paged_in_area, paged_behind, looked_up}
 use Rattle.char_pages.proofs.pages.Pages.char_over.Goals as goal
 
 pub returns-then-offset-self-clause-value : goal.returns-then-offset-self-clause-value
@@ -18,11 +16,10 @@ returns-then-offset-self-clause-value g c =
     ∙ sym (paged_in_area reads p.base p.saved p.rest.items c.args.offset c.if-offset-self.true))
     c.byte_of.ensures.value
 
-pub returns-then-offset-self-clause-cached : goal.returns-then-offset-self-clause-cached
-returns-then-offset-self-clause-cached g c = λ h true_of.
-    subst (λ (content : Content). AreTrue content c.byte_of.new.cache.entries)
-    (sym (still_all _ _ (c.byte_of.ensures.kept.moments h)))
-    (true_with c.byte_of.ensures.cached h true_of)
+pub returns-then-offset-self-clause-reads : goal.returns-then-offset-self-clause-reads
+returns-then-offset-self-clause-reads g c =
+    let looked = c.byte_of.ensures.looked in
+    looked_up looked.cached refl refl refl refl looked.kept looked.cause
 
 pub returns-else-offset-self-clause-value : goal.returns-else-offset-self-clause-value
 returns-else-offset-self-clause-value g c = λ h true_of.
@@ -39,4 +36,4 @@ invariant_of-self-clause-below g c =
     let offset = c.args.offset in
     let before : offset < p.saved = c.if-offset-self.true in
     let whole : p.saved % SECTOR_BYTES ≡ 0 = p.whole in
-    below_with c.byte_of.ensures.cached (omega arith) (omega (arith, before, whole)) p.below
+    below_with c.byte_of.ensures.looked.cached (omega arith) (omega (arith, before, whole)) p.below

@@ -1,10 +1,10 @@
-use Rattle.std.proofs.Common.{◌≡◌, ◌≤◌, ◌<◌, ◌+◌, ◌-◌, ◌%◌, ◌==◌, count_by, slice_range, sym, ◌∙◌, ap, subst, arith}
-use Rattle.sector_disk.specs.Trail.{Content, now}
+use Rattle.std.proofs.Common.{◌≡◌, ◌≤◌, ◌<◌, ◌+◌, ◌-◌, ◌%◌, ◌==◌, count_by, slice_range}
+use Rattle.std.proofs.Common.{refl, sym, ◌∙◌, ap, subst, arith}
+use Rattle.std.proofs.lemmas.Result.{err_from_is_err_and}
+use Rattle.sector_disk.specs.Trail.{CountsFault, now}
 use Rattle.sector_disk.specs.declared.disk.TheConstants.{SECTOR_BYTES}
-use Rattle.sector_disk.proofs.Touching.{still_all}
-use Rattle.char_pages.specs.Cached.{AreTrue}
-use Rattle.char_pages.proofs.Caching.{true_with, below_with}
-use Rattle.char_pages.proofs.Paging.{range_in_area, range_behind}
+use Rattle.char_pages.proofs.Caching.{below_with}
+use Rattle.char_pages.proofs.Paging.{range_in_area, range_behind, looked_up}
 use Rattle.char_pages.proofs.pages.Pages.count_over.Goals as goal
 
 pub returns-then-offset-self-clause-looked : goal.returns-then-offset-self-clause-looked
@@ -27,19 +27,19 @@ invariant_of-self-clause-below g c =
     let p = c.args.self.now in
     let before = c.if-offset-self.false in
     let whole : p.saved % SECTOR_BYTES ≡ 0 = p.whole in
-    below_with c.count_of.ensures.cached (omega arith) (omega (arith, before, whole)) p.below
+    below_with c.count_of.ensures.looked.cached (omega arith) (omega (arith, before, whole)) p.below
 
-pub returns-in_err-found-clause-cached : goal.returns-in_err-found-clause-cached
-returns-in_err-found-clause-cached g c = λ h true_of.
-    subst (λ (content : Content). AreTrue content c.count_of.new.cache.entries)
-    (sym (still_all _ _ (c.count_of.ensures.kept.moments h)))
-    (true_with c.count_of.ensures.cached h true_of)
+pub returns-in_err-found-clause-reads : goal.returns-in_err-found-clause-reads
+returns-in_err-found-clause-reads g c =
+    let fault = err_from_is_err_and c.from_residual.result c.from_residual.ensures.1 in
+    looked_up c.count_of.ensures.looked.cached refl refl refl refl c.count_of.ensures.looked.kept
+    (subst (λ result. CountsFault result (g.D.Disk.failures c.args.disk.now) (g.D.Disk.failures c.count_of.new.disk))
+    (sym fault.1) c.in_err-found.ensures.looked.cause)
 
-pub returns-clause-cached : goal.returns-clause-cached
-returns-clause-cached g c = λ h true_of.
-    subst (λ (content : Content). AreTrue content c.count_of.new.cache.entries)
-    (sym (still_all _ _ (c.count_of.ensures.kept.moments h)))
-    (true_with c.count_of.ensures.cached h true_of)
+pub returns-clause-reads : goal.returns-clause-reads
+returns-clause-reads g c =
+    let looked = c.count_of.ensures.looked in
+    looked_up looked.cached refl refl refl refl looked.kept c.in_ok-found.ensures.looked.cause
 
 pub returns-clause-looked : goal.returns-clause-looked
 returns-clause-looked g c =
@@ -54,8 +54,8 @@ returns-clause-looked g c =
       some = omega (arith, least, some);
       most = omega (arith, least);
       exact = λ h.
-          let is = c.in_ok-found.ensures.value h.0 h.1 in
+          let is = c.in_ok-found.ensures.value.0 h.0 h.1 in
           is.exact ∙ ap (count_by (λ b. b == c.args.wanted))
           (sym (range_in_area reads p.base p.saved p.rest.items c.args.offset c.min-few.result whole low within is.whole));
-      few = c.in_ok-found.ensures.most;
+      few = c.in_ok-found.ensures.value.1;
     }

@@ -1,6 +1,5 @@
 use Rattle.std.proofs.Common.{Ok, ap, sym, ◌∙◌}
-use Rattle.sector_disk.specs.Trail.{written}
-use Rattle.sector_disk.proofs.Keeping.{overwritten, held_on, no_room_settled, still_before, in_any_case}
+use Rattle.sector_disk.proofs.Keeping.{overwritten, written_after, no_room_settled, still_before, in_any_case}
 use Rattle.sector_disk.proofs.sectors.Sectors.write.Goals as goal
 
 pub returns-in_err-put-clause-refused : goal.returns-in_err-put-clause-refused
@@ -12,13 +11,6 @@ returns-then-branch-clause-written c =
     let put = c.in_ok-put.ensures in
     let is = ap (λ b. Ok b) c.if-branch.true in
     overwritten c.args.self.now c.put.new.self c.args.n c.args.bytes.now (sym put.room ∙ c.if-branch.true)
-    (put.put is) (put.kept is) (put.keeps is)
-
-pub returns-then-branch-clause-settled : goal.returns-then-branch-clause-settled
-returns-then-branch-clause-settled c =
-    let put = c.in_ok-put.ensures in
-    let is = ap (λ b. Ok b) c.if-branch.true in
-    held_on c.args.self.now c.put.new.self c.args.n c.args.bytes.now (sym put.room ∙ c.if-branch.true)
     (put.put is) (put.kept is) (put.keeps is)
 
 pub returns-in_err-put-2-clause-refused : goal.returns-in_err-put-2-clause-refused
@@ -33,16 +25,7 @@ returns-clause-written c =
     let put = c.in_ok-put-2.ensures in
     let room = c.in_ok-make_room.ensures.room in
     let is = ap (λ b. Ok b) (put.room ∙ room) in
-    overwritten c.make_room.new.self c.put-2.new.self c.args.n c.args.bytes.now room (put.put is) (put.kept is)
-    (put.keeps is)
-    ∙ ap (λ m. written m c.args.n c.args.bytes.now)
-    (still_before (c.in_ok-put.ensures.absent (ap (λ b. Ok b) c.if-branch.false)) c.make_room.ensures.same).reads
-
-pub returns-clause-settled : goal.returns-clause-settled
-returns-clause-settled c =
-    let put = c.in_ok-put-2.ensures in
-    let room = c.in_ok-make_room.ensures.room in
-    let is = ap (λ b. Ok b) (put.room ∙ room) in
-    held_on c.make_room.new.self c.put-2.new.self c.args.n c.args.bytes.now room (put.put is) (put.kept is)
-    (put.keeps is)
-    ∙ (still_before (c.in_ok-put.ensures.absent (ap (λ b. Ok b) c.if-branch.false)) c.make_room.ensures.same).settled
+    let same = still_before (c.in_ok-put.ensures.absent (ap (λ b. Ok b) c.if-branch.false)) c.make_room.ensures.same in
+    written_after same
+    (overwritten c.make_room.new.self c.put-2.new.self c.args.n c.args.bytes.now room (put.put is) (put.kept is)
+    (put.keeps is))
