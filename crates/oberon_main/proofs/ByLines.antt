@@ -261,15 +261,13 @@ module _ {D : Type 0} (d : Ghosts D) where
       → (so_far : HasPlayed (d.honest old.disk) (Ran old mid) (session_of old) (session_of mid) from left' held held'
       most u) → IsDurable d old → d.honest old.disk → Ends so_far.lines mid held' → GoesByLines d Ends held old
   gone_so_far {held' = held'} {mid = mid} Ends so_far durable honest ends = record {
-    first = record {
-      lasts = durable honest;
-      answered = so_far.lines;
-      plain = so_far.each;
-      mid = mid;
-      run = so_far.known.run honest;
-      held_mid = held';
-      written = so_far.written honest;
-    };
+    lasts = durable honest;
+    answered = so_far.lines;
+    plain = so_far.each;
+    mid = mid;
+    run = so_far.known.run honest;
+    held_mid = held';
+    written = so_far.written honest;
     ends = ends;
   }
 
@@ -312,19 +310,17 @@ module _ {D : Type 0} (d : Ghosts D) where
       let more : List (List ℕ) = lines_at_end [] taken.rest in
       let s : Session = session_of old in
       record {
-        first = record {
-          lasts = started honest;
-          answered = so_far.lines ++ more;
-          plain = all_both so_far.lines more so_far.each (plain_rest taken.rest taken.plain);
-          mid = new;
-          run = run_both so_far.lines more old mid new (so_far.known.run honest) run;
-          held_mid = held'';
-          written = subst (Appends held held'')
-              (ap (λ (t : Session). out s so_far.lines ++ out t more) (so_far.session honest)
-              ∙ sym (out_both s so_far.lines more))
-              (Appends-trans held held' held'' (out s so_far.lines) (out (session_of mid) more) (so_far.written honest)
-              written);
-        };
+        lasts = started honest;
+        answered = so_far.lines ++ more;
+        plain = all_both so_far.lines more so_far.each (plain_rest taken.rest taken.plain);
+        mid = new;
+        run = run_both so_far.lines more old mid new (so_far.known.run honest) run;
+        held_mid = held'';
+        written = subst (Appends held held'')
+            (ap (λ (t : Session). out s so_far.lines ++ out t more) (so_far.session honest)
+            ∙ sym (out_both s so_far.lines more))
+            (Appends-trans held held' held'' (out s so_far.lines) (out (session_of mid) more) (so_far.written honest)
+            written);
         ends = ((refl, are_all from so_far taken at_end), keeps_same held'');
       }
 
@@ -413,17 +409,30 @@ module _ {D : Type 0} (d : Ghosts D) where
     unsaid_last Input early output ends counts front = unsaid_for Input early ends.0 ends.1 counts front
     unsaid_last Output early output ends counts front = absurd (output refl)
 
+  -- the same lines, with what the word came to
+  ends_with : {Ends : List (List ℕ) → StoreView D → Option (List ℕ) → Type 0} {held : Option (List ℕ)}
+      {old : StoreView D} (Said : List (List ℕ) → StoreView D → Option (List ℕ) → Type 0)
+      → (gone : GoesByLines d Ends held old) → Said gone.answered gone.mid gone.held_mid → GoesByLines d Said held old
+  ends_with Said gone ends = record {
+    lasts = gone.lasts;
+    answered = gone.answered;
+    plain = gone.plain;
+    mid = gone.mid;
+    run = gone.run;
+    held_mid = gone.held_mid;
+    written = gone.written;
+    ends = ends;
+  }
+
   -- the word was written
   pub said_by_lines : (end : PlayEnd) (from left held held' held'' : Option (List ℕ)) (old new : StoreView D)
       → PlaysLines d end from left held held' old new → Appends held' held'' (last_word end)
       → CountsEnd end (d.failures old.disk) (d.failures new.disk) → PlaysByLines d end from left held held'' old new
   said_by_lines end from left held held' held'' old new played said counts =
-      let first = played.first in
-      record {
-        first = first;
-        ends = said_last from left first.answered first.mid new (d.failures old.disk) (d.failures new.disk)
-            first.held_mid held' held'' end played.ends said counts;
-      }
+      ends_with (λ answered mid held_mid. EndsSaid d end from left answered mid new (d.failures old.disk)
+      (d.failures new.disk) held_mid held'') played
+      (said_last from left played.answered played.mid new (d.failures old.disk) (d.failures new.disk)
+      played.held_mid held' held'' end played.ends said counts)
 
   -- the output failed in it
   pub unsaid_by_lines : (end : PlayEnd) (from left held held' held'' : Option (List ℕ)) (old new : StoreView D)
@@ -431,12 +440,10 @@ module _ {D : Type 0} (d : Ghosts D) where
       → CountsEnd end (d.failures old.disk) (d.failures new.disk) → AppendsFront held' held'' (last_word end)
       → PlaysByLines d Output from left held held'' old new
   unsaid_by_lines end from left held held' held'' old new early output played counts front =
-      let first = played.first in
-      record {
-        first = first;
-        ends = inr (unsaid_last from left first.answered first.mid new (d.failures old.disk) (d.failures new.disk)
-            first.held_mid held' held'' end early output played.ends counts front);
-      }
+      ends_with (λ answered mid held_mid. EndsSaid d Output from left answered mid new (d.failures old.disk)
+      (d.failures new.disk) held_mid held'') played
+      (inr (unsaid_last from left played.answered played.mid new (d.failures old.disk) (d.failures new.disk)
+      played.held_mid held' held'' end early output played.ends counts front))
 
 -- ---- what a crash leaves, in events
 
@@ -560,10 +567,9 @@ module _ {D : Type 0} (d : Ghosts D) where
 
   is_kept : (end : PlayEnd) (from left held held' : Option (List ℕ)) (old new : StoreView D)
       → PlaysByLines d end from left held held' old new → IsKept from held held' old new
-  is_kept end from left held held' old new played =
-      let first = played.first in
-      kept_ends from held held' first.answered old first.mid new first.lasts first.plain first.run first.held_mid
-      first.written end left (d.failures old.disk) (d.failures new.disk) played.ends
+  is_kept end from left held held' old new played = kept_ends from held held' played.answered old played.mid new
+      played.lasts played.plain played.run played.held_mid played.written end left (d.failures old.disk)
+      (d.failures new.disk) played.ends
 
   script_kept : (script : List ℕ) (held held' : Option (List ℕ)) (old new : StoreView D)
       → IsKept (Some script) held held' old new → Survives d script held held' old new

@@ -157,31 +157,30 @@ module _ {D : Type 0} (d : Ghosts D) where
   pub leaves_lines : (end : PlayEnd) (from left held held' : Option (List ℕ)) (old new : StoreView D)
       → PlaysByLines d end from left held held' old new → LeavesLines d from old new
   leaves_lines end from left held held' old new played =
-      let first = played.first in
-      let mid : StoreView D = first.mid in
+      let mid : StoreView D = played.mid in
       let s : Session = session_of old in
       let trail : Trail = d.trail new.disk in
-      let session : session_of mid ≡ after_all s first.answered = run_session d first.answered old mid first.run in
-      let as_large : d.size mid.disk ≡ d.size old.disk = run_size d first.answered old mid first.run in
-      let tail : IsTail from first.answered mid new = tail_of from first.answered mid new end left first.held_mid
-      held' (d.failures old.disk) (d.failures new.disk) (run_lasts first.answered old mid first.lasts first.run)
+      let session : session_of mid ≡ after_all s played.answered = run_session d played.answered old mid played.run in
+      let as_large : d.size mid.disk ≡ d.size old.disk = run_size d played.answered old mid played.run in
+      let tail : IsTail from played.answered mid new = tail_of from played.answered mid new end left played.held_mid
+      held' (d.failures old.disk) (d.failures new.disk) (run_lasts played.answered old mid played.lasts played.run)
       played.ends in
       let on : GoesOn trail mid = record { later = tail.moments.later; kept = tail.moments.kept } in
       record {
-        answered = first.answered;
+        answered = played.answered;
         begun = tail.begun;
         one = tail.one;
-        plain = all_both first.answered tail.begun first.plain tail.plain;
+        plain = all_both played.answered tail.begun played.plain tail.plain;
         begins = tail.begins;
-        past = (run_goes_on trail first.answered old mid first.run on).kept;
+        past = (run_goes_on trail played.answered old mid played.run on).kept;
         last = (d.trail mid.disk).clock;
-        each = all_answered trail (d.size old.disk) s (d.trail old.disk).clock [] first.answered old mid none refl
-            refl first.run on;
+        each = all_answered trail (d.size old.disk) s (d.trail old.disk).clock [] played.answered old mid none refl
+            refl played.run on;
         later = tail.moments.later;
         rest = λ t above below c image. moved_either (d.size mid.disk) (d.size old.disk) mid.desktop
-            (after_all (session_of mid) tail.begun).desktop (led_to s first.answered)
-            (led_to s (first.answered ++ tail.begun)) c (sym as_large)
-            (led_here s (session_of mid) first.answered session)
-            (led_on s (session_of mid) first.answered tail.begun session)
+            (after_all (session_of mid) tail.begun).desktop (led_to s played.answered)
+            (led_to s (played.answered ++ tail.begun)) c (sym as_large)
+            (led_here s (session_of mid) played.answered session)
+            (led_on s (session_of mid) played.answered tail.begun session)
             (tail.moments.each t above below c image);
       }

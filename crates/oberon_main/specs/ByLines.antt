@@ -159,8 +159,9 @@ module _ {D : Type 0} (d : Ghosts D) where
   -- ---- a script
 
   -- The first lines of a script were served, one after another, from a store of which a crash leaves what it shows. The
-  -- writer took their answers as a whole, and nothing else.
-  pub record ServesFirst (held : Option (List ℕ)) (old : StoreView D) : Type 0 where
+  -- writer took their answers as a whole, and nothing else; and then the script ended.
+  pub record GoesByLines (Ends : List (List ℕ) → StoreView D → Option (List ℕ) → Type 0) (held : Option (List ℕ))
+      (old : StoreView D) : Type 0 where
     pub lasts : Lasts old
     pub answered : List (List ℕ)
     pub plain : AllByRecursion IsLine answered
@@ -168,12 +169,7 @@ module _ {D : Type 0} (d : Ghosts D) where
     pub run : IsRun answered old mid
     pub held_mid : Option (List ℕ)
     pub written : Appends held held_mid (out (session_of old) answered)
-
-  -- and then the script ended
-  pub record GoesByLines (Ends : List (List ℕ) → StoreView D → Option (List ℕ) → Type 0) (held : Option (List ℕ))
-      (old : StoreView D) : Type 0 where
-    pub first : ServesFirst held old
-    pub ends : Ends first.answered first.mid first.held_mid
+    pub ends : Ends answered mid held_mid
 
   abbrev pub PlaysLines : PlayEnd → Option (List ℕ) → Option (List ℕ) → Option (List ℕ) → Option (List ℕ)
       → StoreView D → StoreView D → Type 0
