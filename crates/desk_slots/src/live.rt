@@ -6,7 +6,6 @@ ghost use Rattle.command_table.specs.Versions.{version_number, newest_version};
 ghost use Rattle.desktop_definitions.specs.Desktop.{file_of};
 ghost use Rattle.desk_image.specs.Image.{image_of, image_bytes, IsSpellable};
 ghost use Rattle.desk_image.specs.Streams.{Puts};
-ghost use Rattle.sector_disk.specs.Trail.{Content};
 ghost use Rattle.store_layout.specs.Layout.{area_start};
 ghost use Rattle.store_layout.specs.Kept.{HasFront, chosen_area};
 ghost use Rattle.store_layout.specs.Meaning.{full_sectors};
@@ -15,8 +14,7 @@ ghost use Rattle.desk_slots.specs.Live.{characters_of, seen_live, AreTrueOver, I
 ghost use Rattle.piece_ring.specs.Text.{Text as AText};
 ghost use Rattle.screen_cells.specs.Lines.{AreLinesOf};
 ghost use Rattle.desk_slots.specs.Words.{Nowhere, now, IsConfined, FailsAs, No, IsReply, entries_of, shown_screen};
-ghost use Rattle.desk_slots.specs.Words.{step_in};
-ghost use Rattle.desk_slots.specs.Words.{StepsUnread, ListsUnread};
+ghost use Rattle.desk_slots.specs.Words.{step_in, Content, StepsUnread, ListsUnread};
 
 use crate::Error;
 use crate::over::{list_over, read_over, screen_over, step_over};

@@ -8,8 +8,7 @@ ghost use Rattle.desk_slots.specs.Device.{IsSameDevice, StaysWithin};
 ghost use Rattle.desk_slots.specs.Errors.{OfDesktop};
 ghost use Rattle.desk_slots.specs.Live.{seen_live, IsLive, IsNamed, IsTold};
 ghost use Rattle.desk_slots.specs.Words.{LeavesOnly, Only, CountsFault, now, IsConfined, FailsAs, No, IsReply, step};
-ghost use Rattle.desk_slots.specs.Words.{step_in};
-ghost use Rattle.desk_slots.specs.Words.{StepsUnread};
+ghost use Rattle.desk_slots.specs.Words.{step_in, StepsUnread};
 ghost use Rattle.desk_slots.specs.Written.{HasRecord, InRecord, IsInJournal};
 
 use crate::Error;

@@ -23,6 +23,7 @@ use Rattle.desktop_definitions.specs.Desktop.{DesktopOf, Desktop, file_of}
 use Rattle.desktop_definitions.specs.Viewers.{viewer_of, with_org, rows_of, with_caret, newest, unselected}
 use Rattle.desktop_definitions.specs.Viewers.{with_selection}
 use Rattle.desktop_definitions.specs.Viewers.{opened_at, main_of, menu_of, selected}
+use Rattle.desktop_definitions.specs.Looks.{whole_look}
 use Rattle.desktop_definitions.specs.Change.{bytes_of, looks_set, put_in, put_at_caret, cut_out}
 use Rattle.desktop_definitions.specs.Commands.{called}
 use Rattle.desktop_definitions.specs.Effects.{opened_on_copy}
@@ -118,7 +119,7 @@ copied_to d v p = needs (newest d) no_selection λ s. Ok (put_in d v p (selected
 -- the newest selection gets the look at a position, where the caret then stands
 unfoldable pub looks_taken : Desktop → ℕ → ℕ → Result Desktop ℕ
 looks_taken d v p =
-    needs (newest d) no_selection λ s. Ok (with_caret (looks_set d s 7 (look_at p (main_of d v))) v p)
+    needs (newest d) no_selection λ s. Ok (with_caret (looks_set d s whole_look (look_at p (main_of d v))) v p)
 
 -- a stretch goes into the deleted buffer
 unfoldable pub taken_out : Desktop → Selection → Result Desktop ℕ

@@ -29,6 +29,10 @@ abbrev pub offset_set : ℤ → Option (ℕ × Look)
 offset_set z =
     if int_le least_offset z && int_le z greatest_offset then Some (4, record default_look { voff = z }) else None
 
+-- the selector of the whole look
+abbrev pub whole_look : ℕ
+whole_look = 7
+
 -- a look that characters may have: a font and a colour that there are, and a vertical offset within its range
 pub record IsLook (l : Look) : Type 0 where
   pub font : l.font < number_of_fonts

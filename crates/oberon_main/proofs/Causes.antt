@@ -1,5 +1,5 @@
 -- Why a script ends by `Input` or `Output`: its reader or its writer failed.
-use Rattle.std.proofs.Common.{◌≡◌, inl, inr, ℕ, ◌+◌, ◌≤◌, Result, Err, [], ◌∷◌, arith, refl, ◌∙◌, subst}
+use Rattle.std.proofs.Common.{◌≡◌, inl, inr, ℕ, ◌+◌, ◌<◌, ◌≤◌, Result, Err, [], ◌∷◌, arith, refl, sym, ◌∙◌, subst}
 use Rattle.sector_disk.specs.Faults.{FailsAs, OneOf}
 use Rattle.script_lines.specs.Reading.{IsReadFault}
 use Rattle.oberon_main.specs.declared.playing.PlayEnd.{PlayEnd}
@@ -58,3 +58,27 @@ output_of_line Output line named failed failed' is counts = counts.rose is
 pub output_from : (end : PlayEnd) (failed failed' failed'' : ℕ) → failed' ≡ failed → CountsOutput end failed' failed''
     → CountsOutput end failed failed''
 output_from end failed failed' failed'' calm counts = subst (λ n. CountsOutput end n failed'') calm counts
+
+-- nothing fails after it
+pub output_then : (end : PlayEnd) (failed failed' failed'' : ℕ) → CountsOutput end failed failed' → failed'' ≡ failed'
+    → CountsOutput end failed failed''
+output_then end failed failed' failed'' counts calm = subst (λ n. CountsOutput end failed n) (sym calm) counts
+
+-- ---- the writer fails in the last word, whatever the end was
+
+pub output_lost : (end : PlayEnd) (failed failed' failed'' : ℕ) → CountsOutput end failed failed' → failed' < failed''
+    → CountsOutput Output failed failed''
+output_lost Done failed failed' failed'' counts rose = omega (arith, counts, rose)
+output_lost Fault failed failed' failed'' counts rose = omega (arith, counts, rose)
+output_lost Memory failed failed' failed'' counts rose = omega (arith, counts, rose)
+output_lost Input failed failed' failed'' counts rose = omega (arith, counts, rose)
+output_lost Output failed failed' failed'' counts rose = omega (arith, counts, rose)
+
+pub input_lost : (end : PlayEnd) (most reads reads' failed failed' : ℕ) → CountsInput most end reads reads' failed failed'
+    → CountsInput most Output reads reads' failed failed'
+input_lost Done most reads reads' failed failed' counts = omega (arith, counts)
+input_lost Fault most reads reads' failed failed' counts = omega (arith, counts)
+input_lost Memory most reads reads' failed failed' counts = omega (arith, counts)
+input_lost Input most reads reads' failed failed' (inl rose) = omega (arith, rose)
+input_lost Input most reads reads' failed failed' (inr none) = let same = none.1 in omega (arith, same)
+input_lost Output most reads reads' failed failed' counts = counts

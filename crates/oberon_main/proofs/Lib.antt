@@ -3,6 +3,7 @@ pub mod Causes
 pub mod Ends
 pub mod Moments
 pub mod Played
+pub mod Promised
 pub mod Sessions
 pub mod Surviving
 pub mod Working

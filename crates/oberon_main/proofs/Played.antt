@@ -172,10 +172,10 @@ played_more Honest before now now' left left' left'' held held' held'' most old 
 -- ---- in how many pieces the script came
 
 pub pieces_with : {Honest : Type 0} {Known : List (List ℕ) → Type 0} {before now : Session}
-    {left left' held held' : Option (List ℕ)} {most more : ℕ} {u : Unplayed} (left'' : Option (List ℕ))
-    (read : List ℕ) → HasPlayed Honest Known before now left left' held held' most u → Consumes left' left'' read
+    {left left' held held' : Option (List ℕ)} {most : ℕ} {u : Unplayed} (left'' : Option (List ℕ))
+    (read : List ℕ) (more : ℕ) → HasPlayed Honest Known before now left left' held held' most u → Consumes left' left'' read
     → length read + more ≤ most_bytes u.reads → ComesInPieces most left left''
-pieces_with {left = left} {left' = left'} {most = most} {more = more} {u = u} left'' read so_far came few = record {
+pieces_with {left = left} {left' = left'} {most = most} {u = u} left'' read more so_far came few = record {
   read = so_far.read ++ read;
   came = Consumes-trans left left' left'' so_far.read read so_far.came came;
   few = at_most (length so_far.read) (length read) _ (most_bytes u.reads) more (most_bytes most)

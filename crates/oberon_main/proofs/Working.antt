@@ -4,6 +4,7 @@ use Rattle.std.proofs.lemmas.Result.{IfOk-weaker}
 use Rattle.sector_disk.specs.declared.disk.Disk.{Ghosts}
 use Rattle.desk_journal.specs.Errors.{Error}
 use Rattle.desk_journal.specs.Errors.{Worn}
+use Rattle.desk_journal.specs.Posting.{TurnsAway}
 use Rattle.desk_journal.specs.View.{StoreView}
 use Rattle.desk_journal.specs.Session.{session_of}
 use Rattle.script_lines.specs.declared.request.Request.{Request}
@@ -26,14 +27,16 @@ module _ {D : Type 0} (d : Ghosts D) {request : Request} {result : Result Answer
   }
 
   -- A worn store changes nothing, and says so; any other refusal ends the script.
-  pub refusal_works_out : {error : Error} (old new : StoreView D)
-      → IfOk result (λ a. (error ≡ Worn) × (bytes_of a ≡ worn_line))
-      → (error ≡ Worn → (new ≡ old) × (answer (session_of old) request ≡ worn_line)
-      × (after (session_of old) request ≡ session_of old))
+  pub refusal_works_out : {error : Error} {refused when : Type 0} (old new : StoreView D)
+      → IfOk result (λ a. (error ≡ Worn) × (bytes_of a ≡ worn_line)) → TurnsAway refused when old new
+      → (error ≡ Worn → refused)
+      → (when → (answer (session_of old) request ≡ worn_line) × (after (session_of old) request ≡ session_of old))
       → old.must_reopen ≡ false → (d.honest new.disk ↔ d.honest old.disk) → IsWorkedOut d request result old new
-  refusal_works_out old new says worn usable premise = record {
-    bytes = IfOk-weaker result _ _ (λ a is honest. is.1 ∙ sym (worn is.0).1) says;
-    session = IfOk-weaker result _ _ (λ a is honest. ap session_of (worn is.0).0 ∙ sym (worn is.0).2) says;
-    usable = IfOk-weaker result _ _ (λ a is. ap (λ (s : StoreView D). s.must_reopen) (worn is.0).0 ∙ usable) says;
+  refusal_works_out old new says turned worn same usable premise = record {
+    bytes = IfOk-weaker result _ _ (λ a is honest. is.1 ∙ sym (same (turned.only (worn is.0))).0) says;
+    session = IfOk-weaker result _ _ (λ a is honest. ap session_of (turned.unchanged (worn is.0))
+        ∙ sym (same (turned.only (worn is.0))).1) says;
+    usable = IfOk-weaker result _ _ (λ a is. ap (λ (s : StoreView D). s.must_reopen) (turned.unchanged (worn is.0))
+        ∙ usable) says;
     premise = premise;
   }

@@ -5,3 +5,4 @@ pub mod Surviving
 pub mod Moments
 pub mod ByLines
 pub mod Report
+pub mod Promised

@@ -1,5 +1,5 @@
 //! Playing a script over a store.
-ghost use Rattle.std.specs.Prelude.{◌≡◌, ◌+◌, ◌≤◌, ◌↔◌, ℕ, List, [], ◌∷◌, false, IfSome, OnOk, OnErr, IsOk, IfErr};
+ghost use Rattle.std.specs.Prelude.{◌≡◌, ◌+◌, ◌≤◌, ◌↔◌, ℕ, List, [], ◌∷◌, false, OnOk, OnErr, IsOk, IfErr};
 ghost use Rattle.std.specs.Io.KnownBytes.{Appends, Keeps};
 ghost use Rattle.sector_disk.specs.Faults.{FailsAs, OneOf};
 ghost use Rattle.screen_cells.specs.Sent.{AppendsFront};
@@ -7,12 +7,11 @@ ghost use Rattle.oberon_main.specs.declared.playing.PlayEnd.TheVariants as ends;
 ghost use Rattle.script_lines.specs.Request.{request_of};
 ghost use Rattle.script_lines.specs.Reading.{Holds, ComesInPieces};
 ghost use Rattle.desk_journal.specs.Session.{session_of};
-ghost use Rattle.oberon_main.specs.Play.{Plays, CountsPlay, CountsEnd, CountsInput, CountsOutput, PlaysLine};
+ghost use Rattle.oberon_main.specs.Play.{Plays, CountsEnd, CountsInput, CountsOutput, PlaysLine};
 ghost use Rattle.oberon_main.specs.Play.{RestEndsAs, last_word, no_word};
 ghost use Rattle.script_streams.specs.Counting.{CountsFault};
-ghost use Rattle.oberon_main.specs.Surviving.{Survives};
-ghost use Rattle.oberon_main.specs.Moments.{LeavesLines};
-ghost use Rattle.oberon_main.specs.ByLines.{PlaysByLines, PlaysLines, LineSurvives, RestSurvives};
+ghost use Rattle.oberon_main.specs.Promised.{PlaysScript};
+ghost use Rattle.oberon_main.specs.ByLines.{PlaysLines, LineSurvives, RestSurvives};
 ghost use Rattle.oberon_main.specs.Worked.{end_of};
 ghost use Rattle.desk_journal.specs.View.{IsDurable};
 
@@ -88,20 +87,8 @@ pub fn play<R: ScriptReader, W: AnswerWriter, D: Disk>(
     store: &mut Store<D>,
 ) -> PlayEnd
     requires { store.old.must_reopen ≡ false }
-    ensures played { Plays last_word D.Disk result (R.remaining reader.old) (R.remaining reader.new)
-        (W.contents writer.old) (W.contents writer.new) store.old store.new }
-    ensures pieces { ComesInPieces MOST_READS (R.remaining reader.old) (R.remaining reader.new) }
-    ensures limit { R.reads reader.new ≤ R.reads reader.old + MOST_READS }
-    ensures faults { CountsPlay result (D.failures store.old.disk) (D.failures store.new.disk) }
-    ensures input { CountsInput MOST_READS result (R.reads reader.old) (R.reads reader.new)
-        (R.failures reader.old) (R.failures reader.new) }
-    ensures output { CountsOutput result (W.failures writer.old) (W.failures writer.new) }
-    ensures by_lines { D.honest store.old.disk → PlaysByLines D.Disk result (R.remaining reader.old)
-        (R.remaining reader.new) (W.contents writer.old) (W.contents writer.new) store.old store.new }
-    ensures any_moment { D.honest store.old.disk
-        → LeavesLines D.Disk (R.remaining reader.old) store.old store.new }
-    ensures survives { D.honest store.old.disk → IfSome (R.remaining reader.old)
-        (λ script. Survives D.Disk script (W.contents writer.old) (W.contents writer.new) store.old store.new) }
+    ensures { PlaysScript R.ScriptReader W.AnswerWriter D.Disk MOST_READS result reader.old reader.new
+        writer.old writer.new store.old store.new }
 {
     play_bounded(alloc, reader, writer, store, MOST_READS)
 }
@@ -115,20 +102,8 @@ pub fn play_bounded<R: ScriptReader, W: AnswerWriter, D: Disk>(
     reads: u32,
 ) -> PlayEnd
     requires { store.old.must_reopen ≡ false }
-    ensures played { Plays last_word D.Disk result (R.remaining reader.old) (R.remaining reader.new)
-        (W.contents writer.old) (W.contents writer.new) store.old store.new }
-    ensures pieces { ComesInPieces reads (R.remaining reader.old) (R.remaining reader.new) }
-    ensures limit { R.reads reader.new ≤ R.reads reader.old + reads }
-    ensures faults { CountsPlay result (D.failures store.old.disk) (D.failures store.new.disk) }
-    ensures input { CountsInput reads result (R.reads reader.old) (R.reads reader.new)
-        (R.failures reader.old) (R.failures reader.new) }
-    ensures output { CountsOutput result (W.failures writer.old) (W.failures writer.new) }
-    ensures by_lines { D.honest store.old.disk → PlaysByLines D.Disk result (R.remaining reader.old)
-        (R.remaining reader.new) (W.contents writer.old) (W.contents writer.new) store.old store.new }
-    ensures any_moment { D.honest store.old.disk
-        → LeavesLines D.Disk (R.remaining reader.old) store.old store.new }
-    ensures survives { D.honest store.old.disk → IfSome (R.remaining reader.old)
-        (λ script. Survives D.Disk script (W.contents writer.old) (W.contents writer.new) store.old store.new) }
+    ensures { PlaysScript R.ScriptReader W.AnswerWriter D.Disk reads result reader.old reader.new
+        writer.old writer.new store.old store.new }
 {
     let end = play_lines(alloc, reader, writer, store, reads);
     match say(writer, end) {

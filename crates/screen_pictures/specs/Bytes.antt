@@ -1,8 +1,6 @@
 -- The bytes of some characters.
 use Rattle.std.specs.Prelude.{ℕ, ◌+◌, Bool, ◌&&◌, ◌==◌, nat_le, if◌then◌else◌}
-
-abbrev pub tabulator : ℕ
-tabulator = 9
+pub use Rattle.event_bytes.specs.Bytes.{tabulator, period}
 
 abbrev pub line_feed : ℕ
 line_feed = 10
@@ -12,9 +10,6 @@ space = 32
 
 abbrev pub hyphen : ℕ
 hyphen = 45
-
-abbrev pub period : ℕ
-period = 46
 
 abbrev pub question_mark : ℕ
 question_mark = 63

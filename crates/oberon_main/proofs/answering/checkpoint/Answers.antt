@@ -29,11 +29,9 @@ returns-in-Ok g c = record {
 
 pub returns-in-Err : goal.returns-in-Err
 returns-in-Err g c = record {
-  worked_out = refusal_works_out g.D.Disk c.args.store.now c.checkpoint.new.self c.refused.ensures.worn (λ is.
-      let worn = c.in-Err.ensures.worn in
-      let when = worn.only (ap (λ e. Err e) is) in
-      (worn.unchanged (ap (λ e. Err e) is), last_answer (session_of c.args.store.now) when.1,
-      last_after (session_of c.args.store.now) when.1))
+  worked_out = refusal_works_out g.D.Disk c.args.store.now c.checkpoint.new.self c.refused.ensures.worn
+      c.in-Err.ensures.worn (λ is. ap (λ e. Err e) is)
+      (λ when. (last_answer (session_of c.args.store.now) when.1, last_after (session_of c.args.store.now) when.1))
       c.requires (c.in-Err.ensures.device.already, c.in-Err.ensures.device.still);
   faults = counts_call c.in-Err.error _ _ OfCheckpoint (λ is. inr is) c.in-Err.ensures.faults
       (λ is. false≢true (sym c.requires ∙ c.in-Err.ensures.reopen.only (ap (λ e. Err e) is))) _ c.refused.result

@@ -32,13 +32,13 @@ returns-in-Ok g c = record {
 
 pub returns-in-Err : goal.returns-in-Err
 returns-in-Err g c = record {
-  worked_out = refusal_works_out g.D.Disk c.args.store.now c.post.new.self c.refused.ensures.worn (λ is.
-      let worn = c.in-Err.ensures.worn in
-      let when = worn.only (ap (λ e. Err e) is) in
-      (worn.unchanged (ap (λ e. Err e) is),
-      worn_answer (session_of c.args.store.now) c.args.event.now when.0.1 when.1,
-      worn_after (session_of c.args.store.now) c.args.event.now when.0.1 when.1))
-      c.requires (c.in-Err.ensures.device.already, c.in-Err.ensures.device.still);
+  worked_out = refusal_works_out g.D.Disk c.args.store.now c.post.new.self c.refused.ensures.worn
+      c.in-Err.ensures.worn (λ is. ap (λ e. Err e) is)
+      (λ when. (
+        worn_answer (session_of c.args.store.now) c.args.event.now when.0.1 when.1,
+        worn_after (session_of c.args.store.now) c.args.event.now when.0.1 when.1,
+      )) c.requires
+      (c.in-Err.ensures.device.already, c.in-Err.ensures.device.still);
   faults = counts_call c.in-Err.error _ _ OfPost (λ is. is) c.in-Err.ensures.faults
       (λ is. false≢true (sym c.requires ∙ c.in-Err.ensures.reopen.only (ap (λ e. Err e) is))) _ c.refused.result
       c.refused.ensures.worn c.refused.ensures.other;

@@ -47,7 +47,7 @@ returns-in-Err-clause-by_lines g c =
 pub returns-in-Err-clause-pieces : goal.returns-in-Err-clause-pieces
 returns-in-Err-clause-pieces g c =
     let taken = c.in-Feed.ensures.line refl in
-    pieces_with _ taken.read c.loop-line.invariant.played taken.came taken.few
+    pieces_with _ taken.read _ c.loop-line.invariant.played taken.came taken.few
 
 pub returns-in-Err-clause-limit : goal.returns-in-Err-clause-limit
 returns-in-Err-clause-limit g c = few_reads _ _ _ _ (c.take_line.ensures.counted ∙ c.loop-line.invariant.counted)
@@ -104,7 +104,7 @@ returns-in-End-clause-by_lines g c =
 pub returns-in-End-clause-pieces : goal.returns-in-End-clause-pieces
 returns-in-End-clause-pieces g c =
     let taken = c.in-End.ensures.rest (λ wrong. cc) in
-    pieces_with _ taken.read c.loop-line.invariant.played taken.came taken.few
+    pieces_with _ taken.read _ c.loop-line.invariant.played taken.came taken.few
 
 pub returns-in-End-clause-limit : goal.returns-in-End-clause-limit
 returns-in-End-clause-limit g c = few_reads _ _ _ _ (c.take_line.ensures.counted ∙ c.loop-line.invariant.counted)
@@ -141,4 +141,4 @@ returns-in-Fault-clause-by_lines g c = cut_off_by_lines g.D.Disk c.loop-line.inv
 pub returns-in-Fault-clause-pieces : goal.returns-in-Fault-clause-pieces
 returns-in-Fault-clause-pieces g c =
     let taken = c.in-Fault.ensures.rest (λ wrong. cc) in
-    pieces_with _ taken.read c.loop-line.invariant.played taken.came taken.few
+    pieces_with _ taken.read _ c.loop-line.invariant.played taken.came taken.few
