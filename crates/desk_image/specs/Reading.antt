@@ -2,7 +2,7 @@
 use Rattle.std.specs.Prelude.{ℕ, zero, suc, ◌+◌, ◌-◌, ◌*◌, Bool, ◌&&◌, ◌==◌, if◌then◌else◌, nat_le}
 use Rattle.std.specs.Prelude.{nat_lt, List, [], ◌∷◌}
 use Rattle.std.specs.Prelude.{length, Option, Some, None, ℤ, pos, ◌-ℤ◌}
-use Rattle.event_bytes.specs.Parts.{Reader, ◌>>=◌, when, byte_at, pair_at, counted_at}
+use Rattle.event_bytes.specs.Parts.{Reader, ◌>>=◌, when, byte_at, pair_at, counted_at, three_at}
 use Rattle.event_bytes.specs.Reading.{name_at}
 use Rattle.piece_ring.specs.declared.piece.Look.{Look}
 use Rattle.piece_ring.specs.declared.piece.Piece.{Piece}
@@ -53,11 +53,8 @@ offset_at bytes = do
   if nat_lt b.0 offsets then Some (pos b.0 -ℤ pos below_zero, b.1) else None
 
 unfoldable pub raw_look_at : Reader Look
-raw_look_at bytes = do
-  font ← byte_at bytes
-  colour ← byte_at font.1
-  voff ← offset_at colour.1
-  Some (record { font = font.0; colour = colour.0; voff = voff.0 }, voff.1)
+raw_look_at bytes =
+    three_at byte_at byte_at offset_at (λ font colour voff. record { font = font; colour = colour; voff = voff }) bytes
 
 abbrev pub is_look : Look → Bool
 is_look l = nat_lt l.font number_of_fonts && nat_lt l.colour number_of_colours
@@ -113,11 +110,7 @@ files_at written room bytes = do
 -- ---- viewers
 
 unfoldable pub ranked_at : Reader Ranked
-ranked_at bytes = do
-  rank ← byte_at bytes
-  beg ← long_at rank.1
-  end ← long_at beg.1
-  Some (record { rank = rank.0; beg = beg.0; end = end.0 }, end.1)
+ranked_at bytes = three_at byte_at long_at long_at (λ rank beg end. record { rank = rank; beg = beg; end = end }) bytes
 
 -- an id, or a number of viewers
 unfoldable pub id_at : ℕ → Reader ℕ
