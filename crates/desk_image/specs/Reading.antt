@@ -2,7 +2,7 @@
 use Rattle.std.specs.Prelude.{ℕ, zero, suc, ◌+◌, ◌-◌, ◌*◌, Bool, ◌&&◌, ◌==◌, if◌then◌else◌, nat_le}
 use Rattle.std.specs.Prelude.{nat_lt, List, [], ◌∷◌}
 use Rattle.std.specs.Prelude.{length, Option, Some, None, ℤ, pos, ◌-ℤ◌}
-use Rattle.event_bytes.specs.Parts.{Reader, ◌>>=◌, when, byte_at, pair_at, counted_at}
+use Rattle.event_bytes.specs.Parts.{Reader, ◌>>=◌, when, byte_at, pair_at, counted_at, three_at}
 use Rattle.event_bytes.specs.Reading.{name_at}
 use Rattle.piece_ring.specs.declared.piece.Look.{Look}
 use Rattle.piece_ring.specs.declared.piece.Piece.{Piece}

@@ -15,18 +15,14 @@ pub(crate) fn kept(rt: &HostRuntime, path: &str, ending: Ending) -> u8 {
 
 /// The sentence.
 fn say_kept(rt: &HostRuntime, path: &str, ending: Ending) -> io::Result<()> {
-    match ending {
-        Ending::Left | Ending::Closed => Ok(()),
-        Ending::Input => eprintln!(rt; "desk: the keyboard failed; what was shown is in the store"),
-        Ending::Output => eprintln!(rt;
-            "desk: the terminal took no more; what was shown is in the store"
-        ),
-        Ending::Fault => eprintln!(rt;
+    if matches!(ending, Ending::Fault) {
+        return eprintln!(rt;
             "desk: reading or writing {path:?} failed; what was shown had been written to it"
-        ),
-        Ending::Memory => eprintln!(rt;
-            "desk: there was not enough memory; what was shown is in the store"
-        ),
+        );
+    }
+    match failure(ending) {
+        None => Ok(()),
+        Some(what) => eprintln!(rt; "desk: {what}; what was shown is in the store"),
     }
 }
 
@@ -43,14 +39,18 @@ pub(crate) fn lost(rt: &HostRuntime, ending: Ending) -> u8 {
 
 /// The sentence.
 fn say_lost(rt: &HostRuntime, ending: Ending) -> io::Result<()> {
+    match failure(ending) {
+        None => Ok(()),
+        Some(what) => eprintln!(rt; "desk: {what}; the desktop in memory is gone"),
+    }
+}
+
+/// What failed, but for a disk in a file. None where the person left or nothing more can be heard.
+fn failure(ending: Ending) -> Option<&'static str> {
     match ending {
-        Ending::Left | Ending::Closed => Ok(()),
-        Ending::Input => eprintln!(rt; "desk: the keyboard failed; the desktop in memory is gone"),
-        Ending::Output => eprintln!(rt;
-            "desk: the terminal took no more; the desktop in memory is gone"
-        ),
-        Ending::Fault | Ending::Memory => eprintln!(rt;
-            "desk: there was not enough memory; the desktop in memory is gone"
-        ),
+        Ending::Left | Ending::Closed => None,
+        Ending::Input => Some("the keyboard failed"),
+        Ending::Output => Some("the terminal took no more"),
+        Ending::Fault | Ending::Memory => Some("there was not enough memory"),
     }
 }

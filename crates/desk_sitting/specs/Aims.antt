@@ -5,7 +5,7 @@ use Rattle.std.specs.List.{list_any}
 use Rattle.viewer_tracks.specs.declared.display.TheConstants.{COLUMNS, ROWS}
 use Rattle.screen_pictures.specs.declared.cell.Cell.{Cell}
 use Rattle.screen_pictures.specs.declared.cell.Mark.{Mark}
-use Rattle.screen_pictures.specs.declared.cell.Mark.TheVariants.{Marker, Caret, Selected, Menu, Bar, Text, Filler}
+use Rattle.screen_pictures.specs.declared.cell.Mark.TheVariants.{Marker, Caret, Selected, Text}
 use Rattle.screen_pictures.specs.Screen.{cell_at, row_at}
 use Rattle.terminal_presses.specs.declared.press.Arrow.{Arrow as ArrowKey}
 use Rattle.terminal_presses.specs.declared.press.Arrow.TheVariants.{Up, Down, Right, Left}
@@ -17,12 +17,9 @@ is_caret _ = false
 -- where a text is shown that has no caret there
 abbrev pub is_text : Mark → Bool
 is_text Marker = true
-is_text Caret = false
 is_text Selected = true
-is_text Menu = false
-is_text Bar = false
 is_text Text = true
-is_text Filler = false
+is_text _ = false
 
 abbrev pub has_caret : List Cell → Bool
 has_caret row = list_any (λ cell. is_caret cell.mark) row

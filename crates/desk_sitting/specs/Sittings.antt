@@ -82,20 +82,23 @@ unfoldable pub clicked : Option (ℕ × ℕ) → Desk → Desk
 clicked None d = record d { sitting = record d.sitting { rings = true } }
 clicked (Some place) d = posted (Point Left place.0 place.1 place.0 place.1) d
 
+-- what a press comes to that posts nothing
+unfoldable pub acted_alone : Action → Sitting → Sitting
+acted_alone action.Ring s = record s { rings = true }
+acted_alone action.LookAnew s = record s { forgets = true; asks = true }
+acted_alone action.Leave s = record s { leaves = true }
+acted_alone (action.TypeFile name) s = record s { wanted = Some name }
+acted_alone (action.Move page) s = record s { sight = moved page s.sight; follows = false }
+acted_alone (action.Fit rows columns) s = record s {
+  sight = fitted (height_told rows columns) s.sight;
+  forgets = true;
+}
+acted_alone _ s = s
+
 unfoldable pub acted : Action → Desk → Desk
-acted action.Nothing d = d
 acted (action.Post event) d = posted event d
-acted action.Ring d = record d { sitting = record d.sitting { rings = true } }
-acted action.LookAnew d = record d { sitting = record d.sitting { forgets = true; asks = true } }
-acted action.Leave d = record d { sitting = record d.sitting { leaves = true } }
-acted (action.TypeFile name) d = record d { sitting = record d.sitting { wanted = Some name } }
-acted (action.Move page) d = record d {
-  sitting = record d.sitting { sight = moved page d.sitting.sight; follows = false };
-}
 acted (action.Step arrow) d = clicked (aimed arrow (shown_screen d.session.desktop)) d
-acted (action.Fit rows columns) d = record d {
-  sitting = record d.sitting { sight = fitted (height_told rows columns) d.sitting.sight; forgets = true };
-}
+acted alone d = record d { sitting = acted_alone alone d.sitting }
 
 -- nothing is done after the person has left
 unfoldable pub after_press : Press → Desk → Desk

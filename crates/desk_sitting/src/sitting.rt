@@ -2,8 +2,8 @@
 ghost use Rattle.std.specs.Prelude.{◌≡◌, ◌≢◌, false, OnOk, IfErr};
 ghost use Rattle.desk_sitting.specs.Doing.{Takes, desk_of};
 ghost use Rattle.desk_sitting.specs.Sayings.{line_of};
-ghost use Rattle.desk_sitting.specs.Sittings.{acted, after_press, brought, clicked, looked, new_sitting, posted};
-ghost use Rattle.desk_sitting.specs.Sittings.{refused, replied};
+ghost use Rattle.desk_sitting.specs.Sittings.{acted, acted_alone, after_press, brought, clicked, looked, new_sitting};
+ghost use Rattle.desk_sitting.specs.Sittings.{posted, refused, replied};
 
 use crate::aim::{aimed, caret_of};
 use crate::saying::{Saying, SayingLine, line_of};
@@ -147,8 +147,22 @@ impl Sitting {
         ensures { Takes D.Disk (acted action (desk_of self.old store.old)) result self.new store.old store.new }
     {
         match action {
-            Action::Nothing => {}
-            Action::Post(event) => return self.post(alloc, &event, store),
+            Action::Post(event) => self.post(alloc, &event, store),
+            Action::Step(arrow) => self.step(alloc, arrow, store),
+            alone => {
+                self.act_alone(alone);
+                Ok(())
+            }
+        }
+    }
+
+    /// Does what a press comes to that posts nothing.
+    #[tactic(auto, unfolding(crate::specs::Sittings::acted_alone))]
+    fn act_alone(&mut self, action: Action)
+        ensures { self.new ≡ acted_alone action self.old }
+    {
+        match action {
+            Action::Nothing | Action::Post(_) | Action::Step(_) => {}
             Action::Ring => self.rings = true,
             Action::TypeFile(name) => self.wanted = Some(name),
             Action::LookAnew => {
@@ -160,13 +174,11 @@ impl Sitting {
                 self.sight = moved(page, self.sight);
                 self.follows = false;
             }
-            Action::Step(arrow) => return self.step(alloc, arrow, store),
             Action::Fit(rows, columns) => {
                 self.sight = fitted(height_told(rows, columns), self.sight);
                 self.forgets = true;
             }
         }
-        Ok(())
     }
 
     /// A left click beside the caret, as the screen has it, or a ring where no text is shown there.

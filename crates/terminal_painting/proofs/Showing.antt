@@ -2,7 +2,7 @@
 use Rattle.std.proofs.Common.{◌≡◌, ◌<◌, ◌+◌, ◌≤◌, ℕ, List, [], ◌∷◌, ◌++◌, refl, ap, sym, ◌∙◌, arith, Bool, true}
 use Rattle.std.proofs.Common.{false, nat_eq}
 use Rattle.std.proofs.Common.{cond, length, Option, Some, None, min, subst}
-use Rattle.std.specs.Prelude.{◌&&◌, nat_le, nat_lt}
+use Rattle.std.specs.Prelude.{◌&&◌, ◌==◌, if◌then◌else◌, nat_le, nat_lt}
 use Rattle.std.specs.List.{list_all}
 use Rattle.std.proofs.lemmas.Bool.{eqb-true}
 use Rattle.std.proofs.lemmas.Bool.Decides.{nat_tests}
@@ -37,33 +37,34 @@ both false b h = absurd cc
 
 -- equal pens and faces
 
-weights : (a b : Weight) → nat_eq (weight_code a) (weight_code b) ≡ true → a ≡ b
-weights Regular Regular e = refl
-weights Regular Bold e = absurd cc
-weights Regular Faint e = absurd cc
-weights Bold Regular e = absurd cc
-weights Bold Bold e = refl
-weights Bold Faint e = absurd cc
-weights Faint Regular e = absurd cc
-weights Faint Bold e = absurd cc
-weights Faint Faint e = refl
+-- what has a code is worked out of it again
+abbrev weight_of : ℕ → Weight
+weight_of code = if code == 22 then Regular else (if code == 1 then Bold else Faint)
 
-slants : (a b : Bool) → nat_eq (slant_code a) (slant_code b) ≡ true → a ≡ b
-slants true true e = refl
-slants true false e = absurd cc
-slants false true e = absurd cc
-slants false false e = refl
+abbrev slant_of : ℕ → Bool
+slant_of code = code == 3
 
-rules_same : (a b : Rule) → nat_eq (rule_code a) (rule_code b) ≡ true → a ≡ b
-rules_same Plain Plain e = refl
-rules_same Plain Under e = absurd cc
-rules_same Plain Over e = absurd cc
-rules_same Under Plain e = absurd cc
-rules_same Under Under e = refl
-rules_same Under Over e = absurd cc
-rules_same Over Plain e = absurd cc
-rules_same Over Under e = absurd cc
-rules_same Over Over e = refl
+abbrev rule_of : ℕ → Rule
+rule_of code = if code == 24 then Plain else (if code == 4 then Under else Over)
+
+weight_again : (w : Weight) → weight_of (weight_code w) ≡ w
+weight_again Regular = refl
+weight_again Bold = refl
+weight_again Faint = refl
+
+slant_again : (is_italic : Bool) → slant_of (slant_code is_italic) ≡ is_italic
+slant_again true = refl
+slant_again false = refl
+
+rule_again : (r : Rule) → rule_of (rule_code r) ≡ r
+rule_again Plain = refl
+rule_again Under = refl
+rule_again Over = refl
+
+-- so those of one code are equal
+by_code : {A : Type 0} (code : A → ℕ) (back : ℕ → A) → ((a : A) → back (code a) ≡ a) → (a b : A)
+    → nat_eq (code a) (code b) ≡ true → a ≡ b
+by_code code back again a b e = sym (again a) ∙ ap back (eqb-true (code a) (code b) e) ∙ again b
 
 pub pens : (a b : Pen) → same_pen a b ≡ true → a ≡ b
 pens a b e =
@@ -74,9 +75,9 @@ pens a b e =
     λ i. record {
       ink = eqb-true a.ink b.ink ink i;
       paper = eqb-true a.paper b.paper paper i;
-      weight = weights a.weight b.weight weight i;
-      is_italic = slants a.is_italic b.is_italic slant i;
-      rule = rules_same a.rule b.rule rule i;
+      weight = by_code weight_code weight_of weight_again a.weight b.weight weight i;
+      is_italic = by_code slant_code slant_of slant_again a.is_italic b.is_italic slant i;
+      rule = by_code rule_code rule_of rule_again a.rule b.rule rule i;
     }
 
 pub faces : (a b : Face) → same_face a b ≡ true → a ≡ b

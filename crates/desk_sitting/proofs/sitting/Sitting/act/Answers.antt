@@ -1,38 +1,35 @@
-use Rattle.std.proofs.Common.{refl}
-use Rattle.desk_sitting.specs.Sittings.{acted}
+use Rattle.std.proofs.Common.{◌≡◌, ◌≢◌, refl, ap, ◌∙◌}
+use Rattle.event_bytes.specs.declared.event.Event.{Event}
+use Rattle.terminal_presses.specs.declared.action.Action.{Action}
+use Rattle.terminal_presses.specs.declared.action.Action.TheVariants as action
+use Rattle.terminal_presses.specs.declared.press.Arrow.{Arrow}
+use Rattle.desk_sitting.specs.declared.sitting.Sitting.{Sitting}
+use Rattle.desk_sitting.specs.Doing.{desk_of}
+use Rattle.desk_sitting.specs.Sittings.{Desk, acted, acted_alone}
 use Rattle.desk_sitting.proofs.Taking.{takes_alone}
 use Rattle.desk_sitting.proofs.sitting.Sitting.act.Goals as goal
+
+-- what posts nothing changes the sitting alone
+alone_is : (a : Action) (d : Desk) → ((event : Event) → a ≢ action.Post event)
+    → ((arrow : Arrow) → a ≢ action.Step arrow) → record d { sitting = acted_alone a d.sitting } ≡ acted a d
+unfolding acted
+alone_is action.Nothing d posts steps = refl
+alone_is (action.Post event) d posts steps = absurd (posts event refl)
+alone_is action.Ring d posts steps = refl
+alone_is (action.TypeFile name) d posts steps = refl
+alone_is action.LookAnew d posts steps = refl
+alone_is action.Leave d posts steps = refl
+alone_is (action.Move page) d posts steps = refl
+alone_is (action.Step arrow) d posts steps = absurd (steps arrow refl)
+alone_is (action.Fit rows columns) d posts steps = refl
 
 pub returns-in-Post : goal.returns-in-Post
 unfolding acted
 returns-in-Post g c = rw c.in-Post.is c.post.ensures
 
-pub returns-in-Nothing : goal.returns-in-Nothing
-unfolding acted
-returns-in-Nothing g c = rw c.in-Nothing.is (takes_alone g.D.Disk tt _ _ c.args.store.now c.requires refl)
-
-pub returns-in-Ring : goal.returns-in-Ring
-unfolding acted
-returns-in-Ring g c = rw c.in-Ring.is (takes_alone g.D.Disk tt _ _ c.args.store.now c.requires refl)
-
-pub returns-in-TypeFile : goal.returns-in-TypeFile
-unfolding acted
-returns-in-TypeFile g c = rw c.in-TypeFile.is (takes_alone g.D.Disk tt _ _ c.args.store.now c.requires refl)
-
-pub returns-in-LookAnew : goal.returns-in-LookAnew
-unfolding acted
-returns-in-LookAnew g c = rw c.in-LookAnew.is (takes_alone g.D.Disk tt _ _ c.args.store.now c.requires refl)
-
-pub returns-in-Leave : goal.returns-in-Leave
-unfolding acted
-returns-in-Leave g c = rw c.in-Leave.is (takes_alone g.D.Disk tt _ _ c.args.store.now c.requires refl)
-
-pub returns-in-Move : goal.returns-in-Move
-unfolding acted
-returns-in-Move g c = rw (c.in-Move.is, c.moved-self.ensures)
-    (takes_alone g.D.Disk tt _ _ c.args.store.now c.requires refl)
-
-pub returns-in-Fit : goal.returns-in-Fit
-unfolding acted
-returns-in-Fit g c = rw (c.in-Fit.is, c.fitted-self.ensures, c.height_told.ensures)
-    (takes_alone g.D.Disk tt _ _ c.args.store.now c.requires refl)
+pub returns-in_default : goal.returns-in_default
+returns-in_default g c =
+    let store = c.args.store.now in
+    takes_alone g.D.Disk tt _ _ store c.requires
+    (ap (λ (s : Sitting). desk_of s store) c.act_alone.ensures
+    ∙ alone_is c.args.action (desk_of c.args.self.now store) c.in_default.not-Post c.in_default.not-Step)
