@@ -8,19 +8,7 @@ times=${1:-100}
 cc -O2 -o "$folder/sectors" "$top/bench/sectors.c"
 cd "$folder"
 
-# The text stands in a viewer beside a tool text, by which its colour changes.
-begin='file System.Tool System.SetColor 1%0dSystem.SetColor 2%0dEdit.Open A
-point m 60 31 60 31
-point m 52 28 52 28
-point l 1 30 1 30'
-x=$(head -c 900 /dev/zero | tr '\0' x)
-{ echo "$begin"; for k in $(seq 291); do echo "type $x"; done; } > one
-{
-    echo "$begin"
-    for k in $(seq 5000); do
-        printf '%s\n' 'point m 52 30 52 30' 'type abcdefghijklmnopqrstuvwxyz' 'point m 52 29 52 29' 'type abcdefghijklmnopqrstuvwxyz'
-    done
-} > many
+texts_in_one_and_many '' 291
 for k in $(seq "$times"); do echo checkpoint; done > checkpoints
 
 opened() { "$program" check desk > said; }

@@ -1,13 +1,8 @@
 # Sourced by scripts that cut a play off, and look at what its store holds afterwards. It makes `new.disk`, a store
 # whose characters stand in the area, and `events`, a script whose lines are answered by one line each. `shown.N` is
 # what such a store shows after the first N of them, as a run in memory has it, and `whole` is the answers.
-cc -shared -fPIC -o calls.so "$TESTS/fail_calls.c" || exit 1
-text() { yes "$1" | tr '\n' ' ' | head -c 900; }
-{
-    echo 'file System.Tool Edit.Open B.Text%0dEdit.Search%0dSystem.Copy%0dmiddle'
-    printf 'file %s.Text %s\n' A "$(text first)" B "$(text middle)" C "$(text last)"
-    printf '%s\n' 'point m 60 31 60 31' checkpoint
-} > begin
+. "$TESTS/each_call.sh"
+. "$TESTS/in_the_area.sh"
 {
     printf '%s\n' 'point m 52 30 52 30' 'mark 10 10' 'point l 20 30 20 30' 'key paste' 'point r 51 27 56 27'
     printf '%s\n' 'point m 52 29 52 29' 'point r 51 30 58 29' checkpoint 'point rm 3 30 8 30' 'type x'
@@ -24,13 +19,11 @@ for number in $(seq 0 "$last"); do
 done
 { cat begin events; } | "$PROGRAM" | tail -n +$((begun + 1)) > whole
 
-# Plays the events over a copy of the store, desk.disk, by the assignments, of which FAIL and AT name a call. The
-# answers are in `got`, what is said on standard error in `said`, and what became of the call in `calls`. Returns the
-# status.
-cut_off() {
+# Plays the events over a copy of the store, desk.disk, under the assignments. The answers are in `got`, and what is said
+# on standard error in `said`. Returns the status.
+attempt() {
     cp new.disk desk.disk
-    rm -f calls
-    env "$@" CALLS=calls LD_PRELOAD=./calls.so "$PROGRAM" play desk.disk < events > got 2> said
+    env "$@" "$PROGRAM" play desk.disk < events > got 2> said
 }
 
 # How many lines of `got` are answers of events and checkpoints.

@@ -25,3 +25,37 @@ right() {
         [ "$(cat said)" = $word ]
     fi
 }
+
+# Plays the events over a store in memory and over one in a file, with allocation 0, 1, 2 .. refused, until none is; for the
+# file `new.disk` is a store, and then it shows, by `looks`, just what the events led to whose replies came (`shown.N` for N
+# of them). Says `NAME, memory: ..` and `NAME, file: ..` where there were at least $2 allocations, NAME being $1.
+each_allocation() {
+    for order in memory file; do
+        words=()
+        [ $order = memory ] || words=(play desk.disk)
+        number=0
+        while :; do
+            [ $order = memory ] || cp new.disk desk.disk
+            play $number "${words[@]}"
+            right $? || echo "$1, $order: other replies with allocation $number refused"
+            if [ $order = file ]; then
+                looks | "$PROGRAM" play desk.disk | cmp - "shown.$(grep -c '^ok$\|^no [0-9]*$' got)" \
+                    || echo "$1, allocation $number refused: the store shows another desktop"
+            fi
+            [ -e refused ] || break
+            number=$((number + 1))
+        done
+        cmp got whole && [ $number -ge "$2" ] && echo "$1, $order: every allocation was refused once"
+        count "allocations refused, $1, $order" $number
+    done
+}
+
+# Makes `whole`, what the events give, and `shown.N` for each number N of the events that are no looks: what `looks` shows
+# of a store in memory after the first N of them.
+show_each() {
+    "$OBERON" < events > whole
+    grep -v '^show \|^list$\|^screen$' events > posted
+    for number in $(seq 0 "$(grep -c '' posted)"); do
+        { head -n "$number" posted; looks; } | "$PROGRAM" | tail -n +$((number + 1)) > "shown.$number"
+    done
+}

@@ -1,6 +1,6 @@
 # The host refuses each call of `format` in turn, over a store that is there and where there is none; of the writes of
 # zeros, which are alike, three. What the file is afterwards stands behind. The next `format` makes it a whole store.
-cc -shared -fPIC -o calls.so "$TESTS/fail_calls.c" || exit 1
+. "$TESTS/each_call.sh"
 "$PROGRAM" format new.disk
 cp new.disk old.disk
 "$PROGRAM" play old.disk < "$TESTS/scripts/hello.in"

@@ -14,19 +14,12 @@ said_right() {
         [ "$(cat said)" = fault ]
     fi
 }
+is_right() { said_right "$1" && [ $status = 4 ] && holds "$(answered)" more; }
 
 refused=0
 for call in open flock pread pwrite fdatasync write; do
-    number=0
-    while :; do
-        cut_off FAIL=$call AT=$number
-        status=$?
-        grep -q failed calls || break
-        said_right $call && [ $status = 4 ] || echo "$call $number refused: status $status, $(head -c 200 got said)"
-        holds "$(answered)" more || echo "$call $number refused: the store holds something else"
-        number=$((number + 1))
-    done
-    cmp got whole && [ $status = 0 ] && [ $number -gt 0 ] && echo "each $call was refused once"
-    refused=$((refused + number))
+    each_call $call
+    cmp got whole && [ $status = 0 ] && [ $tried -gt 0 ] && echo "each $call was refused once"
+    refused=$((refused + tried))
 done
 count 'calls refused, play' $refused

@@ -2,12 +2,7 @@
 # the first of them and `memory` with status 5, and the store then shows just what the events led to whose replies came.
 # Where there is no memory for a sector that was read, nothing is seen of that.
 . "$TESTS/refusing.sh"
-text() { yes "$1" | tr '\n' ' ' | head -c 900; }
-{
-    echo 'file System.Tool Edit.Open B.Text%0dEdit.Search%0dSystem.Copy%0dmiddle'
-    printf 'file %s.Text %s\n' A "$(text first)" B "$(text middle)" C "$(text last)"
-    printf '%s\n' 'point m 60 31 60 31' checkpoint
-} > begin
+. "$TESTS/in_the_area.sh"
 cat > events <<'END'
 show C.Text
 point m 52 30 52 30

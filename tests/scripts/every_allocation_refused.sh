@@ -5,30 +5,8 @@
 . "$TESTS/refusing.sh"
 looks() { printf '%s\n' list 'show A.Text' screen; }
 "$OBERON" format made.disk > said && cp --sparse=always made.disk new.disk || exit 1
-
 for script in hello type_hello store_text; do
     cp "$TESTS/scripts/$script.in" events
-    "$OBERON" < events > whole
-    grep -v '^show\|^list$\|^screen$' events > posted
-    for number in $(seq 0 "$(grep -c '' posted)"); do
-        { head -n "$number" posted; looks; } | "$PROGRAM" | tail -n +$((number + 1)) > "shown.$number"
-    done
-    for order in memory file; do
-        words=()
-        [ $order = memory ] || words=(play desk.disk)
-        number=0
-        while :; do
-            [ $order = memory ] || cp new.disk desk.disk
-            play $number "${words[@]}"
-            right $? || echo "$script, $order: other replies with allocation $number refused"
-            if [ $order = file ]; then
-                looks | "$PROGRAM" play desk.disk | cmp - "shown.$(grep -c '^ok$' got)" \
-                    || echo "$script, allocation $number refused: the store shows another desktop"
-            fi
-            [ -e refused ] || break
-            number=$((number + 1))
-        done
-        cmp got whole && [ $number -gt 20 ] && echo "$script, $order: every allocation was refused once"
-        count "allocations refused, $script, $order" $number
-    done
+    show_each
+    each_allocation $script 21
 done

@@ -49,7 +49,7 @@ done
 
 # (a write that must not wait says 11, one into a pipe without a reader 32)
 for error in 11 32; do
-    cut_off FAIL=write AT=7 ERROR=$error
+    with_a_failure FAIL=write AT=7 ERROR=$error
     echo "error $error in the eighth answer: status $?, $(answered) answers"
     holds "$(answered)" more && echo 'the answered events'
 done

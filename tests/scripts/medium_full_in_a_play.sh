@@ -3,7 +3,7 @@
 . "$TESTS/answered.sh"
 number=0
 while :; do
-    cut_off FAIL=pwrite AT=$number ONWARD=1 ERROR=28
+    with_a_failure FAIL=pwrite AT=$number ONWARD=1 ERROR=28
     status=$?
     grep -q failed calls || break
     [ $status = 4 ] && [ ! -s said ] && { head -n "$(answered)" whole; echo fault; } | cmp - got \

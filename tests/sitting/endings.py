@@ -73,6 +73,16 @@ class Trial:
         sitting.wait(lambda: sitting.terminal.frames > 0)
         return sitting
 
+    def sit_anew(self, before=()):
+        """A sitting over a store of its own."""
+        self.store()
+        return self.sit(self.path, before=before)
+
+    def leaves(self, sitting, keys=b'\x11'):
+        """The keys, of which one leaves, end it well."""
+        sitting.press(keys)
+        self.check(sitting.end() == 0 and sitting.is_put_back, f'status {sitting.status}')
+
     def typing(self, sitting):
         """Types as fast as it is taken, for a random time, and returns what was to be typed."""
         text = ''.join(self.chance.choice(LETTERS) for _ in range(800))
@@ -114,13 +124,17 @@ class Trial:
 # ---- ends
 
 
+def amid_typing(trial, before=()):
+    """A sitting in which something was typed: the sitting, what was typed, and the program's number."""
+    sitting = trial.sit_anew(before)
+    text = trial.typing(sitting)
+    return sitting, text, sitting.program()
+
+
 def killed(number, at_program, status):
     """A signal amid typing."""
     def run(trial):
-        trial.store()
-        sitting = trial.sit(trial.path)
-        text = trial.typing(sitting)
-        program = sitting.program()
+        sitting, text, program = amid_typing(trial)
         os.kill(program if at_program else sitting.process, number)
         trial.check(sitting.end() == status, f'status {sitting.status} and not {status}')
         trial.check(sitting.is_put_back, 'the terminal was not put back')
@@ -132,10 +146,7 @@ def killed(number, at_program, status):
 
 def script_killed(trial):
     """Where the script is ended by signal 9 the program goes too, and the terminal is as it is."""
-    trial.store()
-    sitting = trial.sit(trial.path)
-    text = trial.typing(sitting)
-    program = sitting.program()
+    sitting, text, program = amid_typing(trial)
     os.kill(sitting.process, signal.SIGKILL)
     sitting.end()
     end = time.monotonic() + 5
@@ -148,10 +159,7 @@ def script_killed(trial):
 def hung_up(before):
     """The terminal goes away, and the script hears of it or not."""
     def run(trial):
-        trial.store()
-        sitting = trial.sit(trial.path, before=before)
-        text = trial.typing(sitting)
-        program = sitting.program()
+        sitting, text, program = amid_typing(trial, before)
         trial.check(sitting.hang_up() is not None, 'the script does not end')
         trial.check(not is_there(program), 'the program is still there')
         trial.kept(text, text_of(shown(sitting.terminal.cells)))
@@ -160,35 +168,29 @@ def hung_up(before):
 
 def control_c(trial):
     """What is a signal elsewhere is a key."""
-    trial.store()
-    sitting = trial.sit(trial.path)
+    sitting = trial.sit_anew()
     for key in (b'\x03', b'\x1a', b'\x1c', b'\x04', b'\x13'):
         sitting.press(key)
     sitting.press(b'stillhere')
     trial.check(sitting.look_anew(), 'no frame')
-    sitting.press(b'\x11')
-    trial.check(sitting.end() == 0 and sitting.is_put_back, f'status {sitting.status}')
+    trial.leaves(sitting)
     trial.kept('stillhere', 'stillhere')
 
 
 def left_amid(trial):
     """What is typed before the key that leaves is kept, and what comes after it isn't."""
-    trial.store()
-    sitting = trial.sit(trial.path)
-    sitting.press(b'before\x11after')
-    trial.check(sitting.end() == 0 and sitting.is_put_back, f'status {sitting.status}')
+    sitting = trial.sit_anew()
+    trial.leaves(sitting, b'before\x11after')
     trial.kept('before', 'before')
 
 
 def escape(trial):
     """The key Escape alone is heard after a while: the caret goes."""
-    trial.store()
-    sitting = trial.sit(trial.path)
+    sitting = trial.sit_anew()
     trial.check(25 in sitting.terminal.modes, 'there is no caret')
     sitting.press(b'\x1b')
     trial.check(sitting.wait(lambda: 25 not in sitting.terminal.modes, 5), 'the caret stays')
-    sitting.press(b'\x11')
-    trial.check(sitting.end() == 0, f'status {sitting.status}')
+    trial.leaves(sitting)
 
 
 # ---- texts
@@ -212,8 +214,7 @@ def pasted(trial):
 
 def killed_amid_paste(trial):
     """Signal 9 amid a paste."""
-    trial.store()
-    sitting = trial.sit(trial.path)
+    sitting = trial.sit_anew()
     text = ''.join(trial.chance.choice(LETTERS) for _ in range(2400))
     data = '\r'.join(text[at:at + 40] for at in range(0, len(text), 40)).encode()
     sitting.press(b'\x1b[200~' + data[:trial.chance.randrange(len(data))])
@@ -255,8 +256,7 @@ def no_host_file(trial):
         trial.check(UNREAD in sitting.terminal.line(ROWS), f'{name[:9]}: {sitting.terminal.line(ROWS)!r}')
         sitting.press(b'a')
         trial.check(sitting.look_anew(), 'no frame')
-    sitting.press(b'\x11')
-    trial.check(sitting.end() == 0, f'status {sitting.status}')
+    trial.leaves(sitting)
     trial.kept('aaaaaa', 'aaaaaa')
 
 
@@ -275,8 +275,7 @@ def resized(trial):
         trial.check(sitting.wait(lambda: sitting.terminal.lines() == frame, 5), f'another screen in {rows} rows')
         trial.check(sitting.look_anew() and sitting.wait(lambda: sitting.terminal.lines() == frame, 5),
                     f'another one in {rows} rows when it is painted anew')
-    sitting.press(b'\x11')
-    trial.check(sitting.end() == 0, f'status {sitting.status}')
+    trial.leaves(sitting)
 
 
 def too_small(trial):
@@ -299,8 +298,7 @@ def new_store(trial):
     """Where there is no file a store is made, whose first screen has words to click."""
     sitting = trial.sit(trial.path)
     trial.check('System.Tool' in sitting.terminal.line(0), 'no tool text is shown')
-    sitting.press(b'\x11')
-    trial.check(sitting.end() == 0 and sitting.is_put_back, f'status {sitting.status}')
+    trial.leaves(sitting)
     trial.check(os.listdir(trial.folder) == ['my.disk'], f'there are {os.listdir(trial.folder)}')
     again = trial.sit(trial.path)
     first = [''.join(c for c, _ in row) for row in sitting.terminal.left[:ROWS]]
@@ -330,13 +328,11 @@ def no_store(trial):
 
 def in_use(trial):
     """A store that another program has open is left alone."""
-    trial.store()
-    sitting = trial.sit(trial.path)
+    sitting = trial.sit_anew()
     shutil.copy(trial.path, trial.path + '.before')
     trial.refused(4, trial.path, says=['my.disk', 'another program'])
     trial.check(filecmp.cmp(trial.path, trial.path + '.before', shallow=False), 'the store was changed')
-    sitting.press(b'\x11')
-    trial.check(sitting.end() == 0, f'status {sitting.status}')
+    trial.leaves(sitting)
 
 
 def no_file(trial):
