@@ -1,5 +1,5 @@
 -- What a row owes that reads the source first, and what it leaves.
-use Rattle.std.proofs.Common.{◌≡◌, ◌≤◌, ℕ, List, length, sym, ap, subst, ◌∙◌, arith}
+use Rattle.std.proofs.Common.{◌≡◌, ◌≤◌, ℕ, List, length, sym, ap, subst, arith}
 use Rattle.std.specs.Prelude.{Result, Ok, IfOk}
 use Rattle.std.proofs.lemmas.Result.{IfOk-weaker}
 use Rattle.piece_ring.specs.Flat.{flat}
@@ -75,15 +75,4 @@ module _ {S : Type 0} (characters : S → List ℕ) (failures : S → ℕ) (hone
       premise = (λ h. reads.already (same.premise.0 h), λ h. same.premise.1 (reads.still h));
       stands = ground_through a b c reads.stands same.stands;
       no_fewer = omega (arith, reads.no_fewer, same.no_fewer);
-    }
-
-    pub reads_on : OnlyReads characters failures honest same_ground a b
-        → OnlyReads characters failures honest same_ground b c → OnlyReads characters failures honest same_ground a c
-    reads_on first second = record {
-      as_long = second.as_long ∙ first.as_long;
-      same = λ h. second.same (first.still h) ∙ first.same h;
-      still = λ h. second.still (first.still h);
-      already = λ h. first.already (second.already h);
-      stands = ground_through a b c first.stands second.stands;
-      no_fewer = omega (arith, first.no_fewer, second.no_fewer);
     }

@@ -3,12 +3,11 @@
 ghost use Rattle.std.specs.Prelude.{ℕ, ◌≡◌, ◌+◌, ◌-◌, ◌<◌, ◌≤◌, ◌∷◌, [], ◌++◌, ◌^◌, length, Some, slice_get, IfOk};
 ghost use Rattle.std.specs.Prelude.{OnErr, take};
 ghost use Rattle.piece_ring.specs.BackCursor.{IsBackCursor, text_before};
-ghost use Rattle.piece_ring.specs.declared.place.Seam.{Seam as ASeam};
 ghost use Rattle.piece_ring.specs.Flat.{flat, relooked_piece, IsWhole};
 ghost use Rattle.piece_ring.specs.Finger.{IsFingerAt, IsSettledAt, fingered};
 ghost use Rattle.piece_ring.specs.Merging.{Continues, IsMergedAt, UnitesAtMost};
 ghost use Rattle.piece_ring.specs.Nodes.{places, pieces, with_put_in, with_range};
-ghost use Rattle.piece_ring.specs.Place.{pieces_of, text_of, IsSeam, IsFound, IsPlace};
+ghost use Rattle.piece_ring.specs.Place.{pieces_of, text_of, IsSeam, IsFound, IsPlace, IsOpenedAt};
 ghost use Rattle.piece_ring.specs.PieceList.{IsPieceList, IsStretch};
 ghost use Rattle.piece_ring.specs.Text.{inserted, deleted, stretch, looks_changed};
 
@@ -252,12 +251,8 @@ impl PieceList {
     fn divide(&mut self, pos: u32, found: Found, spare: Spare) -> Seam
         requires found { IsFound self.old.chain.nodes pos found }
         requires inside { found.before.pos < pos }
-        ensures same { text_of self.new.chain.nodes ≡ text_of self.old.chain.nodes }
         ensures long { self.new.len ≡ self.old.len }
-        ensures seam { IsSeam self.new.chain.nodes result }
-        ensures at { result.pos ≡ pos }
-        ensures kept { (s : ASeam) → s.pos ≤ pos → IsSeam self.old.chain.nodes s
-            → IsSeam self.new.chain.nodes s }
+        ensures opened { IsOpenedAt self.old.chain.nodes self.new.chain.nodes pos result }
     {
         let Seam { at, index, pos: _ } = found.after;
         let keep = pos - found.before.pos;
@@ -308,12 +303,8 @@ impl PieceList {
     /// The seam at `pos`, with the spare node to cut a piece there.
     fn seam_with(&mut self, pos: u32, spare: Spare) -> Seam
         requires { pos ≤ self.old.len }
-        ensures same { text_of self.new.chain.nodes ≡ text_of self.old.chain.nodes }
         ensures long { self.new.len ≡ self.old.len }
-        ensures seam { IsSeam self.new.chain.nodes result }
-        ensures at { result.pos ≡ pos }
-        ensures kept { (s : ASeam) → s.pos ≤ pos → IsSeam self.old.chain.nodes s
-            → IsSeam self.new.chain.nodes s }
+        ensures opened { IsOpenedAt self.old.chain.nodes self.new.chain.nodes pos result }
     {
         match self.place(pos) {
             RingPlace::Between(seam) => seam,

@@ -15,7 +15,7 @@ use Rattle.desktop_laws.specs.SearchLaws.{start_within, found_as}
 use Rattle.desktop_laws.specs.KeyLaws.{main_small}
 use Rattle.desk_core.specs.Kept.{kept}
 use Rattle.desk_commands.proofs.ReadFirst.{refused_after}
-use Rattle.desk_core.proofs.ReadLemmas.{reads_on}
+use Rattle.char_file.proofs.Reading.{read_on}
 use Rattle.desk_commands.proofs.searches.search.Goals as goal
 
 pub returns-then-is_empty-clause-answered : goal.returns-then-is_empty-clause-answered
@@ -55,7 +55,7 @@ returns-in_default-clause-answered g c =
     let none = eqb-false _ _ (sym c.is_empty.ensures ∙ c.if-is_empty.false) in
     let some : 0 < length pattern = omega (arith, none) in
     refused_after s (λ x. searched x c.args.id) not_found _ _ d
-    (reads_on s.characters s.failures s.honest s.same_ground g.met.S.CharSource.ground_through _ _ _ first
+    (read_on s.characters s.failures s.honest s.same_ground g.met.S.CharSource.ground_through _ _ _ first
     c.in_ok-pos.ensures.reads) c.requires.over known_not_found
     (λ h. searched_lost old d c.args.id pattern (c.in_ok-pattern.ensures.exact h) some
     (found_as (s.characters c.pattern_after.new.source) old c.main_text-text.result.now (kept_main d c.args.id)

@@ -1,6 +1,6 @@
 use Rattle.std.proofs.Common.{◌∙◌, refl}
 use Rattle.desk_core.proofs.PositionLemmas.{offsets_kept}
-use Rattle.desk_core.proofs.ReadLemmas.{reads_on}
+use Rattle.char_file.proofs.Reading.{read_on}
 use Rattle.desk_core.proofs.StretchLemmas.{start_shown}
 use Rattle.desk_input.proofs.BarLemmas.{some_if}
 use Rattle.desk_input.proofs.bars.start_of_row.Goals as goal
@@ -17,7 +17,7 @@ returns-clause-told g c =
           ∙ start_shown _ _ c.main_frame-frame.ensures c.main_text-text.ensures c.text_width.ensures.some
           c.rows_of.ensures.rows c.requires.at.within c.in_ok-begin.ensures.from (begin.exact h) (begin.reads.same h)
           (c.in_ok-cell.ensures.cell.exact (begin.reads.still h)) refl refl;
-      reads = reads_on _ _ _ _ g.met.S.CharSource.ground_through _ _ _ begin.reads c.in_ok-cell.ensures.reads;
+      reads = read_on _ _ _ _ g.met.S.CharSource.ground_through _ _ _ begin.reads c.in_ok-cell.ensures.reads;
       cause = c.in_ok-cell.ensures.cause ∙ begin.cause;
     }
 

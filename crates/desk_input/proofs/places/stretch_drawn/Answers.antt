@@ -7,7 +7,8 @@ use Rattle.desktop_definitions.specs.Seen.{seen}
 use Rattle.desk_core.specs.Kept.{kept}
 use Rattle.desk_core.proofs.PositionLemmas.{drawn_read}
 use Rattle.desk_core.specs.Positions.{IsPosition}
-use Rattle.desk_core.proofs.ReadLemmas.{over_read, reads_on}
+use Rattle.char_file.proofs.Reading.{read_on}
+use Rattle.desk_core.proofs.ReadLemmas.{over_read}
 use Rattle.desk_input.proofs.places.stretch_drawn.Goals as goal
 
 pub text_position-requires-2 : goal.text_position-requires-2
@@ -30,7 +31,7 @@ returns-clause-told g c =
           (last.exact (first.reads.still h)
           ∙ ap (λ (l : List ℕ). text_position (seen l (kept c.args.desk.now)) c.args.id c.args.to.0 c.args.to.1) (first.reads.same h))
           (c.len-len.ensures ∙ ap (λ (t : List Piece). length (flat t)) c.main_text.ensures);
-      reads = reads_on _ _ _ _ g.met.S.CharSource.ground_through _ _ _ first.reads last.reads;
+      reads = read_on _ _ _ _ g.met.S.CharSource.ground_through _ _ _ first.reads last.reads;
       cause = last.cause ∙ first.cause;
     }
 
