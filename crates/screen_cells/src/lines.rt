@@ -20,7 +20,7 @@ use text_frames::{CharSource, Fault, cells_of_row};
 use viewer_tracks::ROWS;
 
 /// Which frame it is: one of so many columns that shows the text of that number from `org` on.
-#[derive(Clone, Copy, PartialEq, Eq)]
+#[derive(Clone, Copy, Debug, PartialEq, Eq)]
 pub(crate) struct FrameKey {
     pub(crate) text: u16,
     pub(crate) org: u32,
@@ -28,7 +28,7 @@ pub(crate) struct FrameKey {
 }
 
 /// Which line it is: in that row of a frame.
-#[derive(Clone, Copy, PartialEq, Eq)]
+#[derive(Clone, Copy, Debug, PartialEq, Eq)]
 pub(crate) struct LineKey {
     pub(crate) frame: FrameKey,
     pub(crate) row: u8,
@@ -42,7 +42,7 @@ pub(crate) struct KeptLine {
 }
 
 /// Which caret it is: before that position of its text, in a frame of so many rows.
-#[derive(Clone, Copy, PartialEq, Eq)]
+#[derive(Clone, Copy, Debug, PartialEq, Eq)]
 pub(crate) struct CaretKey {
     pub(crate) frame: FrameKey,
     pub(crate) rows: u8,
@@ -50,7 +50,7 @@ pub(crate) struct CaretKey {
 }
 
 /// A caret with its cell. None: it isn't shown.
-#[derive(Clone, Copy)]
+#[derive(Clone, Copy, Debug, PartialEq, Eq)]
 pub(crate) struct KeptCaret {
     pub(crate) key: CaretKey,
     pub(crate) cell: Option<(u8, u8)>,
