@@ -19,22 +19,23 @@ SameBut before after number = (n : ℕ) → ¬ (n ≡ number) → after n ≡ be
 
 module _ (before after : ℕ → Text ℕ) (number : ℕ) (same : SameBut before after number) where
   -- a caret of another text is where it was
-  pub caret_stays : (caret : Option KeptCaret) (kept : KeptCaret) → caret ≡ Some kept → ¬ (kept.key.text ≡ number)
-      → IfSome caret (IsCaretOf before) → IfSome caret (IsCaretOf after)
+  pub caret_stays : (caret : Option KeptCaret) (kept : KeptCaret) → caret ≡ Some kept
+      → ¬ (kept.key.frame.text ≡ number) → IfSome caret (IsCaretOf before) → IfSome caret (IsCaretOf after)
   caret_stays None kept is other told = tt
   caret_stays (Some k) kept is other told =
       let there : k ≡ kept = cc is in
-      let apart : ¬ (k.key.text ≡ number) = subst (λ (c : KeptCaret). ¬ (c.key.text ≡ number)) (sym there) other in
-      told ∙ ap (λ text. caret_at k.key.width k.key.rows text k.key.org (Some k.key.position))
-      (sym (same k.key.text apart))
+      let apart : ¬ (k.key.frame.text ≡ number) =
+      subst (λ (c : KeptCaret). ¬ (c.key.frame.text ≡ number)) (sym there) other in
+      told ∙ ap (λ text. caret_at k.key.frame.width k.key.rows text k.key.frame.org (Some k.key.position))
+      (sym (same k.key.frame.text apart))
 
   -- and so is a line
-  pub line_stays : (slot : Option KeptLine) → ((line : KeptLine) → slot ≡ Some line → ¬ (line.key.text ≡ number))
+  pub line_stays : (slot : Option KeptLine) → ((line : KeptLine) → slot ≡ Some line → ¬ (line.key.frame.text ≡ number))
       → IsSlotOf before slot → IsSlotOf after slot
   line_stays None other told = tt
   line_stays (Some line) other told =
-      told ∙ ap (λ text. row_cells line.key.width text line.key.org line.key.row)
-      (sym (same line.key.text (other line refl)))
+      told ∙ ap (λ text. row_cells line.key.frame.width text line.key.frame.org line.key.row)
+      (sym (same line.key.frame.text (other line refl)))
 
 -- the first n lines were gone through, and the others are as before
 pub record AreForgotten (before after : ℕ → Text ℕ) (old new : List (Option KeptLine)) (n : ℕ) : Type 0 where
@@ -76,12 +77,12 @@ module _ (before after : ℕ → Text ℕ) (old : List (Option KeptLine)) where
 
 -- a caret that is kept stands where that of the same text, frame and position does
 pub caret_same : (texts : ℕ → Text ℕ) (caret : Option KeptCaret) (kept : KeptCaret) (key : CaretKey) (text : Text ℕ)
-    → caret ≡ Some kept → kept.key ≡ key → texts key.text ≡ text → IfSome caret (IsCaretOf texts)
-    → kept.cell ≡ caret_at key.width key.rows text key.org (Some key.position)
+    → caret ≡ Some kept → kept.key ≡ key → texts key.frame.text ≡ text → IfSome caret (IsCaretOf texts)
+    → kept.cell ≡ caret_at key.frame.width key.rows text key.frame.org (Some key.position)
 caret_same texts caret kept key text is named there told =
     let so : IsCaretOf texts kept = subst (λ (c : Option KeptCaret). IfSome c (IsCaretOf texts)) is told in
-    so ∙ ap (λ (k : CaretKey). caret_at k.width k.rows (texts k.text) k.org (Some k.position)) named
-    ∙ ap (λ t. caret_at key.width key.rows t key.org (Some key.position)) there
+    so ∙ ap (λ (k : CaretKey). caret_at k.frame.width k.rows (texts k.frame.text) k.frame.org (Some k.position)) named
+    ∙ ap (λ t. caret_at key.frame.width key.rows t key.frame.org (Some key.position)) there
 
 -- texts of which the lines are, and of which viewers show those that they name
 pub record AreKnown (characters : List ℕ) (shown : List Shown) (lines : KeptLines) : Type 0 where

@@ -20,14 +20,18 @@ use Rattle.screen_cells.specs.declared.lines.KeptLines.{KeptLines}
 
 -- its cells are those of its row
 abbrev pub IsLineOf : (ℕ → Text ℕ) → KeptLine → Type 0
-IsLineOf texts line = line.cells.items ≡ row_cells line.key.width (texts line.key.text) line.key.org line.key.row
+IsLineOf texts line =
+    line.cells.items
+    ≡ row_cells line.key.frame.width (texts line.key.frame.text) line.key.frame.org line.key.row
 
 abbrev pub IsSlotOf : (ℕ → Text ℕ) → Option KeptLine → Type 0
 IsSlotOf texts slot = IfSome slot (IsLineOf texts)
 
 -- its cell is where the caret stands
 abbrev pub IsCaretOf : (ℕ → Text ℕ) → KeptCaret → Type 0
-IsCaretOf texts c = c.cell ≡ caret_at c.key.width c.key.rows (texts c.key.text) c.key.org (Some c.key.position)
+IsCaretOf texts c =
+    c.cell
+    ≡ caret_at c.key.frame.width c.key.rows (texts c.key.frame.text) c.key.frame.org (Some c.key.position)
 
 -- the cells that are kept in a line's place
 abbrev pub kept_cells : Option KeptLine → List ShownCell

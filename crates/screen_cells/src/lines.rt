@@ -19,13 +19,18 @@ use std::vec::Vec;
 use text_frames::{CharSource, Fault, cells_of_row};
 use viewer_tracks::ROWS;
 
-/// Which line it is: of the text of that number, in that row of a frame of so many columns that shows the text from
-/// `org` on.
+/// Which frame it is: one of so many columns that shows the text of that number from `org` on.
 #[derive(Clone, Copy, Debug, PartialEq, Eq)]
-pub(crate) struct LineKey {
+pub(crate) struct FrameKey {
     pub(crate) text: u16,
     pub(crate) org: u32,
     pub(crate) width: u8,
+}
+
+/// Which line it is: in that row of a frame.
+#[derive(Clone, Copy, Debug, PartialEq, Eq)]
+pub(crate) struct LineKey {
+    pub(crate) frame: FrameKey,
     pub(crate) row: u8,
 }
 
@@ -36,13 +41,10 @@ pub(crate) struct KeptLine {
     pub(crate) cells: StripLine,
 }
 
-/// Which caret it is: before that position of the text of that number, in a frame of so many columns and rows that
-/// shows the text from `org` on.
+/// Which caret it is: before that position of its text, in a frame of so many rows.
 #[derive(Clone, Copy, Debug, PartialEq, Eq)]
 pub(crate) struct CaretKey {
-    pub(crate) text: u16,
-    pub(crate) org: u32,
-    pub(crate) width: u8,
+    pub(crate) frame: FrameKey,
     pub(crate) rows: u8,
     pub(crate) position: u32,
 }
@@ -132,8 +134,8 @@ fn rows_above(caret: Option<KeptCaret>, number: u16, position: u32) -> (u32, u8)
         → IsAbove (texts number) position result.0 result.1 }
 {
     match caret {
-        Some(kept) if kept.key.text == number && kept.key.position == position => {
-            (kept.key.org, row_of_cell(kept.cell))
+        Some(kept) if kept.key.frame.text == number && kept.key.position == position => {
+            (kept.key.frame.org, row_of_cell(kept.cell))
         }
         _ => (0, 0),
     }
@@ -173,21 +175,21 @@ fn forget_slot(slot: &mut Slot, number: u16, org: u32, row: u8)
 
 /// Whether a line is kept of a row above that one of a frame that shows its text from `org` on.
 fn is_above(slot: &Slot, org: u32, row: u8) -> bool
-    ensures { IfSome slot.now (λ line. result ≡ ((line.key.org == org) && nat_lt line.key.row row)) }
+    ensures { IfSome slot.now (λ line. result ≡ ((line.key.frame.org == org) && nat_lt line.key.row row)) }
 {
     match slot {
         None => false,
-        Some(line) => line.key.org == org && line.key.row < row,
+        Some(line) => line.key.frame.org == org && line.key.row < row,
     }
 }
 
 /// Whether a line is kept of that text.
 fn is_of(slot: &Slot, number: u16) -> bool
-    ensures { IfSome slot.now (λ line. result ≡ (line.key.text == number)) }
+    ensures { IfSome slot.now (λ line. result ≡ (line.key.frame.text == number)) }
 {
     match slot {
         None => false,
-        Some(line) => line.key.text == number,
+        Some(line) => line.key.frame.text == number,
     }
 }
 
@@ -199,7 +201,7 @@ fn forget_caret(caret: &mut Option<KeptCaret>, number: u16)
     let Some(kept) = *caret else {
         return;
     };
-    if kept.key.text == number {
+    if kept.key.frame.text == number {
         *caret = None;
     }
 }
@@ -217,7 +219,7 @@ pub(crate) fn kept_cells(slot: &Slot) -> &[Filled]
 /// Whether the line that is kept is the one of that key.
 fn is_kept(slot: &Slot, key: LineKey) -> bool
     ensures cells { result ≡ true → (texts : ℕ → AText ℕ) → IsSlotOf texts slot.now
-        → kept_cells slot.now ≡ row_cells key.width (texts key.text) key.org key.row }
+        → kept_cells slot.now ≡ row_cells key.frame.width (texts key.frame.text) key.frame.org key.row }
     ensures none { result ≡ false → ¬ HasLine key slot.now }
 {
     match slot {
@@ -245,9 +247,11 @@ pub(crate) fn keep_menu<S: CharSource>(
     ensures cause { CountsFault result (S.failures source.old) (S.failures source.new) }
 {
     let key = LineKey {
-        text: shown.menu_text,
-        org: 0,
-        width,
+        frame: FrameKey {
+            text: shown.menu_text,
+            org: 0,
+            width,
+        },
         row: 0,
     };
     if is_kept(slot, key) {
@@ -286,9 +290,11 @@ pub(crate) fn keep_row<S: CharSource>(
 {
     let frame = walk.shown.frame;
     let key = LineKey {
-        text: frame.text,
-        org: frame.org,
-        width: w,
+        frame: FrameKey {
+            text: frame.text,
+            org: frame.org,
+            width: w,
+        },
         row,
     };
     if is_kept(slot, key) {
@@ -336,9 +342,11 @@ pub(crate) fn caret_cell<S: CharSource>(
         return Ok(None);
     };
     let key = CaretKey {
-        text: shown.frame.text,
-        org: shown.frame.org,
-        width: w,
+        frame: FrameKey {
+            text: shown.frame.text,
+            org: shown.frame.org,
+            width: w,
+        },
         rows: h,
         position,
     };

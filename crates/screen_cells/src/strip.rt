@@ -212,7 +212,7 @@ pub(crate) fn track_strip<'a, S: CharSource>(
         slot,
         caret,
         source,
-    )?;
+    );
     *kept = Some(walk);
-    Ok(strip)
+    strip
 }

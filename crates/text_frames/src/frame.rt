@@ -3,7 +3,7 @@ ghost use Rattle.std.specs.Prelude.{◌≡◌, ◌⊎◌, ◌+◌, ◌^◌, ◌<
 ghost use Rattle.std.specs.Prelude.{IfOk, IfSome, OnOk, OnErr, if◌then◌else◌};
 ghost use Rattle.readers_scanners.specs.Words.{CountsFault, OnlyReads, flat, AreWithin, bytes};
 ghost use Rattle.text_frames.specs.Cells.{IsPositionAt, IsCellOf};
-ghost use Rattle.text_frames.specs.Rules.{moved, changed_org, shown_org, is_in_rows, IsFollowed, IsBrought};
+ghost use Rattle.text_frames.specs.Rules.{moved, changed_org, shown_org, IsFollowed, IsBrought};
 
 use crate::lines::{ends_between, line_above, line_start};
 use crate::place::{self, cell_in, column_below};
@@ -230,33 +230,14 @@ pub fn org_to_show<S: CharSource>(
     ensures reads { OnlyReads S.characters S.failures S.honest S.same_ground source.old source.new }
     ensures cause { CountsFault result (S.failures source.old) (S.failures source.new) }
 {
-    let seen = is_shown(org, text, h, p, source)?;
-    if seen {
+    if p < org {
+        let start = line_above(text, h / 2, p, source)?;
+        return Ok(start);
+    }
+    let ends = ends_between(text, org, h, p, source)?;
+    if ends < h as u32 {
         return Ok(org);
     }
     let above = line_above(text, h / 2, p, source)?;
     Ok(above)
-}
-
-/// Whether the line of a position is in one of the `h` rows of a frame that begins at `org`. `Fault`: the source failed
-/// in this call.
-fn is_shown<S: CharSource>(
-    org: u32,
-    text: &Text,
-    h: u8,
-    p: u32,
-    source: &mut S,
-) -> Result<bool, Fault>
-    requires place { p ≤ length (flat text.now) }
-    requires offsets { AreWithin (length (S.characters source.old)) (flat text.now) }
-    ensures exact { IfOk result (λ seen. S.honest source.old
-        → seen ≡ is_in_rows (bytes (S.characters source.old) (flat text.now)) h org p) }
-    ensures reads { OnlyReads S.characters S.failures S.honest S.same_ground source.old source.new }
-    ensures cause { CountsFault result (S.failures source.old) (S.failures source.new) }
-{
-    if p < org {
-        return Ok(false);
-    }
-    let ends = ends_between(text, org, h, p, source)?;
-    Ok(ends < h as u32)
 }

@@ -11,9 +11,7 @@ returns-in-Some-caret_kept-clause-cell g c = λ h texts numbered told.
     let main = contents (g.S.CharSource.characters c.args.source.now) (flat s.main.now) in
     caret_same texts c.args.caret.now c.in-Some-caret_kept.kept
     (record {
-      text = s.frame.now.text;
-      org = s.frame.now.org;
-      width = c.args.w;
+      frame = record { text = s.frame.now.text; org = s.frame.now.org; width = c.args.w };
       rows = c.args.h;
       position = c.in-Some.position;
     }) main c.in-Some-caret_kept.ensures.some.0 c.in-Some-caret_kept.ensures.some.1 numbered.main told

@@ -35,14 +35,13 @@ returns-then-index-shown-clause-strip g c =
     c.filler_strip-then-index-shown.ensures.strip
 
 pub returns-clause-strip : goal.returns-clause-strip
-returns-clause-strip g c = λ h texts numbered line_told caret_told column.
+returns-clause-strip g c =
     let columns = c.args.tracks.now in
     let characters = g.S.CharSource.characters c.args.source.now in
     let viewers = map (as_read characters) c.args.shown.now in
     let id = c.in-Some.viewer.0 in let walk = c.walk_of-walk.result in
-    c.in_ok-strip.ensures.strip h texts
-    (all_got (IsNumbered texts characters) c.args.shown.now walk.index walk.shown
-    c.walk_of-walk.ensures.walk.there numbered)
+    IfOk-weaker c.viewer_strip-strip.result _ _ (λ strip fact h texts numbered line_told caret_told column.
+    fact h texts (all_got (IsNumbered texts characters) _ _ _ c.walk_of-walk.ensures.walk.there numbered)
     line_told caret_told column
     ∙ (λ i. viewer_cell (as_read characters walk.shown) (c.width.ensures.value i)
     (c.place_of-place.ensures.bottom i) (c.place_of-place.ensures.top i) column c.args.y)
@@ -50,32 +49,17 @@ returns-clause-strip g c = λ h texts numbered line_told caret_told column.
     ap (seen_cell columns viewers c.args.track column c.args.y) (sym c.in-Some.ensures.seen)
     ∙ ap (shown_cell columns c.args.track id column c.args.y)
     (found_first (λ (v : Viewer). v.id == id) (as_read characters) c.args.shown.now walk.index walk.shown
-    (c.walk_of-walk.ensures.index ∙ c.index_of-index.ensures) c.walk_of-walk.ensures.walk.there))
-
-pub returns-in_err-strip-clause-slot : goal.returns-in_err-strip-clause-slot
-returns-in_err-strip-clause-slot g c = λ h texts numbered told.
-    let walk = c.walk_of-walk.result in
-    c.in_err-strip.ensures.slot h texts
-    (all_got (IsNumbered texts (g.S.CharSource.characters c.args.source.now)) c.args.shown.now walk.index walk.shown
-    c.walk_of-walk.ensures.walk.there numbered) told
+    (c.walk_of-walk.ensures.index ∙ c.index_of-index.ensures) c.walk_of-walk.ensures.walk.there)))
+    c.viewer_strip-strip.ensures.strip
 
 pub returns-clause-slot : goal.returns-clause-slot
 returns-clause-slot g c = λ h texts numbered told.
-    let walk = c.walk_of-walk.result in
-    c.in_ok-strip.ensures.slot h texts
-    (all_got (IsNumbered texts (g.S.CharSource.characters c.args.source.now)) c.args.shown.now walk.index walk.shown
-    c.walk_of-walk.ensures.walk.there numbered) told
-
-pub returns-in_err-strip-clause-caret : goal.returns-in_err-strip-clause-caret
-returns-in_err-strip-clause-caret g c = λ h texts numbered told.
-    let walk = c.walk_of-walk.result in
-    c.in_err-strip.ensures.caret h texts
-    (all_got (IsNumbered texts (g.S.CharSource.characters c.args.source.now)) c.args.shown.now walk.index walk.shown
+    c.viewer_strip-strip.ensures.slot h texts
+    (all_got (IsNumbered texts (g.S.CharSource.characters c.args.source.now)) _ _ _
     c.walk_of-walk.ensures.walk.there numbered) told
 
 pub returns-clause-caret : goal.returns-clause-caret
 returns-clause-caret g c = λ h texts numbered told.
-    let walk = c.walk_of-walk.result in
-    c.in_ok-strip.ensures.caret h texts
-    (all_got (IsNumbered texts (g.S.CharSource.characters c.args.source.now)) c.args.shown.now walk.index walk.shown
+    c.viewer_strip-strip.ensures.caret h texts
+    (all_got (IsNumbered texts (g.S.CharSource.characters c.args.source.now)) _ _ _
     c.walk_of-walk.ensures.walk.there numbered) told
