@@ -6,6 +6,7 @@ use Rattle.desktop_definitions.specs.declared.call.Call.{Call}
 use Rattle.desktop_definitions.specs.Limits.{bad_value}
 use Rattle.desktop_definitions.specs.Needs.{needs}
 use Rattle.desktop_definitions.specs.Desktop.{Desktop, KeptDesktop}
+use Rattle.desktop_definitions.specs.Sound.{IsOver}
 use Rattle.desktop_definitions.specs.Call.{text_called}
 use Rattle.desktop_definitions.specs.Looks.{font_set, colour_set, offset_set}
 use Rattle.desktop_definitions.specs.Effects.{document_opened, file_opened, put_away, viewer_copied, viewer_grown}
@@ -23,6 +24,11 @@ use Rattle.desk_commands.specs.declared.calls.ViewerCommand.TheVariants.{Close, 
 pub record IsCall (d : KeptDesktop) (call : Call) : Type 0 where
   pub placed : IsOnTop call.viewer d.columns
   pub within : call.after ≤ length (flat (text_called d call.viewer call.in_menu))
+
+-- A viewer in a track that is shown, of a desktop over these characters.
+pub record IsViewerOnTop (characters : List ℕ) (d : KeptDesktop) (v : ℕ) : Type 0 where
+  pub placed : IsOnTop v d.columns
+  pub over : IsOver characters d
 
 -- with a name
 unfoldable pub done_with_name : Desktop → NameCommand → List ℕ → Result Desktop ℕ

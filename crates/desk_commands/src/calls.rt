@@ -8,7 +8,7 @@ ghost use Rattle.desktop_definitions.specs.Call.{number_of, names_of};
 ghost use Rattle.desktop_laws.specs.CallLaws.{kept_place, kept_menu};
 ghost use Rattle.desktop_definitions.specs.Commands.{commanded, called};
 ghost use Rattle.desktop_definitions.specs.Outcome.{reply_codes as known_codes};
-ghost use Rattle.desk_commands.specs.Calls.{IsCall, done_with_name, done_with_number, done_with_viewer};
+ghost use Rattle.desk_commands.specs.Calls.{IsCall, IsViewerOnTop, done_with_name, done_with_number, done_with_viewer};
 ghost use Rattle.desk_core.specs.Words.{CountsFault, OnlyReads, flat, IsOnTop, needs, seen, IsKeptWhole, IsOver, kept};
 ghost use Rattle.desk_core.specs.Words.{Settles, Uses};
 ghost use Rattle.desk_commands.specs.Words.{no_viewer, version_number, given, files_deleted};
@@ -322,8 +322,7 @@ fn do_with_viewer<S: CharSource>(
     id: u16,
     source: &mut S,
 ) -> StepResult
-    requires placed { IsOnTop id (kept desk.old).columns }
-    requires over { IsOver (S.characters source.old) (kept desk.old) }
+    requires { IsViewerOnTop (S.characters source.old) (kept desk.old) id }
     ensures answered { IfOk result (Settles S.CharSource (λ d. done_with_viewer d command id)
         source.old source.new (kept desk.old) (kept desk.new)) }
     ensures uses { Uses S.CharSource result source.old source.new }

@@ -4,6 +4,7 @@ ghost use Rattle.viewer_tracks.specs.Display.{left_of};
 ghost use Rattle.desktop_definitions.specs.Effects.{put_away, brought_back};
 ghost use Rattle.desktop_laws.specs.ClosingLaws.{place_kept};
 ghost use Rattle.desk_core.specs.Words.{IsOnTop, id_number, needs, IsOver, kept, Settles, Uses};
+ghost use Rattle.desk_commands.specs.Calls.{IsViewerOnTop};
 ghost use Rattle.desk_commands.specs.Words.{Track as ATrack, no_viewer, IsKeptPlace};
 
 use char_file::CharSource;
@@ -33,8 +34,7 @@ fn viewer_kept(kept: Option<Kept>) -> Option<ViewerId>
 /// A viewer goes from the display with what is marked in it, and is kept with its place. The one that was kept
 /// before is gone, with the texts that nobody else shows.
 pub fn close_viewer<S: CharSource>(desk: &mut Desk, id: u16, source: &mut S) -> StepResult
-    requires placed { IsOnTop id (kept desk.old).columns }
-    requires over { IsOver (S.characters source.old) (kept desk.old) }
+    requires { IsViewerOnTop (S.characters source.old) (kept desk.old) id }
     ensures answered { IfOk result (Settles S.CharSource (λ d. Ok (put_away d id))
         source.old source.new (kept desk.old) (kept desk.new)) }
     ensures uses { Uses S.CharSource result source.old source.new }

@@ -8,6 +8,7 @@ ghost use Rattle.desktop_definitions.specs.Gesture.{tool_opened};
 ghost use Rattle.desktop_laws.specs.OpeningOnLaws.{IsPlaceOf};
 ghost use Rattle.desk_core.specs.Words.{flat, AreWithin, Text as AText, ROWS, COLUMNS, IsOnTop, most_written, dropped};
 ghost use Rattle.desk_core.specs.Words.{seen, seen_text, IsKeptWhole, IsOver, kept, Settles, SettlesBringing, Uses};
+ghost use Rattle.desk_commands.specs.Calls.{IsViewerOnTop};
 ghost use Rattle.desk_commands.specs.Words.{AreLooks, named, file_of, plain, more_written, menu_line, opening, fits};
 
 use crate::closings::track_from;
@@ -237,8 +238,7 @@ pub fn copy_viewer<S: CharSource>(
     id: u16,
     source: &mut S,
 ) -> StepResult
-    requires placed { IsOnTop id (kept desk.old).columns }
-    requires over { IsOver (S.characters source.old) (kept desk.old) }
+    requires { IsViewerOnTop (S.characters source.old) (kept desk.old) id }
     ensures answered { IfOk result (Settles S.CharSource (λ d. viewer_copied d id)
         source.old source.new (kept desk.old) (kept desk.new)) }
     ensures uses { Uses S.CharSource result source.old source.new }
@@ -270,8 +270,7 @@ pub fn grow_viewer<S: CharSource>(
     id: u16,
     source: &mut S,
 ) -> StepResult
-    requires placed { IsOnTop id (kept desk.old).columns }
-    requires over { IsOver (S.characters source.old) (kept desk.old) }
+    requires { IsViewerOnTop (S.characters source.old) (kept desk.old) id }
     ensures answered { IfOk result (Settles S.CharSource (λ d. viewer_grown d id)
         source.old source.new (kept desk.old) (kept desk.new)) }
     ensures uses { Uses S.CharSource result source.old source.new }

@@ -2,8 +2,9 @@
 ghost use Rattle.std.specs.Prelude.{◌≡◌, ◌+◌, ◌<◌, ◌≤◌, length, take, slice_range, IfOk, IfSome, Ok, if◌then◌else◌};
 ghost use Rattle.desktop_definitions.specs.Effects.{found_at, pattern_after, searched};
 ghost use Rattle.desktop_laws.specs.SearchLaws.{start_in};
-ghost use Rattle.desk_core.specs.Words.{CountsFault, OnlyReads, flat, AreWithin, bytes, IsOnTop, needs, seen, IsOver};
+ghost use Rattle.desk_core.specs.Words.{CountsFault, OnlyReads, flat, AreWithin, bytes, needs, seen, IsOver};
 ghost use Rattle.desk_core.specs.Words.{kept, Settles, Uses};
+ghost use Rattle.desk_commands.specs.Calls.{IsViewerOnTop};
 ghost use Rattle.desk_commands.specs.Words.{no_caret, most_pattern, put_at_caret};
 
 use arrayvec::ArrayVec;
@@ -112,8 +113,7 @@ fn pattern_after<S: CharSource>(desk: &Desk, source: &mut S) -> Result<Pattern, 
 /// else from the beginning, and is shown. Refused without a pattern, and where it isn't found; the old pattern then
 /// stays.
 pub fn search<S: CharSource>(desk: &mut Desk, id: u16, source: &mut S) -> StepResult
-    requires placed { IsOnTop id (kept desk.old).columns }
-    requires over { IsOver (S.characters source.old) (kept desk.old) }
+    requires { IsViewerOnTop (S.characters source.old) (kept desk.old) id }
     ensures answered { IfOk result (Settles S.CharSource (λ d. searched d id)
         source.old source.new (kept desk.old) (kept desk.new)) }
     ensures uses { Uses S.CharSource result source.old source.new }

@@ -4,8 +4,9 @@ ghost use Rattle.command_table.specs.Deciding.{is_among, can_be_deleted};
 ghost use Rattle.desktop_laws.specs.StoreLaws.{can_go};
 ghost use Rattle.desktop_definitions.specs.Effects.{menu_name, stored, stored_as, without_file};
 ghost use Rattle.desk_commands.specs.Lines.{bytes_of_lines};
-ghost use Rattle.desk_core.specs.Words.{CountsFault, OnlyReads, IsOnTop, most_held, unless, lengths, seen, seen_table};
+ghost use Rattle.desk_core.specs.Words.{CountsFault, OnlyReads, most_held, unless, lengths, seen, seen_table};
 ghost use Rattle.desk_core.specs.Words.{IsOver, keys_of, kept, Settles, Uses};
+ghost use Rattle.desk_commands.specs.Calls.{IsViewerOnTop};
 ghost use Rattle.desk_commands.specs.Words.{files_deleted, deleting_line, too_many_files, has_room, main_of};
 
 use crate::log::{LogLine, deleting_line, log_line, log_lines, storing_line, total};
@@ -113,8 +114,7 @@ pub fn delete_files<S: CharSource>(
 /// A viewer's main text becomes the file that the first symbol of its menu names, with a line of the log. Refused
 /// where that symbol is no name, and where there is no room for one more file.
 pub fn store<S: CharSource>(desk: &mut Desk, alloc: Global, id: u16, source: &mut S) -> StepResult
-    requires placed { IsOnTop id (kept desk.old).columns }
-    requires over { IsOver (S.characters source.old) (kept desk.old) }
+    requires { IsViewerOnTop (S.characters source.old) (kept desk.old) id }
     ensures answered { IfOk result (Settles S.CharSource (λ d. stored d id)
         source.old source.new (kept desk.old) (kept desk.new)) }
     ensures uses { Uses S.CharSource result source.old source.new }
@@ -127,8 +127,7 @@ pub fn store<S: CharSource>(desk: &mut Desk, alloc: Global, id: u16, source: &mu
 
 /// The first symbol of a viewer's menu. None where it is no name. Fault: the source failed in this call.
 fn menu_name<S: CharSource>(desk: &Desk, id: u16, source: &mut S) -> Result<Option<Name>, Fault>
-    requires placed { IsOnTop id (kept desk.now).columns }
-    requires over { IsOver (S.characters source.old) (kept desk.now) }
+    requires { IsViewerOnTop (S.characters source.old) (kept desk.now) id }
     ensures exact { IfOk result (λ name. S.honest source.old
         → name ≡ menu_name (seen (S.characters source.old) (kept desk.now)) id) }
     ensures reads { OnlyReads S.characters S.failures S.honest S.same_ground source.old source.new }
@@ -147,8 +146,7 @@ fn store_as<S: CharSource>(
     name: &Name,
     source: &mut S,
 ) -> StepResult
-    requires placed { IsOnTop id (kept desk.old).columns }
-    requires over { IsOver (S.characters source.old) (kept desk.old) }
+    requires { IsViewerOnTop (S.characters source.old) (kept desk.old) id }
     ensures answered { IfOk result (Settles S.CharSource
         (λ d. unless (has_room d.files name.now) too_many_files (Ok (stored_as d name.now (main_of d id))))
         source.old source.new (kept desk.old) (kept desk.new)) }

@@ -36,7 +36,7 @@ small version d whole parts =
     let shaped = sound.shaped in
     record {
       numbers = subst (λ (numbers : List ℕ). All InWord numbers) (sym (keys_of-map_values (seen_text []) d.texts))
-          parts.numbers;
+          parts.tables.numbers;
       ids = parts.ids;
       user = parts.user;
       system = parts.system;
@@ -64,18 +64,18 @@ desktop_fits version d whole parts =
     (keys_of-map_values (seen_text []) d.files) shaped.files.rising in
     let texts : FitsTexts d.written most_held d.texts = (
       omega (arith, few),
-      texts_fit d.written most_held d.texts parts.numbers numbers
-          (table_fits [] d.written d.texts parts.texts within.texts looks.texts) (omega (arith, low)) (omega arith),
+      texts_fit d.written most_held d.texts parts.tables.numbers numbers
+          (table_fits [] d.written d.texts parts.tables.texts within.texts looks.texts) (omega (arith, low)) (omega arith),
     ) in
     let files : FitsFiles d.written (most_held - totals d.texts) d.files = (
       short.files,
       files_fit d.written (most_held - totals d.texts) d.files short.names rising
-          (table_fits [] d.written d.files parts.files within.files looks.files) (omega (arith, low)) (omega arith),
+          (table_fits [] d.written d.files parts.tables.files within.files looks.files) (omega (arith, low)) (omega arith),
     ) in
     let copied = pieces_fit d.written (most_held - totals d.texts - totals d.files) d.copied
-    (text_fits [] d.written d.copied parts.copied within.copied looks.copied) (omega (arith, low)) (omega arith) in
+    (text_fits [] d.written d.copied parts.tables.copied within.copied looks.copied) (omega (arith, low)) (omega arith) in
     let deleted = pieces_fit d.written (most_held - totals d.texts - totals d.files - total d.copied) d.deleted
-    (text_fits [] d.written d.deleted parts.deleted within.deleted looks.deleted) (omega (arith, low)) (omega arith) in
+    (text_fits [] d.written d.deleted parts.tables.deleted within.deleted looks.deleted) (omega (arith, low)) (omega arith) in
     let viewers = viewers_fit version (seen_table [] d.texts) d.viewers d.columns d.kept d.caret d.selections are in
     let user = column_fits version (seen_table [] d.texts) d.viewers d.columns d.kept d.caret d.selections are User in
     let system =

@@ -24,7 +24,8 @@ use Rattle.desktop_laws.specs.PlaceLaws.{at_same, on_top_placed}
 use Rattle.desktop_laws.specs.ViewLaws.{placed_there}
 use Rattle.desk_image.specs.declared.picture.Ranked.{Ranked}
 use Rattle.desk_image.specs.declared.picture.ViewerPicture.{ViewerPicture}
-use Rattle.desk_image.specs.Image.{Image, image_of, caret_in, ranked_in, picture_of}
+use Rattle.desktop_definitions.specs.Shown.{caret_position}
+use Rattle.desk_image.specs.Image.{Image, image_of, ranked_in, picture_of}
 
 -- ---- columns
 
@@ -58,7 +59,7 @@ same_viewers caret other selections others viewers those same =
 
 -- What two desktops with the same pictures have in common in a viewer.
 pub record SameIn (caret other : Option Caret) (selections others : List Selection) (v : ℕ) : Type 0 where
-  pub caret_same : caret_in caret v ≡ caret_in other v
+  pub caret_same : caret_position v caret ≡ caret_position v other
   pub selection_same : ranked_in 1 selections v ≡ ranked_in 1 others v
 
 first_picture : (p q : ViewerPicture) (ps qs : List ViewerPicture) → p ∷ ps ≡ q ∷ qs → p ≡ q
@@ -86,7 +87,7 @@ same_in caret other selections others v (e ∷ viewers) same found = (elim (is_a
 
 -- ---- the caret
 
-caret_there : (c : Caret) → caret_in (Some c) c.viewer ≡ Some c.position
+caret_there : (c : Caret) → caret_position c.viewer (Some c) ≡ Some c.position
 caret_there c = ap (λ b. let o : Option ℕ = cond b (Some c.position) None in o) (eq-eqb c.viewer c.viewer refl)
 
 -- where a caret stands says which it is
@@ -98,8 +99,8 @@ caret_is c other true here same =
     λ k. record { viewer = sym viewer k; position = sym position k }
 caret_is c other false here same = absurd cc
 
-pub same_caret : (caret other : Option Caret) → ((c : Caret) → caret ≡ Some c → caret_in caret c.viewer
-    ≡ caret_in other c.viewer) → ((c : Caret) → other ≡ Some c → caret_in caret c.viewer ≡ caret_in other c.viewer)
+pub same_caret : (caret other : Option Caret) → ((c : Caret) → caret ≡ Some c → caret_position c.viewer caret
+    ≡ caret_position c.viewer other) → ((c : Caret) → other ≡ Some c → caret_position c.viewer caret ≡ caret_position c.viewer other)
     → caret ≡ other
 same_caret None None here there = refl
 same_caret None (Some c) here there = let same = there c refl in let is = caret_there c in absurd (cc (same, is))

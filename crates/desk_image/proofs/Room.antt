@@ -297,13 +297,13 @@ short_image version d whole parts =
     record {
       pattern = shaped.pattern;
       texts = omega (arith, viewers, texts, same);
-      texts_some = parts.texts;
+      texts_some = parts.tables.texts;
       names = subst (λ (names : List (List ℕ)). All (λ name. IsTrue (is_name name)) names)
           (keys_of-map_values (seen_text []) d.files) shaped.files.names;
       files = omega (arith, files, same_files);
-      files_some = parts.files;
-      copied = parts.copied;
-      deleted = parts.deleted;
+      files_some = parts.tables.files;
+      copied = parts.tables.copied;
+      deleted = parts.tables.deleted;
       low = omega (arith, low, sum);
       viewers = omega (arith, viewers, pictures);
       user = low_column d.columns.user shaped.places.columns_hold.user;

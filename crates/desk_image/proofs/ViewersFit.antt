@@ -34,7 +34,8 @@ use Rattle.desktop_laws.specs.ViewLaws.{viewer_at_place, few_selections}
 use Rattle.desk_image.specs.declared.picture.Ranked.{Ranked}
 use Rattle.desk_image.specs.declared.picture.ViewerPicture.{ViewerPicture}
 use Rattle.desk_image.specs.declared.limits.TheConstants.{MOST_VIEWERS}
-use Rattle.desk_image.specs.Image.{InWord, InLong, InId, has_overlays, deepest, caret_in, ranked_in, picture_of}
+use Rattle.desktop_definitions.specs.Shown.{caret_position}
+use Rattle.desk_image.specs.Image.{InWord, InLong, InId, has_overlays, deepest, ranked_in, picture_of}
 use Rattle.desk_image.specs.Fitting.{Chain, FitsRanked, FitsViewer, FitsViewers, FitsEntry, FitsTrack, FitsLevel}
 use Rattle.desk_image.specs.Fitting.{FitsStack, FitsKept, after_viewer, above, overlaid}
 use Rattle.desk_image.proofs.Lists.{all_reversed}
@@ -100,7 +101,7 @@ FitsAlone version p = InId version p.id × (InWord p.viewer.menu × (InWord p.vi
     × (IfSome p.caret InLong × IfSome p.selection FitsRanked))))
 
 caret_fits : (caret : Option Caret) (v : ℕ) → ForSome caret (λ c. c.position ≤ most_held)
-    → IfSome (caret_in caret v) InLong
+    → IfSome (caret_position v caret) InLong
 caret_fits None v small = tt
 caret_fits (Some c) v small =
     let low : c.position ≤ most_held = small c refl in

@@ -22,6 +22,7 @@ use Rattle.desktop_definitions.specs.declared.viewer.Viewer.{Viewer}
 use Rattle.desktop_definitions.specs.declared.viewer.Caret.{Caret}
 use Rattle.desktop_definitions.specs.declared.viewer.Selection.{Selection}
 use Rattle.desktop_definitions.specs.declared.viewer.Kept.{Kept}
+use Rattle.desktop_definitions.specs.Shown.{caret_position}
 use Rattle.desktop_definitions.specs.Tables.{Texts, Files}
 use Rattle.desktop_definitions.specs.Desktop.{KeptDesktop}
 use Rattle.desktop_definitions.specs.Sound.{IsKeptWhole}
@@ -77,11 +78,6 @@ image_with front held viewers shown = record {
 
 -- ---- what an image says of a desktop
 
--- where the caret stands in viewer v
-abbrev pub caret_in : Option Caret → ℕ → Option ℕ
-caret_in None v = None
-caret_in (Some c) v = if c.viewer == v then Some c.position else None
-
 -- the selection in viewer v and its rank, the first of these having the rank n
 abbrev pub ranked_in : ℕ → List Selection → ℕ → Option Ranked
 ranked_in n [] v = None
@@ -92,7 +88,7 @@ abbrev pub picture_of : Option Caret → List Selection → ℕ × Viewer → Vi
 picture_of caret selections v = record {
   id = v.0;
   viewer = v.1;
-  caret = caret_in caret v.0;
+  caret = caret_position v.0 caret;
   selection = ranked_in 1 selections v.0;
 }
 
@@ -227,15 +223,19 @@ InId version n = n < number_of_ids version
 abbrev pub AreSome : List Piece → Type 0
 AreSome pieces = All (λ p. 0 < p.len) pieces
 
--- What a desktop has that an image of this version can say: no piece is empty, the numbers of texts and the ids of
--- viewers are small, and no column has more tracks than the version knows. In the newest version every desktop in memory
--- has this by the types of its parts.
-pub record IsSpellable (version : ℕ) (d : KeptDesktop) : Type 0 where
+-- No piece of a desktop is empty, and the numbers of its texts are small.
+pub record AreSpellable (d : KeptDesktop) : Type 0 where
   pub texts : All AreSome (values_of d.texts)
   pub files : All AreSome (values_of d.files)
   pub copied : AreSome d.copied
   pub deleted : AreSome d.deleted
   pub numbers : All InWord (keys_of d.texts)
+
+-- What a desktop has that an image of this version can say: its tables are such, the ids of viewers are small, and no
+-- column has more tracks than the version knows. In the newest version every desktop in memory has this by the types of
+-- its parts.
+pub record IsSpellable (version : ℕ) (d : KeptDesktop) : Type 0 where
+  pub tables : AreSpellable d
   pub ids : All (InId version) (keys_of d.viewers)
   pub user : length (stack_of d.columns User) ≤ deepest version
   pub system : length (stack_of d.columns System) ≤ deepest version

@@ -24,7 +24,8 @@ use Rattle.desktop_laws.specs.FewLaws.{all_any}
 use Rattle.desktop_laws.specs.PlaceLaws.{at_same, at_other}
 use Rattle.desk_image.specs.declared.picture.Ranked.{Ranked}
 use Rattle.desk_image.specs.declared.picture.ViewerPicture.{ViewerPicture}
-use Rattle.desk_image.specs.Image.{caret_in, ranked_in, picture_of}
+use Rattle.desktop_definitions.specs.Shown.{caret_position}
+use Rattle.desk_image.specs.Image.{ranked_in, picture_of}
 use Rattle.desk_imaging.specs.Images.{viewers_of, first_some, caret_at, caret_of, with_rank, selected_at, selected_as}
 use Rattle.desk_imaging.specs.Images.{most_ranks, selections_of}
 
@@ -96,7 +97,7 @@ found_one viewers v some = by_case (viewer_in viewers v) refl some where
 abbrev at_position : ℕ → Option ℕ → Option Caret
 at_position v o = option_map (λ n. record { viewer = v; position = n }) o
 
-caret_given : (caret : Option Caret) (v : ℕ) (c : Caret) → at_position v (caret_in caret v) ≡ Some c → caret ≡ Some c
+caret_given : (caret : Option Caret) (v : ℕ) (c : Caret) → at_position v (caret_position v caret) ≡ Some c → caret ≡ Some c
 caret_given None v c is = absurd cc
 caret_given (Some d) v c is = (elim (d.viewer == v) as (λ b. (d.viewer == v) ≡ b
     → at_position v (let o : Option ℕ = cond b (Some d.position) None in o) ≡ Some c
@@ -105,7 +106,7 @@ caret_given (Some d) v c is = (elim (d.viewer == v) as (λ b. (d.viewer == v) �
       | false ↦ λ other is. absurd cc
     ]) refl is
 
-caret_there : (c : Caret) → at_position c.viewer (caret_in (Some c) c.viewer) ≡ Some c
+caret_there : (c : Caret) → at_position c.viewer (caret_position c.viewer (Some c)) ≡ Some c
 caret_there c = ap (λ b. at_position c.viewer (let o : Option ℕ = cond b (Some c.position) None in o))
     (eq-eqb c.viewer c.viewer refl)
 
@@ -118,7 +119,7 @@ caret_back caret selections viewers there =
     ∙ first_back (λ e. caret_at (picture_of caret selections e)) viewers caret
     (λ e c is. caret_given caret e.0 c is)
     (λ c is. (let one = found_one viewers c.viewer (there c is) in
-    (c.viewer, one.0, one.1, ap (λ o. at_position c.viewer (caret_in o c.viewer)) is ∙ caret_there c)))
+    (c.viewer, one.0, one.1, ap (λ o. at_position c.viewer (caret_position c.viewer o)) is ∙ caret_there c)))
 
 -- ---- selections
 

@@ -28,7 +28,8 @@ use Rattle.desktop_definitions.specs.Sound.{IsShaped, IsSound}
 use Rattle.desktop_laws.specs.TextLaws.{text_there, long_seen}
 use Rattle.desktop_laws.specs.ViewLaws.{placed_there, viewer_at_place, few_selections}
 use Rattle.desk_image.specs.declared.picture.Ranked.{Ranked}
-use Rattle.desk_image.specs.Image.{Image, image_of, picture_of, caret_in, ranked_in}
+use Rattle.desktop_definitions.specs.Shown.{caret_position}
+use Rattle.desk_image.specs.Image.{Image, image_of, picture_of, ranked_in}
 use Rattle.desk_imaging.specs.Images.{is_desktop, IsDesktopOf, times_tracked, viewers_of, caret_of, selections_of}
 use Rattle.desk_imaging.specs.Images.{leaves_menu, is_framed, is_in_use, are_texts, has_id, is_kept_known, stands_once}
 use Rattle.desk_imaging.specs.Images.{are_placed, main_size, is_caret, is_selection, is_pictured}
@@ -178,7 +179,7 @@ pictures_pass : (caret : Option Caret) (selections : List Selection) (viewers : 
 unfolding is_pictured
 pictures_pass caret selections [] = refl
 pictures_pass caret selections (e ∷ viewers) =
-    both _ _ (both _ _ (itself_position (caret_in caret e.0)) (itself_ranked (ranked_in 1 selections e.0)))
+    both _ _ (both _ _ (itself_position (caret_position e.0 caret)) (itself_ranked (ranked_in 1 selections e.0)))
     (pictures_pass caret selections viewers)
 
 -- ---- the whole

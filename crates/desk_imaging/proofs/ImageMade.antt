@@ -135,11 +135,13 @@ module _ (version written : ℕ) (i : Image) (fits : FitsImage version written i
 
   pub spellable : IsSpellable version (drafted written i)
   spellable = record {
-    texts = λ k d low. (texts_are.pieces.each k d low).some;
-    files = λ k d low. (files_are.pieces.each k d low).some;
-    copied = copied_is.some;
-    deleted = deleted_is.some;
-    numbers = texts_are.words;
+    tables = record {
+      texts = λ k d low. (texts_are.pieces.each k d low).some;
+      files = λ k d low. (files_are.pieces.each k d low).some;
+      copied = copied_is.some;
+      deleted = deleted_is.some;
+      numbers = texts_are.words;
+    };
     ids = viewers_are.ids;
     user = (let same = length-reverse i.user in let few = user_fits.1.0 in omega (arith, same, few));
     system = (let same = length-reverse i.system in let few = system_fits.1.0 in omega (arith, same, few));

@@ -10,7 +10,8 @@ use Rattle.desktop_definitions.specs.declared.viewer.Caret.{Caret}
 use Rattle.desktop_definitions.specs.declared.viewer.Selection.{Selection}
 use Rattle.desk_image.specs.declared.picture.Ranked.{Ranked}
 use Rattle.desk_image.specs.declared.picture.ViewerPicture.{ViewerPicture}
-use Rattle.desk_image.specs.Image.{caret_in, ranked_in, picture_of}
+use Rattle.desktop_definitions.specs.Shown.{caret_position}
+use Rattle.desk_image.specs.Image.{ranked_in, picture_of}
 use Rattle.desk_imaging.specs.Images.{viewers_of, first_some, with_rank, selected_at, selected_as}
 use Rattle.desk_imaging.specs.Images.{most_ranks, selections_of, same_ranked, is_pictured}
 
@@ -36,16 +37,16 @@ is_ranked (Some r) (Some s) is =
 module _ (caret : Option Caret) (selections : List Selection) where
   -- What a picture tells that is one.
   pub record IsPicture (p : ViewerPicture) : Type 0 where
-    pub position : caret_in caret p.id ≡ p.caret
+    pub position : caret_position p.id caret ≡ p.caret
     pub ranked : ranked_in 1 selections p.id ≡ p.selection
 
   pub picture_is : (p : ViewerPicture) → is_pictured caret selections p ≡ true → IsPicture p
   unfolding is_pictured
   picture_is p is =
-      let parts = and_parts (option_eq nat_eq (caret_in caret p.id) p.caret)
+      let parts = and_parts (option_eq nat_eq (caret_position p.id caret) p.caret)
       (same_ranked (ranked_in 1 selections p.id) p.selection) is in
       record {
-        position = is_position (caret_in caret p.id) p.caret parts.0;
+        position = is_position (caret_position p.id caret) p.caret parts.0;
         ranked = is_ranked (ranked_in 1 selections p.id) p.selection parts.1;
       }
 

@@ -25,7 +25,8 @@ use Rattle.desktop_definitions.specs.Viewers.{text_in, viewer_or_none}
 use Rattle.desktop_definitions.specs.Sound.{IsKeptWhole}
 use Rattle.desk_image.specs.declared.picture.Ranked.{Ranked}
 use Rattle.desk_image.specs.declared.picture.ViewerPicture.{ViewerPicture}
-use Rattle.desk_image.specs.Image.{Image, caret_in, ranked_in, image_of, picture_of, listed, optional}
+use Rattle.desktop_definitions.specs.Shown.{caret_position}
+use Rattle.desk_image.specs.Image.{Image, ranked_in, image_of, picture_of, listed, optional}
 use Rattle.desk_image.specs.Image.{look_bytes, cell_bytes, kept_bytes, text_bytes, file_bytes, pieces_bytes}
 use Rattle.desk_image.specs.Image.{viewers_bytes, stack_bytes, deepest}
 
@@ -219,7 +220,7 @@ same_ranked (Some r) (Some s) = (r.rank == s.rank) && ((r.beg == s.beg) && (r.en
 
 unfoldable pub is_pictured : Option Caret → List Selection → ViewerPicture → Bool
 is_pictured caret selections p =
-    option_eq nat_eq (caret_in caret p.id) p.caret && same_ranked (ranked_in 1 selections p.id) p.selection
+    option_eq nat_eq (caret_position p.id caret) p.caret && same_ranked (ranked_in 1 selections p.id) p.selection
 
 -- ---- together
 

@@ -12,7 +12,7 @@ ghost use Rattle.desk_image.specs.Streams.{Puts};
 ghost use Rattle.desk_image.specs.Image.{ranked_in, picture_of, image_of, listed, text_bytes, file_bytes};
 ghost use Rattle.desk_image.specs.Image.{pieces_bytes, viewers_bytes, track_bytes, stack_bytes, image_bytes};
 ghost use Rattle.desk_image.specs.Image.{look_bytes, cell_bytes, kept_bytes, optional};
-ghost use Rattle.desk_image.specs.Image.{InWord, AreSome, IsSpellable};
+ghost use Rattle.desk_image.specs.Image.{InWord, AreSome, AreSpellable, IsSpellable};
 ghost use Rattle.desk_core.specs.Kept.{kept};
 ghost use Rattle.desk_imaging.specs.Images.{AreReady, CanBePut};
 
@@ -259,11 +259,7 @@ fn put_tables<K: ByteSink>(desk: &Desk, sink: &mut K) -> Result<(), Fault>
     ensures puts { Puts K.ByteSink result (listed word text_bytes (kept desk.now).texts
         ++ (listed word file_bytes (kept desk.now).files ++ (pieces_bytes (kept desk.now).copied
         ++ pieces_bytes (kept desk.now).deleted))) sink.old sink.new }
-    ensures texts { OnOk result (All AreSome (values_of (kept desk.now).texts)) }
-    ensures numbers { OnOk result (All InWord (keys_of (kept desk.now).texts)) }
-    ensures files { OnOk result (All AreSome (values_of (kept desk.now).files)) }
-    ensures copied { OnOk result (AreSome (kept desk.now).copied) }
-    ensures deleted { OnOk result (AreSome (kept desk.now).deleted) }
+    ensures tables { OnOk result (AreSpellable (kept desk.now)) }
 {
     put_texts(sink, &desk.texts)?;
     put_files(sink, &desk.files)?;

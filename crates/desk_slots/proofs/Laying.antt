@@ -58,11 +58,13 @@ one_track false most some = omega arith
 empty_parts : (version : ℕ) → IsSpellable version empty_desktop
 unfolding empty_desktop
 empty_parts version = record {
-  texts = search rules;
-  files = search rules;
-  copied = search rules;
-  deleted = search rules;
-  numbers = search rules;
+  tables = record {
+    texts = search rules;
+    files = search rules;
+    copied = search rules;
+    deleted = search rules;
+    numbers = search rules;
+  };
   ids = search rules;
   user = one_track (has_overlays version) _ (omega arith);
   system = one_track (has_overlays version) _ (omega arith);

@@ -22,7 +22,8 @@ loop-preserved g c =
     let read = c.in_ok-next_byte.ensures in let more = c.push.ensures.len in
     let Way : ℕ → Type 0 = λ at. IsAt s.characters s.failures s.honest s.same_ground c.args.source.now
     c.next_byte.new.source text c.next_byte.new.self at in
-    let place : c.args.selection.beg + length c.loop.pattern.items + 1 ≡ c.args.selection.beg + length c.push.new.self.items =
+    let place : c.args.selection.beg + length c.loop.pattern.items + 1
+    ≡ c.args.selection.beg + length c.push.new.self.items =
     omega (arith, more) in
     record {
       way = subst Way place (onward s.characters s.failures s.honest s.same_ground laws.ground_self laws.ground_through

@@ -11,9 +11,11 @@ use Rattle.desk_core.specs.Kept.{kept}
 use Rattle.desk_commands.proofs.ReadFirst.{over_after, settles_by, refused_after, uses_after}
 use Rattle.desk_commands.proofs.stores.store.Goals as goal
 
-pub store_as-requires-clause-over : goal.store_as-requires-clause-over
-store_as-requires-clause-over g c =
-    over_after g.S.CharSource _ _ (kept c.args.desk.now) c.in_ok-name.ensures.reads c.requires.over
+pub store_as-requires : goal.store_as-requires
+store_as-requires g c = record {
+  placed = c.requires.placed;
+  over = over_after g.S.CharSource _ _ (kept c.args.desk.now) c.in_ok-name.ensures.reads c.requires.over;
+}
 
 pub returns-in-Some-clause-answered : goal.returns-in-Some-clause-answered
 unfolding stored

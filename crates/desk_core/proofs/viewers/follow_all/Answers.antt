@@ -28,7 +28,8 @@ loop-at-preserved g c =
       exact = λ h.
           let f : ℕ × Viewer → ℕ × Viewer = λ e. (
             e.0,
-            followed change.number (bytes (s.characters c.args.source.now) text) change.pos change.more change.fewer e.1,
+            followed change.number (bytes (s.characters c.args.source.now) text) change.pos change.more change.fewer
+                e.1,
           ) in
           let is : c.follow.new.entry ≡ f old =
           rw (i.reads.same h) at (c.in_ok-follow.ensures.exact (i.reads.still h)) in

@@ -14,13 +14,8 @@ returns-clause-puts g c =
 
 pub returns-clause-spellable : goal.returns-clause-spellable
 returns-clause-spellable g c =
-    let tables = c.in_ok-put_tables.ensures in
     on_ok_weaker c.put_display.result (λ ids. record {
-      texts = tables.texts;
-      files = tables.files;
-      copied = tables.copied;
-      deleted = tables.deleted;
-      numbers = tables.numbers;
+      tables = c.in_ok-put_tables.ensures.tables;
       ids = ids;
       user = c.requires.levels User;
       system = c.requires.levels System;

@@ -15,4 +15,5 @@ returns-clause-changed g c =
     let s = g.S.CharSource in
     caret_put (s.characters c.args.source.now) (kept c.args.self.now) c.args.id c.requires.built c.requires.at.placed
     (s.honest c.args.source.now) c.args.pos c.in_ok-org.org c.rows_of-rows.result c.set_org.new.viewers.items
-    c.requires.at.place c.in_ok-org.ensures.within c.rows_of-rows.ensures.rows c.in_ok-org.ensures.exact c.set_org.ensures
+    c.requires.at.place c.in_ok-org.ensures.within c.rows_of-rows.ensures.rows c.in_ok-org.ensures.exact
+    c.set_org.ensures
