@@ -134,7 +134,14 @@ fn follow<S: CharSource>(
 {
     let viewer = entry.1;
     if viewer.main == change.number {
-        let org = org_after(viewer.org, text, change.pos, change.more, change.fewer, source)?;
+        let org = org_after(
+            viewer.org,
+            text,
+            change.pos,
+            change.more,
+            change.fewer,
+            source,
+        )?;
         entry.1.org = org;
     }
     Ok(())
