@@ -102,8 +102,8 @@ impl TypedBytes {
         Some(TypedBytes { bytes })
     }
 
-    /// Makes it these bytes, in their place. False exactly where there is none of them, one of them can't be typed, or they
-    /// are more than 900: then it stays.
+    /// Makes it these bytes, in their place. False exactly where there is none of them, one of them can't be typed, or
+    /// they are more than 900: then it stays.
     pub fn set(&mut self, bytes: &[u8]) -> bool
         ensures is { result ≡ typed_bytes bytes.now }
         ensures set { IsTrue result → self.new ≡ bytes.now }

@@ -194,8 +194,8 @@ fn play_rest<W: AnswerWriter, D: Disk>(
     }
 }
 
-/// Plays one line: its answer is worked out, and then written. The request is what the line before asked for; this line's
-/// takes its place.
+/// Plays one line: its answer is worked out, and then written. The request is what the line before asked for; what this
+/// one asks for takes its place.
 fn play_line<W: AnswerWriter, D: Disk>(
     alloc: Global,
     line: &Line,

@@ -34,8 +34,8 @@ pub enum Request {
 
 /// Makes the request what the line asks for, whose line feed isn't part of it.
 ///
-/// Most lines type a text in which each byte stands for itself, one such line after another. Its text takes the place of
-/// the one before; what else is asked for is made anew, and is moved.
+/// Most lines type a text in which each byte stands for itself, one such line after another. Its text takes the place
+/// of the one before; what else is asked for is made anew, and is moved.
 pub fn ask(line: &[u8], request: &mut Request)
     ensures { request.new ≡ request_of line.now }
 {
