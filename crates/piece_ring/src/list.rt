@@ -5,7 +5,7 @@ ghost use Rattle.std.specs.Prelude.{OnErr, take};
 ghost use Rattle.piece_ring.specs.BackCursor.{IsBackCursor, text_before};
 ghost use Rattle.piece_ring.specs.Flat.{flat, relooked_piece, IsWhole};
 ghost use Rattle.piece_ring.specs.Finger.{IsFingerAt, IsSettledAt, fingered};
-ghost use Rattle.piece_ring.specs.Merging.{Continues, IsMergedAt, UnitesAtMost};
+ghost use Rattle.piece_ring.specs.Merging.{AreUnited, Continues, IsMergedAt, UnitesAtMost};
 ghost use Rattle.piece_ring.specs.Nodes.{places, pieces, with_put_in, with_range};
 ghost use Rattle.piece_ring.specs.Place.{pieces_of, text_of, IsSeam, IsFound, IsPlace, IsOpenedAt};
 ghost use Rattle.piece_ring.specs.PieceList.{IsPieceList, IsStretch};
@@ -410,12 +410,8 @@ impl PieceList {
         requires first { slice_get (pieces self.old.chain.nodes) seam.index ≡ Some first }
         requires second { slice_get (pieces self.old.chain.nodes) (seam.index + 1) ≡ Some second }
         requires continued { Continues first second }
-        ensures same { text_of self.new.chain.nodes ≡ text_of self.old.chain.nodes }
         ensures long { self.new.len ≡ self.old.len }
-        ensures merged { IsMergedAt (pieces_of self.new.chain.nodes) seam.pos }
-        ensures elsewhere { (pos : ℕ) → seam.pos < pos → IsMergedAt (pieces_of self.old.chain.nodes) pos
-            → IsMergedAt (pieces_of self.new.chain.nodes) pos }
-        ensures pieces { UnitesAtMost (pieces_of self.old.chain.nodes) (pieces_of self.new.chain.nodes) }
+        ensures united { AreUnited self.old.chain.nodes self.new.chain.nodes seam.pos }
     {
         let Seam { at, index, pos } = seam;
         let len = first.len + second.len;
