@@ -1,5 +1,5 @@
 -- What is promised of a request, from what the calls of the store promise.
-use Rattle.std.proofs.Common.{◌≡◌, ◌≢◌, ◌↔◌, ℕ, Result, Ok, Err, IfOk, OnOk, ap, ◌∙◌, sym, false}
+use Rattle.std.proofs.Common.{◌≡◌, ◌≢◌, ◌↔◌, Result, IfOk, ap, ◌∙◌, sym, false}
 use Rattle.std.proofs.lemmas.Result.{IfOk-weaker}
 use Rattle.sector_disk.specs.declared.disk.Disk.{Ghosts}
 use Rattle.desk_journal.specs.Errors.{Error}

@@ -197,7 +197,7 @@ fn expect_all(rt: &impl Abort, alloc: Global, rows: &[Stops]) -> Result<(), Allo
 }
 
 /// A store of one event.
-const ONE: &[Step] = &[Step::Play(FIRST[1])];
+const ONE: &[Step] = &[Step::Play(b"file A.Text a\n")];
 
 /// The fronts of a script that opens a document by a tool text and types into it, one event longer each.
 const SCRIPTS: [&[u8]; 6] = [
@@ -249,12 +249,17 @@ fn post_stops(rt: HostRuntime) -> Result<(), AllocError> {
 /// A tool text in a viewer, which opens the first file. It has 14 characters, and the menu 61.
 const TOOL: &[u8] = b"file System.Tool Edit.Open F01%0d\npoint m 60 31 60 31\n";
 
+/// Makes that store.
+const TOOL_IS_OPEN: Step = Step::Play(TOOL);
+
+/// Files four files.
+const FOUR_FILES: Step = Step::Files(1, 4);
+
+/// Makes a checkpoint.
+const CHECKPOINT_IS_MADE: Step = Step::Play(b"checkpoint\n");
+
 /// A store of the tool and four files after a checkpoint. What fills sectors stands in the area.
-const PAGED: &[Step] = &[
-    Step::Play(TOOL),
-    Step::Files(1, 4),
-    Step::Play(b"checkpoint\n"),
-];
+const PAGED: &[Step] = &[TOOL_IS_OPEN, FOUR_FILES, CHECKPOINT_IS_MADE];
 
 /// Opens the first file. The word is read from the area, whose first sector has it.
 const EVENT: &[u8] = b"point m 52 30 52 30\n";
@@ -307,7 +312,12 @@ const CHECKED_AGAIN: &[(u32, u32)] = &[
 ];
 
 /// The store of the tool with a file more.
-const FIVE_FILES: &[Step] = &[PAGED[0], PAGED[1], PAGED[2], Step::Files(5, 5)];
+const FIVE_FILES: &[Step] = &[
+    TOOL_IS_OPEN,
+    FOUR_FILES,
+    CHECKPOINT_IS_MADE,
+    Step::Files(5, 5),
+];
 
 /// Opening the second store makes a call more, and two for its event.
 #[test]
@@ -320,7 +330,12 @@ fn torn_checkpoints(rt: HostRuntime) -> Result<(), AllocError> {
 }
 
 /// The store of the tool after an event.
-const OPENED: &[Step] = &[PAGED[0], PAGED[1], PAGED[2], Step::Play(EVENT)];
+const OPENED: &[Step] = &[
+    TOOL_IS_OPEN,
+    FOUR_FILES,
+    CHECKPOINT_IS_MADE,
+    Step::Play(EVENT),
+];
 
 /// Asserts that opening the store leaves one image at each of its calls.
 fn expect_one_image(rt: &impl Abort, alloc: Global, stops: Stops) -> Result<(), AllocError> {
