@@ -23,6 +23,25 @@ struct Stops {
     images: &'static [(u32, u32)],
 }
 
+impl Stops {
+    /// A script that is stopped, by all that is said of it.
+    fn of(
+        first: &'static [Step],
+        fronts: &'static [&'static [u8]],
+        looks: &'static [u8],
+        opening: u64,
+        images: &'static [(u32, u32)],
+    ) -> Stops {
+        Stops {
+            first,
+            fronts,
+            looks,
+            opening,
+            images,
+        }
+    }
+}
+
 /// A filling of sector n: as at the last sync, as written, an open gate, an old record, zeros.
 fn filled(disk: &mut MemoryDisk, n: u32, filling: usize) -> Sector {
     let mut bytes = [0; 1024];
@@ -171,23 +190,6 @@ fn expect_stops(rt: &impl Abort, alloc: Global, stops: Stops) -> Result<(), Allo
 /// open gate torn shows what it came to.
 const POST: &[(u32, u32)] = &[(1, 0), (5, 0), (25, 0), (1, 0), (3, 2)];
 
-/// A script that is stopped, by all that is said of it.
-fn stops(
-    first: &'static [Step],
-    fronts: &'static [&'static [u8]],
-    looks: &'static [u8],
-    opening: u64,
-    images: &'static [(u32, u32)],
-) -> Stops {
-    Stops {
-        first,
-        fronts,
-        looks,
-        opening,
-        images,
-    }
-}
-
 /// Asserts what is found at each stop of each of these scripts.
 fn expect_all(rt: &impl Abort, alloc: Global, rows: &[Stops]) -> Result<(), AllocError> {
     for row in rows {
@@ -217,9 +219,9 @@ point l 1 30 1 30\ntype Hello\n",
 #[test]
 fn torn_posts(rt: HostRuntime) -> Result<(), AllocError> {
     let rows: [Stops; 3] = [
-        stops(&[], &FIRST, SHOW, 7, POST),
-        stops(ONE, &[b"", b"file B.Text bc\n"], SHOW, 9, POST),
-        stops(&[], &SCRIPTS, b"screen\n", 7, POST),
+        Stops::of(&[], &FIRST, SHOW, 7, POST),
+        Stops::of(ONE, &[b"", b"file B.Text bc\n"], SHOW, 9, POST),
+        Stops::of(&[], &SCRIPTS, b"screen\n", 7, POST),
     ];
     expect_all(&rt, rt.alloc(), &rows)
 }
@@ -234,8 +236,8 @@ const MARK: &[&[u8]] = &[b"", b"mark 0 0\n"];
 #[test]
 fn post_stops(rt: HostRuntime) -> Result<(), AllocError> {
     let rows: [Stops; 2] = [
-        stops(&[], MARK, b"screen\n", 7, POST),
-        stops(
+        Stops::of(&[], MARK, b"screen\n", 7, POST),
+        Stops::of(
             FULL,
             MARK,
             b"screen\n",
@@ -276,7 +278,7 @@ fn torn_paged_post(rt: HostRuntime) -> Result<(), AllocError> {
     expect_stops(
         &rt,
         rt.alloc(),
-        stops(PAGED, &[b"", EVENT], LOOKS, 8, PAGED_POST),
+        Stops::of(PAGED, &[b"", EVENT], LOOKS, 8, PAGED_POST),
     )
 }
 
@@ -323,8 +325,8 @@ const FIVE_FILES: &[Step] = &[
 #[test]
 fn torn_checkpoints(rt: HostRuntime) -> Result<(), AllocError> {
     let rows: [Stops; 2] = [
-        stops(ONE, CHECKPOINT, b"show A.Text\n", 9, CHECKED),
-        stops(FIVE_FILES, CHECKPOINT, LOOKS, 10, CHECKED_AGAIN),
+        Stops::of(ONE, CHECKPOINT, b"show A.Text\n", 9, CHECKED),
+        Stops::of(FIVE_FILES, CHECKPOINT, LOOKS, 10, CHECKED_AGAIN),
     ];
     expect_all(&rt, rt.alloc(), &rows)
 }
@@ -352,7 +354,7 @@ fn expect_one_image(rt: &impl Abort, alloc: Global, stops: Stops) -> Result<(), 
 /// two are for the event, and one reads the area. Then comes an event.
 #[test]
 fn open_stops(rt: HostRuntime) -> Result<(), AllocError> {
-    let stops = stops(OPENED, MARK, b"list\nscreen\n", 11, POST);
+    let stops = Stops::of(OPENED, MARK, b"list\nscreen\n", 11, POST);
     expect_one_image(&rt, rt.alloc(), stops)?;
     expect_stops(&rt, rt.alloc(), stops)
 }
