@@ -171,33 +171,76 @@ fn expect_stops(rt: &impl Abort, alloc: Global, stops: Stops) -> Result<(), Allo
 /// open gate torn shows what it came to.
 const POST: &[(u32, u32)] = &[(1, 0), (5, 0), (25, 0), (1, 0), (3, 2)];
 
-/// A script that is stopped, by all that is said of it.
-fn stops(
-    first: &'static [Step],
-    fronts: &'static [&'static [u8]],
-    looks: &'static [u8],
-    opening: u64,
-    images: &'static [(u32, u32)],
-) -> Stops {
-    Stops {
-        first,
-        fronts,
-        looks,
-        opening,
-        images,
-    }
+/// Three events in one run. Opening makes 7 calls: a sync, the label, a slot's gate and head, the other slot's gate,
+/// the image, gate 0.
+#[test]
+fn every_crash_of_three_posts(rt: HostRuntime) -> Result<(), AllocError> {
+    let stops = Stops {
+        first: &[],
+        fronts: &FIRST,
+        looks: SHOW,
+        opening: 7,
+        images: POST,
+    };
+    expect_stops(&rt, rt.alloc(), stops)
 }
 
-/// Asserts what is found at each stop of each of these scripts.
-fn expect_all(rt: &impl Abort, alloc: Global, rows: &[Stops]) -> Result<(), AllocError> {
-    for row in rows {
-        expect_stops(rt, alloc, *row)?;
-    }
-    Ok(())
+/// The second event of a store. Opening makes 9 calls: a body and a gate more are read.
+#[test]
+fn torn_post(rt: HostRuntime) -> Result<(), AllocError> {
+    let stops = Stops {
+        first: &[Step::Play(FIRST[1])],
+        fronts: &[b"", b"file B.Text bc\n"],
+        looks: SHOW,
+        opening: 9,
+        images: POST,
+    };
+    expect_stops(&rt, rt.alloc(), stops)
 }
 
-/// A store of one event.
-const ONE: &[Step] = &[Step::Play(b"file A.Text a\n")];
+/// The first checkpoint: a read of the slot's gate and a sync, the image, the head, gate 0 and a sync, the gate and a
+/// sync. The store is in slot 1 with an empty journal just where the gate of slot 1 reads open.
+#[test]
+fn torn_checkpoint(rt: HostRuntime) -> Result<(), AllocError> {
+    let stops = Stops {
+        first: &[Step::Play(FIRST[1])],
+        fronts: &[b"", b"checkpoint\n"],
+        looks: b"show A.Text\n",
+        opening: 9,
+        images: &[
+            (1, 0),
+            (1, 0),
+            (1, 0),
+            (5, 0),
+            (25, 0),
+            (125, 0),
+            (1, 0),
+            (3, 2),
+        ],
+    };
+    expect_stops(&rt, rt.alloc(), stops)
+}
+
+/// The first event of a store, and the last one that its journal takes: that one has no next gate to close. Opening
+/// reads two sectors more for each event that there is.
+#[test]
+fn post_stops(rt: HostRuntime) -> Result<(), AllocError> {
+    let first = Stops {
+        first: &[],
+        fronts: &[b"", b"mark 0 0\n"],
+        looks: b"screen\n",
+        opening: 7,
+        images: POST,
+    };
+    let last = Stops {
+        first: &[Step::Marks(255)],
+        opening: 517,
+        images: &[(1, 0), (5, 0), (1, 0), (3, 2)],
+        ..first
+    };
+    expect_stops(&rt, rt.alloc(), first)?;
+    expect_stops(&rt, rt.alloc(), last)
+}
 
 /// The fronts of a script that opens a document by a tool text and types into it, one event longer each.
 const SCRIPTS: [&[u8]; 6] = [
@@ -211,55 +254,28 @@ point l 1 30 1 30\n",
 point l 1 30 1 30\ntype Hello\n",
 ];
 
-/// Three events in one run; the second event of a store; and a script of five events, of which each stop shows the
-/// screen (what it is after the last one, the script `type_hello` shows). Opening makes 7 calls: a sync, the label, a
-/// slot's gate and head, the other slot's gate, the image, gate 0. For each event a body and a gate more are read.
+/// The screen after each stop. What it is after the last event, the script `type_hello` shows.
 #[test]
-fn torn_posts(rt: HostRuntime) -> Result<(), AllocError> {
-    let rows: [Stops; 3] = [
-        stops(&[], &FIRST, SHOW, 7, POST),
-        stops(ONE, &[b"", b"file B.Text bc\n"], SHOW, 9, POST),
-        stops(&[], &SCRIPTS, b"screen\n", 7, POST),
-    ];
-    expect_all(&rt, rt.alloc(), &rows)
-}
-
-/// A store whose journal takes one event more.
-const FULL: &[Step] = &[Step::Marks(255)];
-
-/// A script of one event.
-const MARK: &[&[u8]] = &[b"", b"mark 0 0\n"];
-
-/// The first event of a store, and the last one that its journal takes: that one has no next gate to close.
-#[test]
-fn post_stops(rt: HostRuntime) -> Result<(), AllocError> {
-    let rows: [Stops; 2] = [
-        stops(&[], MARK, b"screen\n", 7, POST),
-        stops(
-            FULL,
-            MARK,
-            b"screen\n",
-            517,
-            &[(1, 0), (5, 0), (1, 0), (3, 2)],
-        ),
-    ];
-    expect_all(&rt, rt.alloc(), &rows)
+fn script_over_fuse(rt: HostRuntime) -> Result<(), AllocError> {
+    let stops = Stops {
+        first: &[],
+        fronts: &SCRIPTS,
+        looks: b"screen\n",
+        opening: 7,
+        images: POST,
+    };
+    expect_stops(&rt, rt.alloc(), stops)
 }
 
 /// A tool text in a viewer, which opens the first file. It has 14 characters, and the menu 61.
 const TOOL: &[u8] = b"file System.Tool Edit.Open F01%0d\npoint m 60 31 60 31\n";
 
-/// Makes that store.
-const TOOL_IS_OPEN: Step = Step::Play(TOOL);
-
-/// Files four files.
-const FOUR_FILES: Step = Step::Files(1, 4);
-
-/// Makes a checkpoint.
-const CHECKPOINT_IS_MADE: Step = Step::Play(b"checkpoint\n");
-
 /// A store of the tool and four files after a checkpoint. What fills sectors stands in the area.
-const PAGED: &[Step] = &[TOOL_IS_OPEN, FOUR_FILES, CHECKPOINT_IS_MADE];
+const PAGED: &[Step] = &[
+    Step::Play(TOOL),
+    Step::Files(1, 4),
+    Step::Play(b"checkpoint\n"),
+];
 
 /// Opens the first file. The word is read from the area, whose first sector has it.
 const EVENT: &[u8] = b"point m 52 30 52 30\n";
@@ -267,93 +283,84 @@ const EVENT: &[u8] = b"point m 52 30 52 30\n";
 /// Lists what there is, and shows the first and the fourth file.
 const LOOKS: &[u8] = b"list\nshow F01\nshow F04\n";
 
-/// The images of an event that reads the area.
-const PAGED_POST: &[(u32, u32)] = &[(1, 0), (1, 0), (5, 0), (25, 0), (1, 0), (3, 2)];
-
-/// Opening makes 8 calls: a sync, the label, gates and heads of both slots, the image, gate 0.
+/// An event that reads the area. Opening makes 8 calls: a sync, the label, gates and heads of both slots, the image,
+/// gate 0.
 #[test]
 fn torn_paged_post(rt: HostRuntime) -> Result<(), AllocError> {
-    expect_stops(
-        &rt,
-        rt.alloc(),
-        stops(PAGED, &[b"", EVENT], LOOKS, 8, PAGED_POST),
-    )
+    let stops = Stops {
+        first: PAGED,
+        fronts: &[b"", EVENT],
+        looks: LOOKS,
+        opening: 8,
+        images: &[(1, 0), (1, 0), (5, 0), (25, 0), (1, 0), (3, 2)],
+    };
+    expect_stops(&rt, rt.alloc(), stops)
 }
 
-/// A checkpoint: nothing before it, and it.
-const CHECKPOINT: &[&[u8]] = &[b"", b"checkpoint\n"];
-
-/// The images of a first checkpoint: a read of the slot's gate and a sync, the image, the head, gate 0 and a sync, the
-/// gate and a sync. The store is in slot 1 with an empty journal just where the gate of slot 1 reads open.
-const CHECKED: &[(u32, u32)] = &[
-    (1, 0),
-    (1, 0),
-    (1, 0),
-    (5, 0),
-    (25, 0),
-    (125, 0),
-    (1, 0),
-    (3, 2),
-];
-
-/// Those of a second checkpoint, which fills one more sector of the area: a read of the slot's gate, a closed gate and a
-/// sync, the sector of the area, the image, the head, gate 0 and a sync, the gate and a sync.
-const CHECKED_AGAIN: &[(u32, u32)] = &[
-    (1, 0),
-    (1, 0),
-    (5, 0),
-    (1, 0),
-    (5, 0),
-    (25, 0),
-    (125, 0),
-    (625, 0),
-    (1, 0),
-    (3, 2),
-];
-
-/// The store of the tool with a file more.
-const FIVE_FILES: &[Step] = &[
-    TOOL_IS_OPEN,
-    FOUR_FILES,
-    CHECKPOINT_IS_MADE,
-    Step::Files(5, 5),
-];
-
-/// Opening the second store makes a call more, and two for its event.
+/// A second checkpoint, which fills one more sector of the area: a read of the slot's gate, a closed gate and a sync,
+/// the sector of the area, the image, the head, gate 0 and a sync, the gate and a sync. Opening makes two calls more,
+/// for the event.
 #[test]
-fn torn_checkpoints(rt: HostRuntime) -> Result<(), AllocError> {
-    let rows: [Stops; 2] = [
-        stops(ONE, CHECKPOINT, b"show A.Text\n", 9, CHECKED),
-        stops(FIVE_FILES, CHECKPOINT, LOOKS, 10, CHECKED_AGAIN),
-    ];
-    expect_all(&rt, rt.alloc(), &rows)
-}
-
-/// The store of the tool after an event.
-const OPENED: &[Step] = &[
-    TOOL_IS_OPEN,
-    FOUR_FILES,
-    CHECKPOINT_IS_MADE,
-    Step::Play(EVENT),
-];
-
-/// Asserts that opening the store leaves one image at each of its calls.
-fn expect_one_image(rt: &impl Abort, alloc: Global, stops: Stops) -> Result<(), AllocError> {
-    let disk = store_after(alloc, Version::V3, stops.first)?;
-    let states = states_of(alloc, &disk, stops.fronts, stops.looks)?;
-    for opening in 0..stops.opening {
-        let stops = Stops { opening, ..stops };
-        assert!(rt; found(alloc, &disk, stops, &states, 0, 0)? == ([1, 0, 0], Some(0)));
-    }
-    Ok(())
+fn torn_paged_checkpoint(rt: HostRuntime) -> Result<(), AllocError> {
+    let stops = Stops {
+        first: &[
+            Step::Play(TOOL),
+            Step::Files(1, 4),
+            Step::Play(b"checkpoint\n"),
+            Step::Files(5, 5),
+        ],
+        fronts: &[b"", b"checkpoint\n"],
+        looks: LOOKS,
+        opening: 10,
+        images: &[
+            (1, 0),
+            (1, 0),
+            (5, 0),
+            (1, 0),
+            (5, 0),
+            (25, 0),
+            (125, 0),
+            (625, 0),
+            (1, 0),
+            (3, 2),
+        ],
+    };
+    expect_stops(&rt, rt.alloc(), stops)
 }
 
 /// Opening a store whose journal reads the area writes nothing: it leaves one image at each of its 11 calls, of which
 /// two are for the event, and one reads the area. Then comes an event.
 #[test]
 fn open_stops(rt: HostRuntime) -> Result<(), AllocError> {
-    let stops = stops(OPENED, MARK, b"list\nscreen\n", 11, POST);
-    expect_one_image(&rt, rt.alloc(), stops)?;
+    let stops = Stops {
+        first: &[
+            Step::Play(TOOL),
+            Step::Files(1, 4),
+            Step::Play(b"checkpoint\n"),
+            Step::Play(EVENT),
+        ],
+        fronts: &[b"", b"mark 0 0\n"],
+        looks: b"list\nscreen\n",
+        opening: 0,
+        images: &[
+            (1, 0),
+            (1, 0),
+            (1, 0),
+            (1, 0),
+            (1, 0),
+            (1, 0),
+            (1, 0),
+            (1, 0),
+            (1, 0),
+            (1, 0),
+            (1, 0),
+            (1, 0),
+            (5, 0),
+            (25, 0),
+            (1, 0),
+            (3, 2),
+        ],
+    };
     expect_stops(&rt, rt.alloc(), stops)
 }
 
@@ -417,7 +424,14 @@ fn failing_post(rt: HostRuntime) -> Result<(), AllocError> {
         file A.Text 1\nfile B.Text 2\nwritten 3\nend\nok layout 3 epoch 1 events 2\n",
     ];
     let scripts: [&[u8]; 2] = [b"file B.Text bc\n", b"list\n"];
-    expect_failing(&rt, rt.alloc(), ONE, scripts, 14, wanted)
+    expect_failing(
+        &rt,
+        rt.alloc(),
+        &[Step::Play(FIRST[1])],
+        scripts,
+        14,
+        wanted,
+    )
 }
 
 /// Opening a store whose characters stand in the area makes 8 calls, and a post that reads one of them 6.

@@ -144,49 +144,67 @@ const JOURNAL: &[Step] = &[
     Step::Put(5, b"OPENGATE"),
 ];
 
-/// A journal of the first version is stepped by its commands: the one that gives up characters is none of them. The
-/// first post makes it a store of the newest version, in which there is that command. After the exchange a checkpoint
-/// writes into the other area, and after the next exchange into the first one again.
+/// The same journal, an event that makes the store one of the newest version, and the call of the command.
+const COLLECTED: &[Step] = &[
+    Step::Put(6, b"\x05\x0bSystem.Tool\x00\x0eSystem.Collect"),
+    Step::Put(8, b"\x04\x03\x3c\x1f\x3c\x1f"),
+    Step::Put(10, b"\x04\x03\x34\x1e\x34\x1e"),
+    Step::Put(9, b"OPENGATE"),
+    Step::Put(7, b"OPENGATE"),
+    Step::Put(5, b"OPENGATE"),
+    Step::Play(b"mark 0 0\n"),
+    Step::Play(b"point m 52 30 52 30\n"),
+];
+
+/// A journal of the first version is stepped by its commands: the one that gives up characters is none of them.
 #[test]
 fn old_journal_with_collect(rt: HostRuntime) -> Result<(), AllocError> {
-    let rows: [Row; 3] = [
-        (
-            Version::V1,
-            JOURNAL,
-            &[Step::Play(b"list\n")],
-            b"file System.Tool 14\nviewer 50 0 32 System.Tool 14\nwritten 75\nend\nok layout 1 epoch 1 events 3\n",
-        ),
-        (
-            Version::V1,
-            JOURNAL,
-            &[
-                Step::Play(b"mark 0 0\n"),
-                Step::Play(b"point m 52 30 52 30\n"),
-                Step::Play(b"list\n"),
-            ],
-            b"ok\nok layout 3 epoch 2 events 1\nok\nok layout 3 epoch 2 events 2\n\
-            file System.Tool 14\nviewer 50 0 32 System.Tool 14\nwritten 89\nend\nok layout 3 epoch 2 events 2\n",
-        ),
-        (
-            Version::V1,
-            JOURNAL,
-            &[
-                Step::Play(b"mark 0 0\npoint m 52 30 52 30\n"),
-                Step::Files(1, 2),
-                Step::Play(b"checkpoint\n"),
-                Step::Tell(2, 0, 12),
-                Step::Tell(2, 16, 21),
-                Step::Play(b"point m 52 30 52 30\ncheckpoint\n"),
-                Step::Tell(4, 0, 12),
-                Step::Tell(4, 16, 21),
-            ],
-            b"ok\nok\nok layout 3 epoch 2 events 2\n\
-            ok\nok\nok layout 3 epoch 2 events 4\nok\nok layout 3 epoch 3 events 0\n\
-            \x00\x00\x00\x03\x00\x00\x00\x03\x00\x00\x07\x61\x00\x00\x00\x01\x00\
-            ok\nok\nok layout 3 epoch 4 events 0\n\
-            \x00\x00\x00\x03\x00\x00\x00\x04\x00\x00\x07\x61\x00\x00\x00\x00\x00",
-        ),
-    ];
+    let rows: [Row; 1] = [(
+        Version::V1,
+        JOURNAL,
+        &[Step::Play(b"list\n")],
+        b"file System.Tool 14\nviewer 50 0 32 System.Tool 14\nwritten 75\nend\nok layout 1 epoch 1 events 3\n",
+    )];
+    expect(&rt, rt.alloc(), &rows)
+}
+
+/// The first post makes it a store of the newest version, in which there is that command.
+#[test]
+fn migrated(rt: HostRuntime) -> Result<(), AllocError> {
+    let rows: [Row; 1] = [(
+        Version::V1,
+        JOURNAL,
+        &[
+            Step::Play(b"mark 0 0\n"),
+            Step::Play(b"point m 52 30 52 30\n"),
+            Step::Play(b"list\n"),
+        ],
+        b"ok\nok layout 3 epoch 2 events 1\nok\nok layout 3 epoch 2 events 2\n\
+        file System.Tool 14\nviewer 50 0 32 System.Tool 14\nwritten 89\nend\nok layout 3 epoch 2 events 2\n",
+    )];
+    expect(&rt, rt.alloc(), &rows)
+}
+
+/// After the exchange a checkpoint writes into the other area, and after the next exchange into the first one again.
+#[test]
+fn collect_areas(rt: HostRuntime) -> Result<(), AllocError> {
+    let rows: [Row; 1] = [(
+        Version::V1,
+        COLLECTED,
+        &[
+            Step::Files(1, 2),
+            Step::Play(b"checkpoint\n"),
+            Step::Tell(2, 0, 12),
+            Step::Tell(2, 16, 21),
+            Step::Play(b"point m 52 30 52 30\ncheckpoint\n"),
+            Step::Tell(4, 0, 12),
+            Step::Tell(4, 16, 21),
+        ],
+        b"ok\nok\nok layout 3 epoch 2 events 4\nok\nok layout 3 epoch 3 events 0\n\
+        \x00\x00\x00\x03\x00\x00\x00\x03\x00\x00\x07\x61\x00\x00\x00\x01\x00\
+        ok\nok\nok layout 3 epoch 4 events 0\n\
+        \x00\x00\x00\x03\x00\x00\x00\x04\x00\x00\x07\x61\x00\x00\x00\x00\x00",
+    )];
     expect(&rt, rt.alloc(), &rows)
 }
 
