@@ -222,11 +222,7 @@ pub fn org_in<S: CharSource>(
 {
     let viewer = viewer_or_none(viewers, id);
     match texts.get(&viewer.main) {
-        Some(text) => {
-            let mut frame = frame_from(viewer.org);
-            frame.show(text, rows, pos, source)?;
-            Ok(frame.org)
-        }
+        Some(text) => org_to_show(viewer.org, text, rows, pos, source),
         None => unreachable!(),
     }
 }

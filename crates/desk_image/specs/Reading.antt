@@ -39,14 +39,6 @@ optional_at read bytes = do
     x ← read flag.1
     Some (Some x.0, x.1)) else None
 
--- three parts, one after another, and what they make
-abbrev pub three_at : {A B C D : Type 0} → Reader A → Reader B → Reader C → (A → B → C → D) → Reader D
-three_at first second third make bytes = do
-  a ← first bytes
-  b ← second a.1
-  c ← third b.1
-  Some (make a.0 b.0 c.0, c.1)
-
 unfoldable pub long_at : Reader ℕ
 long_at bytes = do
   high ← pair_at bytes
