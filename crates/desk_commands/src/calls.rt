@@ -30,7 +30,6 @@ use desk_core::views::text_there;
 use desktop_definitions::{Call, Reply, codes};
 use event_bytes::Name;
 use readers_scanners::Symbol;
-use std::alloc::Global;
 use text_core::Text;
 
 /// A command that takes a name.
@@ -89,7 +88,6 @@ fn number_in(symbol: &Symbol) -> Option<i32>
 pub fn call<S: CharSource>(
     desk: &mut Desk,
     version: Version,
-    alloc: Global,
     id: u16,
     in_menu: bool,
     pos: u32,
@@ -111,14 +109,13 @@ pub fn call<S: CharSource>(
         in_menu,
         after,
     };
-    do_command(desk, alloc, command, call, source)
+    do_command(desk, command, call, source)
 }
 
 /// Does what a command does.
 #[tactic(auto, unfolding(desktop_definitions::specs::Commands::commanded, crate::specs::Calls::done_with_name, crate::specs::Calls::done_with_number, crate::specs::Calls::done_with_viewer))]
 fn do_command<S: CharSource>(
     desk: &mut Desk,
-    alloc: Global,
     command: Command,
     call: Call,
     source: &mut S,
@@ -130,87 +127,47 @@ fn do_command<S: CharSource>(
     ensures uses { Uses S.CharSource result source.old source.new }
 {
     match command {
-        Command::EditOpen => command_with_name(
-            desk,
-            alloc,
-            NameCommand::OpenDocument,
-            call,
-            source,
-        ),
-        Command::SystemOpen => command_with_name(desk, alloc, NameCommand::OpenFile, call, source),
-        Command::SystemSetFont => command_with_name(
-            desk,
-            alloc,
-            NameCommand::SetFont,
-            call,
-            source,
-        ),
-        Command::EditChangeFont => command_with_name(
-            desk,
-            alloc,
-            NameCommand::ChangeFont,
-            call,
-            source,
-        ),
-        Command::SystemSetColor => command_with_number(
-            desk,
-            alloc,
-            NumberCommand::SetColor,
-            call,
-            source,
-        ),
+        Command::EditOpen => command_with_name(desk, NameCommand::OpenDocument, call, source),
+        Command::SystemOpen => command_with_name(desk, NameCommand::OpenFile, call, source),
+        Command::SystemSetFont => command_with_name(desk, NameCommand::SetFont, call, source),
+        Command::EditChangeFont => command_with_name(desk, NameCommand::ChangeFont, call, source),
+        Command::SystemSetColor => command_with_number(desk, NumberCommand::SetColor, call, source),
         Command::SystemSetOffset => command_with_number(
             desk,
-            alloc,
             NumberCommand::SetOffset,
             call,
             source,
         ),
         Command::EditChangeColor => command_with_number(
             desk,
-            alloc,
             NumberCommand::ChangeColor,
             call,
             source,
         ),
         Command::EditChangeOffset => command_with_number(
             desk,
-            alloc,
             NumberCommand::ChangeOffset,
             call,
             source,
         ),
-        Command::SystemClose => command_with_viewer(
-            desk,
-            alloc,
-            ViewerCommand::Close,
-            call,
-            source,
-        ),
-        Command::SystemCopy => command_with_viewer(desk, alloc, ViewerCommand::Copy, call, source),
-        Command::EditStore => command_with_viewer(desk, alloc, ViewerCommand::Store, call, source),
-        Command::EditSearch => command_with_viewer(
-            desk,
-            alloc,
-            ViewerCommand::Search,
-            call,
-            source,
-        ),
-        Command::SystemGrow => command_with_viewer(desk, alloc, ViewerCommand::Grow, call, source),
-        Command::SystemDeleteFiles => delete_named_files(desk, alloc, call, source),
-        Command::SystemOpenLog => open_log(desk, alloc, source),
+        Command::SystemClose => command_with_viewer(desk, ViewerCommand::Close, call, source),
+        Command::SystemCopy => command_with_viewer(desk, ViewerCommand::Copy, call, source),
+        Command::EditStore => command_with_viewer(desk, ViewerCommand::Store, call, source),
+        Command::EditSearch => command_with_viewer(desk, ViewerCommand::Search, call, source),
+        Command::SystemGrow => command_with_viewer(desk, ViewerCommand::Grow, call, source),
+        Command::SystemDeleteFiles => delete_named_files(desk, call, source),
+        Command::SystemOpenLog => open_log(desk, source),
         Command::SystemRecall => recall_viewer(desk, source),
-        Command::SystemClear => clear_log(desk, alloc, source),
-        Command::SystemDirectory => log_directory(desk, alloc, source),
-        Command::EditRecall => recall_deleted(desk, alloc, source),
-        Command::SystemCollect => collect(desk, alloc, source),
+        Command::SystemClear => clear_log(desk, source),
+        Command::SystemDirectory => log_directory(desk, source),
+        Command::EditRecall => recall_deleted(desk, source),
+        Command::SystemCollect => collect(desk, source),
     }
 }
 
 /// With the name after the word. Refused where there is none.
 fn command_with_name<S: CharSource>(
     desk: &mut Desk,
-    alloc: Global,
     command: NameCommand,
     call: Call,
     source: &mut S,
@@ -222,7 +179,7 @@ fn command_with_name<S: CharSource>(
     ensures uses { Uses S.CharSource result source.old source.new }
 {
     match name_of(desk, call, source)? {
-        Ok(name) => do_with_name(desk, alloc, command, &name, source),
+        Ok(name) => do_with_name(desk, command, &name, source),
         Err(code) => Ok(Reply::No(code)),
     }
 }
@@ -231,7 +188,6 @@ fn command_with_name<S: CharSource>(
 #[tactic(auto, unfolding(crate::specs::Calls::done_with_name), using(crate::proofs::CallLemmas::looks_set))]
 fn do_with_name<S: CharSource>(
     desk: &mut Desk,
-    alloc: Global,
     command: NameCommand,
     name: &Name,
     source: &mut S,
@@ -242,17 +198,16 @@ fn do_with_name<S: CharSource>(
     ensures uses { Uses S.CharSource result source.old source.new }
 {
     match command {
-        NameCommand::OpenDocument => open_document(desk, alloc, name, source),
-        NameCommand::OpenFile => open_file(desk, alloc, name, source),
+        NameCommand::OpenDocument => open_document(desk, name, source),
+        NameCommand::OpenFile => open_file(desk, name, source),
         NameCommand::SetFont => set_look(desk, font_set(name), source),
-        NameCommand::ChangeFont => change_look(desk, alloc, font_set(name), source),
+        NameCommand::ChangeFont => change_look(desk, font_set(name), source),
     }
 }
 
 /// With the number after the word. Refused where there is none.
 fn command_with_number<S: CharSource>(
     desk: &mut Desk,
-    alloc: Global,
     command: NumberCommand,
     call: Call,
     source: &mut S,
@@ -265,7 +220,7 @@ fn command_with_number<S: CharSource>(
     ensures uses { Uses S.CharSource result source.old source.new }
 {
     match number_of(desk, call, source)? {
-        Ok(number) => do_with_number(desk, alloc, command, number, source),
+        Ok(number) => do_with_number(desk, command, number, source),
         Err(code) => Ok(Reply::No(code)),
     }
 }
@@ -274,7 +229,6 @@ fn command_with_number<S: CharSource>(
 #[tactic(auto, unfolding(crate::specs::Calls::done_with_number), using(crate::proofs::CallLemmas::looks_set))]
 fn do_with_number<S: CharSource>(
     desk: &mut Desk,
-    alloc: Global,
     command: NumberCommand,
     number: i32,
     source: &mut S,
@@ -287,15 +241,14 @@ fn do_with_number<S: CharSource>(
     match command {
         NumberCommand::SetColor => set_look(desk, colour_set(number), source),
         NumberCommand::SetOffset => set_look(desk, offset_set(number), source),
-        NumberCommand::ChangeColor => change_look(desk, alloc, colour_set(number), source),
-        NumberCommand::ChangeOffset => change_look(desk, alloc, offset_set(number), source),
+        NumberCommand::ChangeColor => change_look(desk, colour_set(number), source),
+        NumberCommand::ChangeOffset => change_look(desk, offset_set(number), source),
     }
 }
 
 /// With the viewer that is meant. Refused where there is none.
 fn command_with_viewer<S: CharSource>(
     desk: &mut Desk,
-    alloc: Global,
     command: ViewerCommand,
     call: Call,
     source: &mut S,
@@ -310,14 +263,13 @@ fn command_with_viewer<S: CharSource>(
     let Some(id) = meant(desk, call) else {
         return Ok(Reply::No(codes::NO_VIEWER));
     };
-    do_with_viewer(desk, alloc, command, id, source)
+    do_with_viewer(desk, command, id, source)
 }
 
 /// What a command does with a viewer.
 #[tactic(auto, unfolding(crate::specs::Calls::done_with_viewer))]
 fn do_with_viewer<S: CharSource>(
     desk: &mut Desk,
-    alloc: Global,
     command: ViewerCommand,
     id: u16,
     source: &mut S,
@@ -329,21 +281,16 @@ fn do_with_viewer<S: CharSource>(
 {
     match command {
         ViewerCommand::Close => close_viewer(desk, id, source),
-        ViewerCommand::Copy => copy_viewer(desk, alloc, id, source),
-        ViewerCommand::Store => store(desk, alloc, id, source),
+        ViewerCommand::Copy => copy_viewer(desk, id, source),
+        ViewerCommand::Store => store(desk, id, source),
         ViewerCommand::Search => search(desk, id, source),
-        ViewerCommand::Grow => grow_viewer(desk, alloc, id, source),
+        ViewerCommand::Grow => grow_viewer(desk, id, source),
     }
 }
 
 /// The files of the list after the word go. Refused where there is no list, and where a name of it is no file's or
 /// stands there twice.
-fn delete_named_files<S: CharSource>(
-    desk: &mut Desk,
-    alloc: Global,
-    call: Call,
-    source: &mut S,
-) -> StepResult
+fn delete_named_files<S: CharSource>(desk: &mut Desk, call: Call, source: &mut S) -> StepResult
     requires call { IsCall (kept desk.old) call }
     requires over { IsOver (S.characters source.old) (kept desk.old) }
     ensures answered { IfOk result (Settles S.CharSource (λ d. given (names_of d call) (files_deleted d))
@@ -351,7 +298,7 @@ fn delete_named_files<S: CharSource>(
     ensures uses { Uses S.CharSource result source.old source.new }
 {
     match names_of(desk, call, source)? {
-        Ok(names) => delete_files(desk, alloc, names.as_slice(), source),
+        Ok(names) => delete_files(desk, names.as_slice(), source),
         Err(code) => Ok(Reply::No(code)),
     }
 }

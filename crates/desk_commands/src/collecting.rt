@@ -10,7 +10,6 @@ use desk_core::desk::Desk;
 use desk_core::files::Files;
 use desk_core::stop::{StepResult, Stop};
 use desktop_definitions::Reply;
-use std::alloc::Global;
 use std::collections::BTreeMap;
 use std::vec::Vec;
 use text_core::{Buffer, Text};
@@ -27,18 +26,18 @@ struct WrittenAnew {
 
 /// All texts, files and buffers written anew; the desktop stays. NoMemory where an allocation is refused, Fault where a
 /// character could not be read.
-fn rewritten<S: CharSource>(desk: &Desk, alloc: Global, source: &mut S) -> Result<WrittenAnew, Stop>
+fn rewritten<S: CharSource>(desk: &Desk, source: &mut S) -> Result<WrittenAnew, Stop>
     requires { IsOver (S.characters source.old) (kept desk.now) }
     ensures rewritten { IfOk result (λ new. IsRewritten (S.honest source.old) (S.characters source.old)
         (kept desk.now) new.made.items new.texts.entries new.files.entries new.copied new.deleted) }
     ensures reads { OnlyReads S.characters S.failures S.honest S.same_ground source.old source.new }
     ensures faults { FailsAs Stop.Fault IsStop result (S.failures source.old) (S.failures source.new) }
 {
-    let mut made = Vec::new(alloc);
-    let texts = put_texts(alloc, &desk.texts, &mut made, source)?;
-    let files = put_files(alloc, &desk.files, &mut made, source)?;
-    let copied = put_buffer(alloc, &desk.copied, &mut made, source)?;
-    let deleted = put_buffer(alloc, &desk.deleted, &mut made, source)?;
+    let mut made = Vec::new(desk.alloc);
+    let texts = put_texts(desk.alloc, &desk.texts, &mut made, source)?;
+    let files = put_files(desk.alloc, &desk.files, &mut made, source)?;
+    let copied = put_buffer(desk.alloc, &desk.copied, &mut made, source)?;
+    let deleted = put_buffer(desk.alloc, &desk.deleted, &mut made, source)?;
     Ok(WrittenAnew {
         texts,
         files,
@@ -51,7 +50,7 @@ fn rewritten<S: CharSource>(desk: &Desk, alloc: Global, source: &mut S) -> Resul
 /// The characters are given up that no text, file or buffer has: all others are written anew, and are the only ones
 /// that count as written. It is never refused. NoMemory where an allocation is refused, Fault where a character could
 /// not be read.
-pub fn collect<S: CharSource>(desk: &mut Desk, alloc: Global, source: &mut S) -> StepResult
+pub fn collect<S: CharSource>(desk: &mut Desk, source: &mut S) -> StepResult
     requires { IsOver (S.characters source.old) (kept desk.old) }
     ensures answered { IfOk result (Settles S.CharSource (λ d. Ok (collected d))
         source.old source.new (kept desk.old) (kept desk.new)) }
@@ -63,7 +62,7 @@ pub fn collect<S: CharSource>(desk: &mut Desk, alloc: Global, source: &mut S) ->
         copied,
         deleted,
         made,
-    } = rewritten(desk, alloc, source)?;
+    } = rewritten(desk, source)?;
     desk.written = made.len() as u32;
     desk.texts = texts;
     desk.files = files;

@@ -79,28 +79,18 @@ fn place_of(desk: &Desk, id: u16) -> Place
 }
 
 /// A copy of a file, or an empty text where there is none of that name, opens in the user track.
-pub fn open_document<S: CharSource>(
-    desk: &mut Desk,
-    alloc: Global,
-    name: &Name,
-    source: &mut S,
-) -> StepResult
+pub fn open_document<S: CharSource>(desk: &mut Desk, name: &Name, source: &mut S) -> StepResult
     requires over { IsOver (S.characters source.old) (kept desk.old) }
     ensures answered { IfOk result (Settles S.CharSource (λ d. Ok (document_opened d name.now))
         source.old source.new (kept desk.old) (kept desk.new)) }
     ensures uses { Uses S.CharSource result source.old source.new }
 {
     let (x, y) = free_cell(desk, Track::User);
-    open_named(desk, alloc, name, x, y, source)
+    open_named(desk, name, x, y, source)
 }
 
 /// A copy of a file opens in the system track. Refused where there is no file of that name.
-pub fn open_file<S: CharSource>(
-    desk: &mut Desk,
-    alloc: Global,
-    name: &Name,
-    source: &mut S,
-) -> StepResult
+pub fn open_file<S: CharSource>(desk: &mut Desk, name: &Name, source: &mut S) -> StepResult
     requires over { IsOver (S.characters source.old) (kept desk.old) }
     ensures answered { IfOk result (Settles S.CharSource (λ d. file_opened d name.now)
         source.old source.new (kept desk.old) (kept desk.new)) }
@@ -110,17 +100,11 @@ pub fn open_file<S: CharSource>(
         return Ok(Reply::No(codes::NO_FILE));
     }
     let (x, y) = free_cell(desk, Track::System);
-    open_named(desk, alloc, name, x, y, source)
+    open_named(desk, name, x, y, source)
 }
 
 /// The file `System.Tool` opens in a viewer at the cell above (`x`, `y`). Refused where there is no such file.
-pub fn open_tool<S: CharSource>(
-    desk: &mut Desk,
-    alloc: Global,
-    x: u8,
-    y: u8,
-    source: &mut S,
-) -> StepResult
+pub fn open_tool<S: CharSource>(desk: &mut Desk, x: u8, y: u8, source: &mut S) -> StepResult
     requires column { x < COLUMNS }
     requires row { y < ROWS }
     requires over { IsOver (S.characters source.old) (kept desk.old) }
@@ -136,14 +120,13 @@ pub fn open_tool<S: CharSource>(
     if !desk.files.contains_key(&name) {
         return Ok(Reply::No(codes::NO_FILE));
     }
-    open_named(desk, alloc, &name, x, y + 1, source)
+    open_named(desk, &name, x, y + 1, source)
 }
 
 /// A copy of a file, or an empty text where there is none of that name, opens in the track of column `x`, up to row
 /// `y`, in a viewer of that name.
 fn open_named<S: CharSource>(
     desk: &mut Desk,
-    alloc: Global,
     name: &Name,
     x: u8,
     y: u8,
@@ -164,15 +147,14 @@ fn open_named<S: CharSource>(
     if !opening_fits(desk, menu.len(), len, x, y) {
         return Ok(Reply::No(codes::FULL));
     }
-    let main = copy_of_file(alloc, &desk.files, name)?;
-    open_viewer(desk, alloc, menu.as_slice(), main, x, y, source)
+    let main = copy_of_file(desk.alloc, &desk.files, name)?;
+    open_viewer(desk, menu.as_slice(), main, x, y, source)
 }
 
 /// A new viewer opens in the track of column `x`, up to row `y`, with a menu that is written anew and this main
 /// text. NoMemory where an allocation is refused.
 fn open_viewer<S: CharSource>(
     desk: &mut Desk,
-    alloc: Global,
     menu: &[u8],
     main: Text,
     x: u8,
@@ -200,7 +182,7 @@ fn open_viewer<S: CharSource>(
 {
     edits_keep_columns();
     edits_place_viewers();
-    let text = Text::of_run(alloc, desk.written, menu.len() as u32, DEFAULT_LOOK)?;
+    let text = Text::of_run(desk.alloc, desk.written, menu.len() as u32, DEFAULT_LOOK)?;
     source.append(menu)?;
     let number = add_text(&mut desk.texts, main)?;
     open_on(desk, text, number, 0, x, y)?;
@@ -209,7 +191,7 @@ fn open_viewer<S: CharSource>(
 }
 
 /// The log opens in the system track.
-pub fn open_log<S: CharSource>(desk: &mut Desk, alloc: Global, source: &mut S) -> StepResult
+pub fn open_log<S: CharSource>(desk: &mut Desk, source: &mut S) -> StepResult
     requires over { IsOver (S.characters source.old) (kept desk.old) }
     ensures answered { IfOk result (Settles S.CharSource (λ d. Ok (log_opened d))
         source.old source.new (kept desk.old) (kept desk.new)) }
@@ -223,7 +205,7 @@ pub fn open_log<S: CharSource>(desk: &mut Desk, alloc: Global, source: &mut S) -
     if !opening_on_fits(desk, len, len, x, y) {
         return Ok(Reply::No(codes::FULL));
     }
-    let text = Text::of_run(alloc, desk.written, len as u32, DEFAULT_LOOK)?;
+    let text = Text::of_run(desk.alloc, desk.written, len as u32, DEFAULT_LOOK)?;
     source.append(menu.as_slice())?;
     open_on(desk, text, 0, 0, x, y)?;
     desk.written += len as u32;
@@ -232,12 +214,7 @@ pub fn open_log<S: CharSource>(desk: &mut Desk, alloc: Global, source: &mut S) -
 
 /// A second viewer of a viewer's text opens in the lower half of its place, with a copy of its menu and the same
 /// first line. Refused where its place has one row.
-pub fn copy_viewer<S: CharSource>(
-    desk: &mut Desk,
-    alloc: Global,
-    id: u16,
-    source: &mut S,
-) -> StepResult
+pub fn copy_viewer<S: CharSource>(desk: &mut Desk, id: u16, source: &mut S) -> StepResult
     requires { IsViewerOnTop (S.characters source.old) (kept desk.old) id }
     ensures answered { IfOk result (Settles S.CharSource (λ d. viewer_copied d id)
         source.old source.new (kept desk.old) (kept desk.new)) }
@@ -256,7 +233,7 @@ pub fn copy_viewer<S: CharSource>(
     if !opening_on_fits(desk, 0, menu.len() as usize, place.x, y) {
         return Ok(Reply::No(codes::FULL));
     }
-    let menu = copy_of(alloc, menu)?;
+    let menu = copy_of(desk.alloc, menu)?;
     open_on(desk, menu, viewer.main, viewer.org, place.x, y)?;
     Ok(Reply::Done)
 }
@@ -264,12 +241,7 @@ pub fn copy_viewer<S: CharSource>(
 /// A second viewer of a viewer's text has the column of that whole, over the track in which it stands, with a copy of
 /// its menu and the same first line; nothing is marked in the covered track any more. Refused where the column has as
 /// many tracks as it may have.
-pub fn grow_viewer<S: CharSource>(
-    desk: &mut Desk,
-    alloc: Global,
-    id: u16,
-    source: &mut S,
-) -> StepResult
+pub fn grow_viewer<S: CharSource>(desk: &mut Desk, id: u16, source: &mut S) -> StepResult
     requires { IsViewerOnTop (S.characters source.old) (kept desk.old) id }
     ensures answered { IfOk result (Settles S.CharSource (λ d. viewer_grown d id)
         source.old source.new (kept desk.old) (kept desk.new)) }
@@ -284,7 +256,7 @@ pub fn grow_viewer<S: CharSource>(
     if !opening_over_fits(desk, menu.len() as usize) {
         return Ok(Reply::No(codes::FULL));
     }
-    let menu = copy_of(alloc, menu)?;
+    let menu = copy_of(desk.alloc, menu)?;
     open_over(desk, menu, viewer.main, viewer.org, track)?;
     Ok(Reply::Done)
 }

@@ -107,7 +107,7 @@ fn buffer_of_line(alloc: Global, first: u32, count: u32) -> Result<Buffer, NoMem
 }
 
 /// The log becomes empty. NoMemory where an allocation is refused, Fault where a character could not be read.
-pub fn clear_log<S: CharSource>(desk: &mut Desk, alloc: Global, source: &mut S) -> StepResult
+pub fn clear_log<S: CharSource>(desk: &mut Desk, source: &mut S) -> StepResult
     requires over { IsOver (S.characters source.old) (kept desk.old) }
     ensures answered { IfOk result (Settles S.CharSource (λ d. Ok (log_cleared d))
         source.old source.new (kept desk.old) (kept desk.new)) }
@@ -115,26 +115,26 @@ pub fn clear_log<S: CharSource>(desk: &mut Desk, alloc: Global, source: &mut S) 
 {
     let len = log_len(desk);
     if len > 0 {
-        desk.delete(alloc, 0, 0, len, source)?;
+        desk.delete(0, 0, len, source)?;
     }
     Ok(Reply::Done)
 }
 
 /// A line for each file goes into the log, by rising names. Refused where the limits on characters don't hold then.
 /// NoMemory where an allocation is refused, Fault where a character could not be read.
-pub fn log_directory<S: CharSource>(desk: &mut Desk, alloc: Global, source: &mut S) -> StepResult
+pub fn log_directory<S: CharSource>(desk: &mut Desk, source: &mut S) -> StepResult
     requires over { IsOver (S.characters source.old) (kept desk.old) }
     ensures answered { IfOk result (Settles S.CharSource (λ d. Ok (directory_logged d))
         source.old source.new (kept desk.old) (kept desk.new)) }
     ensures uses { Uses S.CharSource result source.old source.new }
 {
-    let made = directory_lines(alloc, &desk.files)?;
+    let made = directory_lines(desk.alloc, &desk.files)?;
     let lines = made.as_slice();
     let count = total(lines);
     if !desk.fits_more(count, count, 0) {
         return Ok(Reply::No(codes::FULL));
     }
-    log_lines(desk, alloc, lines, source)?;
+    log_lines(desk, lines, source)?;
     Ok(Reply::Done)
 }
 
@@ -152,7 +152,6 @@ fn log_len(desk: &Desk) -> u32
 /// next line comes. NoMemory where an allocation is refused, Fault where a character could not be read.
 pub fn log_lines<S: CharSource>(
     desk: &mut Desk,
-    alloc: Global,
     lines: &[LogLine],
     source: &mut S,
 ) -> Result<(), Stop>
@@ -165,19 +164,14 @@ pub fn log_lines<S: CharSource>(
     ensures uses { Uses S.CharSource result source.old source.new }
 {
     for line in lines {
-        log_line(desk, alloc, line.as_slice(), source)?;
+        log_line(desk, line.as_slice(), source)?;
     }
     Ok(())
 }
 
 /// Puts a line in at the end of the log, and each viewer of the log in a track shows its end. NoMemory where an
 /// allocation is refused, Fault where a character could not be read.
-pub fn log_line<S: CharSource>(
-    desk: &mut Desk,
-    alloc: Global,
-    line: &[u8],
-    source: &mut S,
-) -> Result<(), Stop>
+pub fn log_line<S: CharSource>(desk: &mut Desk, line: &[u8], source: &mut S) -> Result<(), Stop>
     requires stands { IsStanding (S.characters source.old) (kept desk.old) }
     requires room { desk.old.written + length line.now ≤ most_written }
     requires short { held (seen [] (kept desk.old)) + length line.now < 2 ^ 32 }
@@ -186,9 +180,9 @@ pub fn log_line<S: CharSource>(
     ensures uses { Uses S.CharSource result source.old source.new }
 {
     let end = log_len(desk);
-    let mut buffer = buffer_of_line(alloc, desk.written, line.len() as u32)?;
+    let mut buffer = buffer_of_line(desk.alloc, desk.written, line.len() as u32)?;
     source.append(line)?;
-    desk.insert(alloc, 0, end, &mut buffer, source)?;
+    desk.insert(0, end, &mut buffer, source)?;
     desk.written += line.len() as u32;
     show_log_end(desk, source)?;
     Ok(())

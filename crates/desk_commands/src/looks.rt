@@ -12,7 +12,6 @@ use desk_core::stop::StepResult;
 use desktop_definitions::{COLOURS, FONTS, GREATEST_OFFSET, LEAST_OFFSET, Reply, codes};
 use event_bytes::Name;
 use piece_ring::{DEFAULT_LOOK, Look};
-use std::alloc::Global;
 
 /// The names of the fonts, by their numbers.
 const FONT_NAMES: [&[u8]; FONTS as usize] = [
@@ -93,7 +92,6 @@ pub fn set_look<S: CharSource>(
 /// are, and without a selection. NoMemory where an allocation is refused.
 pub fn change_look<S: CharSource>(
     desk: &mut Desk,
-    alloc: Global,
     new: Option<(u8, Look)>,
     source: &mut S,
 ) -> StepResult
@@ -109,6 +107,6 @@ pub fn change_look<S: CharSource>(
     let Some(selection) = desk.selection() else {
         return Ok(Reply::No(codes::NO_SELECTION));
     };
-    desk.set_looks(alloc, selection, selector, look)?;
+    desk.set_looks(selection, selector, look)?;
     Ok(Reply::Done)
 }

@@ -14,7 +14,6 @@ use desk_core::stop::StepResult;
 use desk_core::views::position_in;
 use desktop_definitions::{Reply, Selection, codes};
 use readers_scanners::Reader;
-use std::alloc::Global;
 use text_core::Text;
 
 /// The bytes for which a text is searched.
@@ -140,12 +139,12 @@ fn start_in(desk: &Desk, id: u16) -> u32
 }
 
 /// What was deleted last is put in at the caret. Refused without a caret.
-pub fn recall_deleted<S: CharSource>(desk: &mut Desk, alloc: Global, source: &mut S) -> StepResult
+pub fn recall_deleted<S: CharSource>(desk: &mut Desk, source: &mut S) -> StepResult
     requires over { IsOver (S.characters source.old) (kept desk.old) }
     ensures answered { IfOk result (Settles S.CharSource
         (λ d. needs d.caret no_caret λ c. Ok (put_at_caret d d.deleted c))
         source.old source.new (kept desk.old) (kept desk.new)) }
     ensures uses { Uses S.CharSource result source.old source.new }
 {
-    desk.put_buffer(alloc, true, source)
+    desk.put_buffer(true, source)
 }

@@ -85,12 +85,7 @@ fn deleting_lines(alloc: Global, names: &[Name]) -> Result<Vec<LogLine>, NoMemor
 
 /// The files of these names go, each with a line of the log. Refused where a name is no file's, or stands there
 /// twice.
-pub fn delete_files<S: CharSource>(
-    desk: &mut Desk,
-    alloc: Global,
-    names: &[Name],
-    source: &mut S,
-) -> StepResult
+pub fn delete_files<S: CharSource>(desk: &mut Desk, names: &[Name], source: &mut S) -> StepResult
     requires few { length names.now ≤ 257 }
     requires over { IsOver (S.characters source.old) (kept desk.old) }
     ensures answered { IfOk result (Settles S.CharSource (λ d. files_deleted d names.now)
@@ -100,27 +95,27 @@ pub fn delete_files<S: CharSource>(
     if !can_be_deleted(&desk.files, names) {
         return Ok(Reply::No(codes::NO_FILE));
     }
-    let made = deleting_lines(alloc, names)?;
+    let made = deleting_lines(desk.alloc, names)?;
     let lines = made.as_slice();
     let count = total(lines);
     if !desk.fits_more(count, count, lengths_of(&desk.files, names)) {
         return Ok(Reply::No(codes::FULL));
     }
     remove(&mut desk.files, names);
-    log_lines(desk, alloc, lines, source)?;
+    log_lines(desk, lines, source)?;
     Ok(Reply::Done)
 }
 
 /// A viewer's main text becomes the file that the first symbol of its menu names, with a line of the log. Refused
 /// where that symbol is no name, and where there is no room for one more file.
-pub fn store<S: CharSource>(desk: &mut Desk, alloc: Global, id: u16, source: &mut S) -> StepResult
+pub fn store<S: CharSource>(desk: &mut Desk, id: u16, source: &mut S) -> StepResult
     requires { IsViewerOnTop (S.characters source.old) (kept desk.old) id }
     ensures answered { IfOk result (Settles S.CharSource (λ d. stored d id)
         source.old source.new (kept desk.old) (kept desk.new)) }
     ensures uses { Uses S.CharSource result source.old source.new }
 {
     match menu_name(desk, id, source)? {
-        Some(name) => store_as(desk, alloc, id, &name, source),
+        Some(name) => store_as(desk, id, &name, source),
         None => Ok(Reply::No(codes::WRONG_SYMBOL)),
     }
 }
@@ -139,13 +134,7 @@ fn menu_name<S: CharSource>(desk: &Desk, id: u16, source: &mut S) -> Result<Opti
 
 /// A viewer's main text becomes the file of that name, with a line of the log. Refused where there is no room for
 /// one more file.
-fn store_as<S: CharSource>(
-    desk: &mut Desk,
-    alloc: Global,
-    id: u16,
-    name: &Name,
-    source: &mut S,
-) -> StepResult
+fn store_as<S: CharSource>(desk: &mut Desk, id: u16, name: &Name, source: &mut S) -> StepResult
     requires { IsViewerOnTop (S.characters source.old) (kept desk.old) id }
     ensures answered { IfOk result (Settles S.CharSource
         (λ d. unless (has_room d.files name.now) too_many_files (Ok (stored_as d name.now (main_of d id))))
@@ -161,8 +150,8 @@ fn store_as<S: CharSource>(
     if !desk.fits_more(line.len(), more, length_of(&desk.files, name)) {
         return Ok(Reply::No(codes::FULL));
     }
-    let copy = copy_of(alloc, text)?;
+    let copy = copy_of(desk.alloc, text)?;
     put(&mut desk.files, name, copy)?;
-    log_line(desk, alloc, line.as_slice(), source)?;
+    log_line(desk, line.as_slice(), source)?;
     Ok(Reply::Done)
 }

@@ -51,6 +51,8 @@ pub struct Desk {
     pub look: Look,
     /// How many characters count as written.
     pub written: u32,
+    /// Where what it keeps has its memory.
+    pub alloc: Global,
 }
 
 /// An empty log, and nothing else.
@@ -76,6 +78,7 @@ pub fn empty_desk(alloc: Global) -> Result<Desk, NoMemory>
         pattern: ArrayVec::new(),
         look: DEFAULT_LOOK,
         written: 0,
+        alloc,
     })
 }
 

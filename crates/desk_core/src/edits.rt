@@ -69,22 +69,22 @@ impl Desk {
     }
 
     /// The characters of a stretch of a viewer's main text.
-    fn characters_of(&self, alloc: Global, selection: Selection) -> Result<Buffer, NoMemory>
+    fn characters_of(&self, selection: Selection) -> Result<Buffer, NoMemory>
         requires order { selection.beg ≤ selection.end }
         requires within { selection.end ≤ length (flat (kept_main (kept self.now) selection.viewer)) }
         ensures { IfOk result (λ copy. flat copy
             ≡ stretch selection.beg selection.end (flat (kept_main (kept self.now) selection.viewer))) }
     {
-        let mut copy = Buffer::new(alloc)?;
+        let mut copy = Buffer::new(self.alloc)?;
         let number = self.main_of(selection.viewer);
         if let Some(text) = self.texts.get(&number) {
-            text.save(alloc, selection.beg, selection.end, &mut copy)?;
+            text.save(selection.beg, selection.end, &mut copy)?;
         }
         Ok(copy)
     }
 
     /// A copy of a stretch of a viewer's main text, which can go into any viewer's.
-    pub fn copy_of(&self, alloc: Global, selection: Selection) -> Result<Buffer, NoMemory>
+    pub fn copy_of(&self, selection: Selection) -> Result<Buffer, NoMemory>
         requires order { selection.beg ≤ selection.end }
         requires within { selection.end ≤ length (flat (kept_main (kept self.now) selection.viewer)) }
         ensures is { IfOk result (λ copy. flat copy
@@ -92,14 +92,13 @@ impl Desk {
         ensures goes { IfOk result (λ copy. (characters : List ℕ) (v : ℕ) → IsOver characters (kept self.now)
             → CanGo (length characters) (kept self.now) v copy) }
     {
-        let copy = self.characters_of(alloc, selection)?;
+        let copy = self.characters_of(selection)?;
         Ok(copy)
     }
 
     /// Puts the buffer's characters into a viewer's main text at `pos`, and the caret after them, where it is shown.
     pub fn put_in<S: CharSource>(
         &mut self,
-        alloc: Global,
         id: u16,
         pos: u32,
         buffer: &mut Buffer,
@@ -115,7 +114,7 @@ impl Desk {
     {
         let number = self.main_of(id);
         let len = buffer.len();
-        self.insert(alloc, number, pos, buffer, source)?;
+        self.insert(number, pos, buffer, source)?;
         self.show_caret(id, pos + len, source)?;
         Ok(())
     }
@@ -124,7 +123,6 @@ impl Desk {
     /// nothing changes.
     pub fn put_at_caret<S: CharSource>(
         &mut self,
-        alloc: Global,
         caret: Caret,
         buffer: &mut Buffer,
         source: &mut S,
@@ -140,14 +138,13 @@ impl Desk {
         if buffer.len() == 0 {
             return Ok(());
         }
-        self.put_in(alloc, caret.viewer, caret.position, buffer, source)?;
+        self.put_in(caret.viewer, caret.position, buffer, source)?;
         Ok(())
     }
 
     /// Takes a viewer's stretch out and returns it, and puts the caret where it was, which is shown.
     pub fn cut_out<S: CharSource>(
         &mut self,
-        alloc: Global,
         selection: Selection,
         source: &mut S,
     ) -> Result<Buffer, Stop>
@@ -163,7 +160,7 @@ impl Desk {
         ensures faults { FailsAs Stop.Fault IsStop result (S.failures source.old) (S.failures source.new) }
     {
         let number = self.main_of(selection.viewer);
-        let taken = self.delete(alloc, number, selection.beg, selection.end, source)?;
+        let taken = self.delete(number, selection.beg, selection.end, source)?;
         self.show_caret(selection.viewer, selection.beg, source)?;
         Ok(taken)
     }
@@ -189,19 +186,14 @@ pub fn buffer_of_run(alloc: Global, first: u32, count: u32, look: Look) -> Resul
         len: count,
         look,
     };
-    buffer.add(alloc, piece)?;
+    buffer.add(piece)?;
     Ok(buffer)
 }
 
 impl Desk {
     /// A copy of what was deleted last, or else of what was copied last, is put in at the caret. Refused without a
     /// caret.
-    pub fn put_buffer<S: CharSource>(
-        &mut self,
-        alloc: Global,
-        deleted: bool,
-        source: &mut S,
-    ) -> StepResult
+    pub fn put_buffer<S: CharSource>(&mut self, deleted: bool, source: &mut S) -> StepResult
         requires over { IsOver (S.characters source.old) (kept self.old) }
         ensures answered { IfOk result (Settles S.CharSource (λ d. needs d.caret no_caret λ c.
             Ok (put_at_caret d (if deleted then d.deleted else d.copied) c))
@@ -218,9 +210,9 @@ impl Desk {
         if !self.fits_more(0, buffer.len() as usize, 0) {
             return Ok(Reply::No(codes::FULL));
         }
-        let mut copy = Buffer::new(alloc)?;
-        buffer.copy_to(alloc, &mut copy)?;
-        self.put_at_caret(alloc, caret, &mut copy, source)?;
+        let mut copy = Buffer::new(self.alloc)?;
+        buffer.copy_to(&mut copy)?;
+        self.put_at_caret(caret, &mut copy, source)?;
         Ok(Reply::Done)
     }
 }

@@ -46,6 +46,7 @@ fn is_desktop(
 
 /// The desktop that has these parts.
 fn desk_of(
+    alloc: Global,
     picture: Picture,
     written: u32,
     viewers: ViewerTable,
@@ -74,6 +75,7 @@ fn desk_of(
         pattern: picture.pattern,
         look: picture.look,
         written,
+        alloc,
     }
 }
 
@@ -93,5 +95,5 @@ pub fn assemble(alloc: Global, picture: Picture, written: u32) -> Result<Desk, I
     if !is_desktop(&picture, written, &viewers, caret, selections.as_slice()) {
         return Err(ImageFault::Damaged);
     }
-    Ok(desk_of(picture, written, viewers, caret, selections))
+    Ok(desk_of(alloc, picture, written, viewers, caret, selections))
 }

@@ -11,16 +11,10 @@ use desk_core::edits::buffer_of_run;
 use desk_core::stop::StepResult;
 use desktop_definitions::{Reply, Selection, codes};
 use event_bytes::{Key, TypedBytes};
-use std::alloc::Global;
 
 /// The bytes go to the caret in the current look, and the caret after them, where it is shown. Refused without a
 /// caret.
-pub fn type_bytes<S: CharSource>(
-    desk: &mut Desk,
-    alloc: Global,
-    bytes: &TypedBytes,
-    source: &mut S,
-) -> StepResult
+pub fn type_bytes<S: CharSource>(desk: &mut Desk, bytes: &TypedBytes, source: &mut S) -> StepResult
     requires { IsOver (S.characters source.old) (kept desk.old) }
     ensures answered { IfOk result (Settles S.CharSource (λ d. typed d bytes.now)
         source.old source.new (kept desk.old) (kept desk.new)) }
@@ -35,16 +29,16 @@ pub fn type_bytes<S: CharSource>(
     if !desk.fits_more(bytes.len(), bytes.len(), 0) {
         return Ok(Reply::No(codes::FULL));
     }
-    let mut buffer = buffer_of_run(alloc, desk.written, bytes.len() as u32, desk.look)?;
+    let mut buffer = buffer_of_run(desk.alloc, desk.written, bytes.len() as u32, desk.look)?;
     source.append(bytes)?;
-    desk.put_at_caret(alloc, caret, &mut buffer, source)?;
+    desk.put_at_caret(caret, &mut buffer, source)?;
     desk.written += bytes.len() as u32;
     Ok(Reply::Done)
 }
 
 /// Does what a key means.
 #[tactic(auto, unfolding(desktop_definitions::specs::Unread::key_needs_no_byte))]
-pub fn press<S: CharSource>(desk: &mut Desk, alloc: Global, key: Key, source: &mut S) -> StepResult
+pub fn press<S: CharSource>(desk: &mut Desk, key: Key, source: &mut S) -> StepResult
     requires { IsOver (S.characters source.old) (kept desk.old) }
     ensures answered { IfOk result (Settles S.CharSource (λ d. pressed d key)
         source.old source.new (kept desk.old) (kept desk.new)) }
@@ -53,16 +47,16 @@ pub fn press<S: CharSource>(desk: &mut Desk, alloc: Global, key: Key, source: &m
     ensures uses { Uses S.CharSource result source.old source.new }
 {
     match key {
-        Key::Back => take_back(desk, alloc, source),
-        Key::Copy => copy(desk, alloc, source),
-        Key::Paste => desk.put_buffer(alloc, false, source),
-        Key::Cut => cut(desk, alloc, source),
+        Key::Back => take_back(desk, source),
+        Key::Copy => copy(desk, source),
+        Key::Paste => desk.put_buffer(false, source),
+        Key::Cut => cut(desk, source),
         Key::Escape => escape(desk, source),
     }
 }
 
 /// The character before the caret is taken out, where there is one. Refused without a caret.
-fn take_back<S: CharSource>(desk: &mut Desk, alloc: Global, source: &mut S) -> StepResult
+fn take_back<S: CharSource>(desk: &mut Desk, source: &mut S) -> StepResult
     requires { IsOver (S.characters source.old) (kept desk.old) }
     ensures answered { IfOk result (Settles S.CharSource (λ d. pressed d Back)
         source.old source.new (kept desk.old) (kept desk.new)) }
@@ -79,13 +73,13 @@ fn take_back<S: CharSource>(desk: &mut Desk, alloc: Global, source: &mut S) -> S
             beg: caret.position - 1,
             end: caret.position,
         };
-        desk.cut_out(alloc, before, source)?;
+        desk.cut_out(before, source)?;
     }
     Ok(Reply::Done)
 }
 
 /// The newest selection goes into the copied buffer. Refused without a selection.
-fn copy<S: CharSource>(desk: &mut Desk, alloc: Global, source: &mut S) -> StepResult
+fn copy<S: CharSource>(desk: &mut Desk, source: &mut S) -> StepResult
     requires { IsOver (S.characters source.old) (kept desk.old) }
     ensures answered { IfOk result (Settles S.CharSource (λ d. pressed d Copy)
         source.old source.new (kept desk.old) (kept desk.new)) }
@@ -99,13 +93,13 @@ fn copy<S: CharSource>(desk: &mut Desk, alloc: Global, source: &mut S) -> StepRe
     if !desk.fits_more(0, len, desk.copied.len() as usize) {
         return Ok(Reply::No(codes::FULL));
     }
-    desk.copied = desk.copy_of(alloc, selection)?;
+    desk.copied = desk.copy_of(selection)?;
     Ok(Reply::Done)
 }
 
 /// The newest selection goes out of its text into the copied buffer, and the caret to where it was. Refused without
 /// a selection.
-fn cut<S: CharSource>(desk: &mut Desk, alloc: Global, source: &mut S) -> StepResult
+fn cut<S: CharSource>(desk: &mut Desk, source: &mut S) -> StepResult
     requires { IsOver (S.characters source.old) (kept desk.old) }
     ensures answered { IfOk result (Settles S.CharSource (λ d. pressed d Cut)
         source.old source.new (kept desk.old) (kept desk.new)) }
@@ -116,8 +110,8 @@ fn cut<S: CharSource>(desk: &mut Desk, alloc: Global, source: &mut S) -> StepRes
     let Some(selection) = desk.selection() else {
         return Ok(Reply::No(codes::NO_SELECTION));
     };
-    desk.copied = desk.copy_of(alloc, selection)?;
-    desk.cut_out(alloc, selection, source)?;
+    desk.copied = desk.copy_of(selection)?;
+    desk.cut_out(selection, source)?;
     Ok(Reply::Done)
 }
 

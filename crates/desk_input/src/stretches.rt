@@ -10,17 +10,10 @@ use desk_core::stop::StepResult;
 use desk_core::viewers::select;
 use desktop_definitions::{Caret, Reply, Selection, codes};
 use piece_ring::{DEFAULT_LOOK, Look};
-use std::alloc::Global;
 
 /// A copy of the newest selection is put in at `pos` in a viewer, and the caret after it, where it is shown.
 /// Refused without a selection.
-pub fn copy_to<S: CharSource>(
-    desk: &mut Desk,
-    alloc: Global,
-    id: u16,
-    pos: u32,
-    source: &mut S,
-) -> StepResult
+pub fn copy_to<S: CharSource>(desk: &mut Desk, id: u16, pos: u32, source: &mut S) -> StepResult
     requires at { IsPosition (kept desk.old) id pos }
     requires over { IsOver (S.characters source.old) (kept desk.old) }
     ensures answered { IfOk result (Settles S.CharSource (λ d. copied_to d id pos)
@@ -36,20 +29,14 @@ pub fn copy_to<S: CharSource>(
     if !desk.fits_more(0, len, 0) {
         return Ok(Reply::No(codes::FULL));
     }
-    let mut copy = desk.copy_of(alloc, selection)?;
-    desk.put_in(alloc, id, pos, &mut copy, source)?;
+    let mut copy = desk.copy_of(selection)?;
+    desk.put_in(id, pos, &mut copy, source)?;
     Ok(Reply::Done)
 }
 
 /// The newest selection gets the look at `pos` in a viewer, where the caret then stands. Refused without a
 /// selection.
-pub fn take_looks<S: CharSource>(
-    desk: &mut Desk,
-    alloc: Global,
-    id: u16,
-    pos: u32,
-    source: &mut S,
-) -> StepResult
+pub fn take_looks<S: CharSource>(desk: &mut Desk, id: u16, pos: u32, source: &mut S) -> StepResult
     requires at { IsPosition (kept desk.old) id pos }
     requires over { IsOver (S.characters source.old) (kept desk.old) }
     ensures answered { IfOk result (Settles S.CharSource (λ d. looks_taken d id pos)
@@ -62,7 +49,7 @@ pub fn take_looks<S: CharSource>(
         return Ok(Reply::No(codes::NO_SELECTION));
     };
     let look = look_at(desk, id, pos);
-    desk.set_looks(alloc, selection, 7, look)?;
+    desk.set_looks(selection, 7, look)?;
     desk.caret = Some(Caret {
         viewer: id,
         position: pos,
@@ -72,12 +59,7 @@ pub fn take_looks<S: CharSource>(
 
 /// A stretch goes into the deleted buffer, and the caret to where it was, which is shown. Refused where it is
 /// empty.
-pub fn take_out<S: CharSource>(
-    desk: &mut Desk,
-    alloc: Global,
-    drawn: Selection,
-    source: &mut S,
-) -> StepResult
+pub fn take_out<S: CharSource>(desk: &mut Desk, drawn: Selection, source: &mut S) -> StepResult
     requires at { IsPosition (kept desk.old) drawn.viewer drawn.end }
     requires over { IsOver (S.characters source.old) (kept desk.old) }
     ensures answered { IfOk result (Settles S.CharSource (λ d. taken_out d drawn)
@@ -87,18 +69,13 @@ pub fn take_out<S: CharSource>(
     if drawn.beg >= drawn.end {
         return Ok(Reply::No(codes::NO_SELECTION));
     }
-    let taken = desk.cut_out(alloc, drawn, source)?;
+    let taken = desk.cut_out(drawn, source)?;
     desk.deleted = taken;
     Ok(Reply::Done)
 }
 
 /// A stretch is selected, and a copy of it put in at the caret. Refused where it is empty, or without a caret.
-pub fn send_to_caret<S: CharSource>(
-    desk: &mut Desk,
-    alloc: Global,
-    drawn: Selection,
-    source: &mut S,
-) -> StepResult
+pub fn send_to_caret<S: CharSource>(desk: &mut Desk, drawn: Selection, source: &mut S) -> StepResult
     requires at { IsPosition (kept desk.old) drawn.viewer drawn.end }
     requires over { IsOver (S.characters source.old) (kept desk.old) }
     ensures answered { IfOk result (Settles S.CharSource (λ d. sent_to_caret d drawn)
@@ -115,9 +92,9 @@ pub fn send_to_caret<S: CharSource>(
     if !desk.fits_more(0, len, 0) {
         return Ok(Reply::No(codes::FULL));
     }
-    let mut copy = desk.copy_of(alloc, drawn)?;
+    let mut copy = desk.copy_of(drawn)?;
     select(&mut desk.selections, drawn)?;
-    desk.put_at_caret(alloc, caret, &mut copy, source)?;
+    desk.put_at_caret(caret, &mut copy, source)?;
     Ok(Reply::Done)
 }
 

@@ -97,7 +97,7 @@ fn turn<K: Keyboard, W: Write, D: Disk>(
         (place_of parser.old sitting.old store.old (K.heard keyboard.old) painter.old (W.contents writer.old))
         (place_of parser.new sitting.new store.new (K.heard keyboard.new) painter.new (W.contents writer.new)) }
 {
-    show(alloc, sitting, painter, writer, store)?;
+    show(sitting, painter, writer, store)?;
     let hearing = keyboard.hear()?;
     do_presses(alloc, sitting, parser, hearing.as_slice(), store)?;
     bring(sitting, keyboard);
@@ -124,7 +124,6 @@ fn bring<K: Keyboard>(sitting: &mut Sitting, keyboard: &mut K)
 ///
 /// Errors: `Fault` and `Memory`, and nothing was sent; `Output`, and a front may have been sent.
 fn show<W: Write, D: Disk>(
-    alloc: Global,
     sitting: &mut Sitting,
     painter: &mut Painter,
     writer: &mut W,
@@ -142,7 +141,7 @@ fn show<W: Write, D: Disk>(
     ensures device { IsSameDevice D.Disk store.old.disk store.new.disk }
 {
     let mut screen = Screen::new();
-    store.screen(alloc, &mut screen)?;
+    store.screen(&mut screen)?;
     let (rings, asks, forgets) = (sitting.rings, sitting.asks, sitting.forgets);
     sitting.look(&screen);
     paint(sitting, forgets, painter, writer, &screen)?;

@@ -147,8 +147,8 @@ impl Sitting {
         ensures { Takes D.Disk (acted action (desk_of self.old store.old)) result self.new store.old store.new }
     {
         match action {
-            Action::Post(event) => self.post(alloc, &event, store),
-            Action::Step(arrow) => self.step(alloc, arrow, store),
+            Action::Post(event) => self.post(&event, store),
+            Action::Step(arrow) => self.step(arrow, store),
             alone => {
                 self.act_alone(alone);
                 Ok(())
@@ -182,28 +182,18 @@ impl Sitting {
     }
 
     /// A left click beside the caret, as the screen has it, or a ring where no text is shown there.
-    fn step<D: Disk>(
-        &mut self,
-        alloc: Global,
-        arrow: Arrow,
-        store: &mut Store<D>,
-    ) -> Result<(), Error>
+    fn step<D: Disk>(&mut self, arrow: Arrow, store: &mut Store<D>) -> Result<(), Error>
         requires { store.old.must_reopen ≡ false }
         ensures { Takes D.Disk (acted (Action.Step arrow) (desk_of self.old store.old)) result self.new store.old
             store.new }
     {
         let mut screen = Screen::new();
-        store.screen(alloc, &mut screen)?;
-        self.click(alloc, aimed(arrow, &screen), store)
+        store.screen(&mut screen)?;
+        self.click(aimed(arrow, &screen), store)
     }
 
     /// A left click at a place, or a ring where there is none.
-    fn click<D: Disk>(
-        &mut self,
-        alloc: Global,
-        place: Option<(u8, u8)>,
-        store: &mut Store<D>,
-    ) -> Result<(), Error>
+    fn click<D: Disk>(&mut self, place: Option<(u8, u8)>, store: &mut Store<D>) -> Result<(), Error>
         requires { store.old.must_reopen ≡ false }
         ensures { Takes D.Disk (clicked place (desk_of self.old store.old)) result self.new store.old store.new }
     {
@@ -220,22 +210,17 @@ impl Sitting {
                     x1: x,
                     y1: y,
                 };
-                self.post(alloc, &click, store)
+                self.post(&click, store)
             }
         }
     }
 
     /// Posts an event.
-    fn post<D: Disk>(
-        &mut self,
-        alloc: Global,
-        event: &Event,
-        store: &mut Store<D>,
-    ) -> Result<(), Error>
+    fn post<D: Disk>(&mut self, event: &Event, store: &mut Store<D>) -> Result<(), Error>
         requires { store.old.must_reopen ≡ false }
         ensures { Takes D.Disk (posted event.now (desk_of self.old store.old)) result self.new store.old store.new }
     {
-        match store.post(alloc, event) {
+        match store.post(event) {
             Ok(reply) => {
                 self.reply(reply);
                 Ok(())

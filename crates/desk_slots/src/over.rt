@@ -23,7 +23,6 @@ use text_core::Text;
 /// Does the event, with the commands of that version.
 pub(crate) fn step_over<D: Disk>(
     version: Version,
-    alloc: Global,
     desktop: &mut Desktop,
     event: &Event,
     disk: &mut D,
@@ -43,7 +42,7 @@ pub(crate) fn step_over<D: Disk>(
     ensures faults { FailsAs Stop.Fault IsStop result (D.failures disk.old) (D.failures disk.new) }
 {
     let mut source = Paged::over(disk, pages);
-    desktop.step(version, alloc, event, &mut source)
+    desktop.step(version, event, &mut source)
 }
 
 /// All characters of a text with their looks.
@@ -66,7 +65,6 @@ pub(crate) fn read_over<D: Disk>(
 
 /// What the desktop has.
 pub(crate) fn list_over<D: Disk>(
-    alloc: Global,
     desktop: &mut Desktop,
     disk: &mut D,
     pages: &mut Pages,
@@ -80,12 +78,11 @@ pub(crate) fn list_over<D: Disk>(
     ensures faults { FailsAs Stop.Fault IsStop result (D.failures disk.old) (D.failures disk.new) }
 {
     let mut source = Paged::over(disk, pages);
-    desktop.list(alloc, &mut source)
+    desktop.list(&mut source)
 }
 
 /// Paints what the desktop shows.
 pub(crate) fn screen_over<D: Disk>(
-    alloc: Global,
     desktop: &mut Desktop,
     lines: &mut KeptLines,
     screen: &mut Screen,
@@ -105,5 +102,5 @@ pub(crate) fn screen_over<D: Disk>(
     ensures faults { FailsAs Stop.Fault IsStop result (D.failures disk.old) (D.failures disk.new) }
 {
     let mut source = Paged::over(disk, pages);
-    desktop.screen(alloc, lines, &mut source, screen)
+    desktop.screen(lines, &mut source, screen)
 }

@@ -43,7 +43,6 @@ pub struct View {
 /// the source failed in this call, and the screen may show anything.
 pub fn paint<S: CharSource>(
     desk: &Desk,
-    alloc: Global,
     lines: &mut KeptLines,
     source: &mut S,
     screen: &mut Screen,
@@ -58,8 +57,8 @@ pub fn paint<S: CharSource>(
     ensures reads { OnlyReads S.characters S.failures S.honest S.same_ground source.old source.new }
     ensures faults { FailsAs Stop.Fault IsStop result (S.failures source.old) (S.failures source.new) }
 {
-    let views = views_of(alloc, &desk.viewers, desk.caret, &desk.selections)?;
-    let shown = shown_of(alloc, &desk.texts, &views)?;
+    let views = views_of(desk.alloc, &desk.viewers, desk.caret, &desk.selections)?;
+    let shown = shown_of(desk.alloc, &desk.texts, &views)?;
     lines.prepare()?;
     screen.paint(&desk.tracks, &shown, desk.marker, lines, source)?;
     Ok(())
@@ -70,7 +69,6 @@ pub fn paint<S: CharSource>(
 /// allocation is refused, Fault where a character could not be read; the list then has some of them.
 pub fn list_column<S: CharSource>(
     desk: &Desk,
-    alloc: Global,
     track: Track,
     entries: &mut Vec<Entry>,
     source: &mut S,
@@ -86,7 +84,7 @@ pub fn list_column<S: CharSource>(
 {
     for below in 0..desk.tracks.levels(track) {
         list_over(track, below, entries)?;
-        list_level(desk, alloc, track, below + 1, entries, source)?;
+        list_level(desk, track, below + 1, entries, source)?;
     }
     Ok(())
 }
@@ -112,7 +110,6 @@ fn list_over(track: Track, below: u8, entries: &mut Vec<Entry>) -> Result<(), No
 /// where an allocation is refused, Fault where a character could not be read; the list then has some of them.
 fn list_level<S: CharSource>(
     desk: &Desk,
-    alloc: Global,
     track: Track,
     level: u8,
     entries: &mut Vec<Entry>,
@@ -133,7 +130,7 @@ fn list_level<S: CharSource>(
 {
     for index in 0..desk.tracks.count(track, level) {
         let (id, _) = desk.tracks.entry_in(track, level, index);
-        let entry = entry_of(desk, alloc, track, id, source)?;
+        let entry = entry_of(desk, track, id, source)?;
         entries.push(entry)?;
     }
     Ok(())
@@ -143,7 +140,6 @@ fn list_level<S: CharSource>(
 /// refused, Fault where a character could not be read.
 fn entry_of<S: CharSource>(
     desk: &Desk,
-    alloc: Global,
     track: Track,
     id: ViewerId,
     source: &mut S,
@@ -161,7 +157,7 @@ fn entry_of<S: CharSource>(
     let viewer = viewer_or_none(&desk.viewers, id.0);
     let menu = text_there(&desk.texts, viewer.menu);
     let main = text_there(&desk.texts, viewer.main);
-    let name = menu_name(alloc, menu, source)?;
+    let name = menu_name(desk.alloc, menu, source)?;
     Ok(Entry::Viewer {
         x: track.left(),
         bottom: place.bottom,

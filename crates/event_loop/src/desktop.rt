@@ -91,6 +91,11 @@ impl Desktop {
         Ok(Desktop { desk })
     }
 
+    /// Where the desktop has its memory.
+    pub fn alloc(&self) -> Global {
+        self.desk.alloc
+    }
+
     /// Does the event, by this profile's rules with the commands of that version, and returns Done, or No with the code
     /// of a refusal, which leaves the desktop and the length of the source. The source has just the characters that
     /// count as written, before and after any reply: they were added to, or were exchanged for those that the desktop
@@ -101,7 +106,6 @@ impl Desktop {
     pub fn step<S: CharSource>(
         &mut self,
         version: Version,
-        alloc: Global,
         event: &Event,
         source: &mut S,
     ) -> Result<Reply, Stop>
@@ -116,7 +120,7 @@ impl Desktop {
         ensures source { IsSameSource S.failures S.honest S.same_ground source.old source.new }
         ensures faults { FailsAs Stop.Fault IsStop result (S.failures source.old) (S.failures source.new) }
     {
-        act(&mut self.desk, version, alloc, event, source)
+        act(&mut self.desk, version, event, source)
     }
 
     /// The text of the file of that name. None exactly where there is no file of that name.
@@ -136,7 +140,7 @@ impl Desktop {
     ///
     /// Nothing but the names of viewers is read. NoMemory where an allocation is refused; Fault where a character could
     /// not be read. The desktop stays, whatever is returned.
-    pub fn list<S: CharSource>(&mut self, alloc: Global, source: &mut S) -> Result<Vec<Entry>, Stop>
+    pub fn list<S: CharSource>(&mut self, source: &mut S) -> Result<Vec<Entry>, Stop>
         requires { IsOver (S.characters source.old) self.old }
         ensures entries { IfOk result (λ entries. S.honest source.old
             → entries.items ≡ entries_of (seen (S.characters source.old) self.old)) }
@@ -145,9 +149,9 @@ impl Desktop {
         ensures reads { OnlyReads S.characters S.failures S.honest S.same_ground source.old source.new }
         ensures faults { FailsAs Stop.Fault IsStop result (S.failures source.old) (S.failures source.new) }
     {
-        let mut entries = entries(alloc, &self.desk.files)?;
-        list_column(&self.desk, alloc, Track::User, &mut entries, source)?;
-        list_column(&self.desk, alloc, Track::System, &mut entries, source)?;
+        let mut entries = entries(self.desk.alloc, &self.desk.files)?;
+        list_column(&self.desk, Track::User, &mut entries, source)?;
+        list_column(&self.desk, Track::System, &mut entries, source)?;
         entries.push(Entry::Written(self.desk.written))?;
         Ok(entries)
     }
@@ -173,7 +177,6 @@ impl Desktop {
     /// anything. The desktop stays, whatever is returned.
     pub fn screen<S: CharSource>(
         &mut self,
-        alloc: Global,
         lines: &mut KeptLines,
         source: &mut S,
         screen: &mut Screen,
@@ -189,7 +192,7 @@ impl Desktop {
         ensures reads { OnlyReads S.characters S.failures S.honest S.same_ground source.old source.new }
         ensures faults { FailsAs Stop.Fault IsStop result (S.failures source.old) (S.failures source.new) }
     {
-        paint(&self.desk, alloc, lines, source, screen)
+        paint(&self.desk, lines, source, screen)
     }
 
     /// Puts the image of the desktop in the newest version, the bytes that say how it is kept, and returns how many

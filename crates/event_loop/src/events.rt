@@ -17,7 +17,6 @@ use desk_input::keys::{press, type_bytes};
 use desktop_definitions::{Reply, codes};
 use event_bytes::{Event, FileBytes, Name};
 use piece_ring::DEFAULT_LOOK;
-use std::alloc::Global;
 use text_core::Text;
 
 /// Does the event, in a version of the table of commands.
@@ -25,7 +24,6 @@ use text_core::Text;
 pub fn act<S: CharSource>(
     desk: &mut Desk,
     version: Version,
-    alloc: Global,
     event: &Event,
     source: &mut S,
 ) -> StepResult
@@ -36,8 +34,8 @@ pub fn act<S: CharSource>(
     ensures uses { Uses S.CharSource result source.old source.new }
 {
     match event {
-        Event::Typed(bytes) => type_bytes(desk, alloc, bytes, source),
-        Event::Key(key) => press(desk, alloc, *key, source),
+        Event::Typed(bytes) => type_bytes(desk, bytes, source),
+        Event::Key(key) => press(desk, *key, source),
         Event::Mark { x, y } => desk.mark(*x, *y, source),
         Event::Point {
             keys,
@@ -45,15 +43,14 @@ pub fn act<S: CharSource>(
             y0,
             x1,
             y1,
-        } => point(desk, version, alloc, *keys, (*x0, *y0), (*x1, *y1), source),
-        Event::File { name, bytes } => put_file(desk, alloc, name, bytes, source),
+        } => point(desk, version, *keys, (*x0, *y0), (*x1, *y1), source),
+        Event::File { name, bytes } => put_file(desk, name, bytes, source),
     }
 }
 
 /// The file of that name becomes these bytes, in each version alike.
 fn put_file<S: CharSource>(
     desk: &mut Desk,
-    alloc: Global,
     name: &Name,
     bytes: &FileBytes,
     source: &mut S,
@@ -72,7 +69,7 @@ fn put_file<S: CharSource>(
     if !file_fits(desk, name, bytes.len()) {
         return Ok(Reply::No(codes::FULL));
     }
-    let text = Text::of_run(alloc, desk.written, bytes.len() as u32, DEFAULT_LOOK)?;
+    let text = Text::of_run(desk.alloc, desk.written, bytes.len() as u32, DEFAULT_LOOK)?;
     source.append(bytes)?;
     put(&mut desk.files, name, text)?;
     desk.written += bytes.len() as u32;

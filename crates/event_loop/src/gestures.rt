@@ -25,14 +25,12 @@ use desk_input::places::{frame_row, menu_position, region_under, stretch_drawn, 
 use desk_input::stretches::{copy_to, send_to_caret, take_looks, take_out};
 use desktop_definitions::{Region, Reply, Selection, codes};
 use event_bytes::Keys;
-use std::alloc::Global;
 
 /// The keys went down at the cell `from`, as column and row, and up at `to`. Refused where one of them is outside
 /// the display. The version is that of the table of commands, of which one may be called.
 pub fn point<S: CharSource>(
     desk: &mut Desk,
     version: Version,
-    alloc: Global,
     keys: Keys,
     from: (u8, u8),
     to: (u8, u8),
@@ -56,13 +54,13 @@ pub fn point<S: CharSource>(
         return Ok(Reply::No(codes::OUTSIDE));
     }
     match region_under(desk, from.0, from.1) {
-        Region::Filler => point_filler(desk, alloc, keys, from, source),
-        Region::Menu(id) => point_menu(desk, version, alloc, keys, id, to, source),
+        Region::Filler => point_filler(desk, keys, from, source),
+        Region::Menu(id) => point_menu(desk, version, keys, id, to, source),
         Region::Bar(id) => {
             let row = frame_row(desk, id, from.1);
             point_bar(desk, keys, id, row, source)
         }
-        Region::Body(id) => point_text(desk, version, alloc, keys, id, from, to, source),
+        Region::Body(id) => point_text(desk, version, keys, id, from, to, source),
     }
 }
 
@@ -70,7 +68,6 @@ pub fn point<S: CharSource>(
 #[tactic(auto, unfolding(desk_core::specs::Mouse::done_in_filler, desktop_definitions::specs::Unread::gesture_brings))]
 fn point_filler<S: CharSource>(
     desk: &mut Desk,
-    alloc: Global,
     keys: Keys,
     cell: (u8, u8),
     source: &mut S,
@@ -84,7 +81,7 @@ fn point_filler<S: CharSource>(
     ensures uses { Uses S.CharSource result source.old source.new }
 {
     match keys {
-        Keys::Middle => open_tool(desk, alloc, cell.0, cell.1, source),
+        Keys::Middle => open_tool(desk, cell.0, cell.1, source),
         _ => Ok(Reply::Done),
     }
 }
@@ -94,7 +91,6 @@ fn point_filler<S: CharSource>(
 fn point_menu<S: CharSource>(
     desk: &mut Desk,
     version: Version,
-    alloc: Global,
     keys: Keys,
     id: u16,
     cell: (u8, u8),
@@ -114,7 +110,7 @@ fn point_menu<S: CharSource>(
     match keys {
         Keys::Left => desk.resize(id, cell.1, source),
         Keys::LeftMiddle => desk.carry(id, cell.0, cell.1, source),
-        Keys::Middle => call_in_menu(desk, version, alloc, id, cell.0, source),
+        Keys::Middle => call_in_menu(desk, version, id, cell.0, source),
         _ => Ok(Reply::Done),
     }
 }
@@ -123,7 +119,6 @@ fn point_menu<S: CharSource>(
 fn call_in_menu<S: CharSource>(
     desk: &mut Desk,
     version: Version,
-    alloc: Global,
     id: u16,
     x: u8,
     source: &mut S,
@@ -136,7 +131,7 @@ fn call_in_menu<S: CharSource>(
     ensures uses { Uses S.CharSource result source.old source.new }
 {
     let pos = menu_position(desk, id, x, source)?;
-    call(desk, version, alloc, id, true, pos, source)
+    call(desk, version, id, true, pos, source)
 }
 
 /// In the scroll bar of a viewer, at a row of its main frame.
@@ -169,7 +164,6 @@ fn point_bar<S: CharSource>(
 fn point_text<S: CharSource>(
     desk: &mut Desk,
     version: Version,
-    alloc: Global,
     keys: Keys,
     id: u16,
     from: (u8, u8),
@@ -187,11 +181,9 @@ fn point_text<S: CharSource>(
 {
     match keys {
         Keys::Left | Keys::LeftMiddle | Keys::LeftRight | Keys::Middle => point_cell(
-            desk, version, alloc, keys, id, to, source,
+            desk, version, keys, id, to, source,
         ),
-        Keys::Right | Keys::RightLeft | Keys::RightMiddle => draw(
-            desk, alloc, keys, id, from, to, source,
-        ),
+        Keys::Right | Keys::RightLeft | Keys::RightMiddle => draw(desk, keys, id, from, to, source),
         _ => Ok(Reply::Done),
     }
 }
@@ -200,7 +192,6 @@ fn point_text<S: CharSource>(
 fn point_cell<S: CharSource>(
     desk: &mut Desk,
     version: Version,
-    alloc: Global,
     keys: Keys,
     id: u16,
     cell: (u8, u8),
@@ -216,7 +207,7 @@ fn point_cell<S: CharSource>(
     ensures uses { Uses S.CharSource result source.old source.new }
 {
     let pos = text_position(desk, id, cell.0, cell.1, source)?;
-    point_position(desk, version, alloc, keys, id, pos, source)
+    point_position(desk, version, keys, id, pos, source)
 }
 
 /// At a position of a viewer's main text.
@@ -224,7 +215,6 @@ fn point_cell<S: CharSource>(
 fn point_position<S: CharSource>(
     desk: &mut Desk,
     version: Version,
-    alloc: Global,
     keys: Keys,
     id: u16,
     pos: u32,
@@ -240,9 +230,9 @@ fn point_position<S: CharSource>(
 {
     match keys {
         Keys::Left => desk.set_caret(id, pos, source),
-        Keys::LeftMiddle => copy_to(desk, alloc, id, pos, source),
-        Keys::LeftRight => take_looks(desk, alloc, id, pos, source),
-        Keys::Middle => call(desk, version, alloc, id, false, pos, source),
+        Keys::LeftMiddle => copy_to(desk, id, pos, source),
+        Keys::LeftRight => take_looks(desk, id, pos, source),
+        Keys::Middle => call(desk, version, id, false, pos, source),
         _ => Ok(Reply::Done),
     }
 }
@@ -251,7 +241,6 @@ fn point_position<S: CharSource>(
 #[tactic(auto, unfolding(desk_core::specs::Mouse::done_with))]
 fn point_stretch<S: CharSource>(
     desk: &mut Desk,
-    alloc: Global,
     keys: Keys,
     drawn: Selection,
     source: &mut S,
@@ -264,8 +253,8 @@ fn point_stretch<S: CharSource>(
 {
     match keys {
         Keys::Right => desk.select(drawn, source),
-        Keys::RightLeft => take_out(desk, alloc, drawn, source),
-        Keys::RightMiddle => send_to_caret(desk, alloc, drawn, source),
+        Keys::RightLeft => take_out(desk, drawn, source),
+        Keys::RightMiddle => send_to_caret(desk, drawn, source),
         _ => Ok(Reply::Done),
     }
 }
@@ -273,7 +262,6 @@ fn point_stretch<S: CharSource>(
 /// With the stretch that was drawn between two cells of a viewer.
 fn draw<S: CharSource>(
     desk: &mut Desk,
-    alloc: Global,
     keys: Keys,
     id: u16,
     from: (u8, u8),
@@ -287,5 +275,5 @@ fn draw<S: CharSource>(
     ensures uses { Uses S.CharSource result source.old source.new }
 {
     let drawn = stretch_drawn(desk, id, from, to, source)?;
-    point_stretch(desk, alloc, keys, drawn, source)
+    point_stretch(desk, keys, drawn, source)
 }
