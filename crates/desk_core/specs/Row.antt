@@ -1,5 +1,5 @@
 -- What a method promises that does an event, or the rest of one.
-use Rattle.std.specs.Prelude.{◌≡◌, ℕ, List, length, Result}
+use Rattle.std.specs.Prelude.{◌≡◌, ℕ, List, length, Result, IfOk}
 use Rattle.sector_disk.specs.Faults.{FailsAs}
 use Rattle.char_file.specs.declared.source.CharSource.{Ghosts}
 use Rattle.desktop_definitions.specs.declared.reply.Reply.{Reply}
@@ -38,3 +38,16 @@ module _ {S : Type 0} (s : Ghosts S) where
     pub source : IsSameSource s.failures s.honest s.same_ground old new
     -- which errors there are, and that it failed exactly where the call says so
     pub faults : FailsAs Fault IsStop result (s.failures old) (s.failures new)
+
+  -- What a call promises that does an event, or the rest of one, which is this row.
+  pub record Does (row : Desktop → Result Desktop ℕ) (result : Result Reply Stop) (old new : S)
+      (before after : KeptDesktop) : Type 0 where
+    pub answered : IfOk result (Settles row old new before after)
+    pub uses : Uses result old new
+
+  -- The same of a row that reads no character where this holds.
+  pub record DoesUnread (calm : Type 0) (row : Desktop → Result Desktop ℕ) (result : Result Reply Stop) (old new : S)
+      (before after : KeptDesktop) : Type 0 where
+    pub answered : IfOk result (Settles row old new before after)
+    pub unread : calm → IfOk result (SettlesUnread row before after)
+    pub uses : Uses result old new

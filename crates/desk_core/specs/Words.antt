@@ -24,4 +24,4 @@ pub use Rattle.desktop_laws.specs.RowPartLaws.{kept_main}
 pub use Rattle.desk_core.specs.Kept.{kept}
 pub use Rattle.desk_core.specs.Stops.{IsStop}
 pub use Rattle.desk_core.specs.Positions.{IsPosition, IsOpenAt, CanGo}
-pub use Rattle.desk_core.specs.Row.{Settles, SettlesUnread, SettlesBringing, Uses}
+pub use Rattle.desk_core.specs.Row.{Settles, SettlesUnread, SettlesBringing, Uses, Does, DoesUnread}

@@ -50,7 +50,7 @@ fn apply(rt: &impl Abort, alloc: Global, ring: &mut Ring, edit: Edit) -> Result<
         }
         Edit::Split(pos) => {
             assert!(rt; pos <= ring.len());
-            ring.split_at(pos)
+            ring.split_at(alloc, pos)
         }
         Edit::Cut(beg, end) => {
             cut(rt, alloc, ring, beg, end)?;
@@ -63,14 +63,14 @@ fn apply(rt: &impl Abort, alloc: Global, ring: &mut Ring, edit: Edit) -> Result<
         Edit::Copy(beg, end) => {
             assert!(rt; beg <= end);
             assert!(rt; end <= ring.len());
-            *ring = ring.copy(beg, end)?;
+            *ring = ring.copy(alloc, beg, end)?;
             Ok(())
         }
         Edit::Move(beg, end, pos) => move_to(rt, alloc, ring, beg, end, pos),
         Edit::SetFont(beg, end, look) => {
             assert!(rt; beg <= end);
             assert!(rt; end <= ring.len());
-            ring.set_looks(beg, end, 1, look)
+            ring.set_looks(alloc, beg, end, 1, look)
         }
     }
 }
@@ -81,7 +81,7 @@ fn add(rt: &impl Abort, alloc: Global, ring: &mut Ring, piece: Piece) -> Result<
     assert!(rt; 0 < piece.len);
     assert!(rt; piece.off < 1_000);
     assert!(rt; piece.len < 1_000);
-    ring.add(piece)
+    ring.add(alloc, piece)
 }
 
 /// Puts a piece in at the end, as it is.
@@ -95,7 +95,7 @@ fn push(
     assert!(rt; ring.len() < 1_000);
     assert!(rt; off < 1_000 && 0 < len && len < 1_000);
     let look = DEFAULT_LOOK;
-    ring.push(Piece { off, len, look })
+    ring.push(alloc, Piece { off, len, look })
 }
 
 /// Takes the characters of a stretch out.
@@ -108,7 +108,7 @@ fn cut(
 ) -> Result<Ring, NoMemory> {
     assert!(rt; beg <= end);
     assert!(rt; end <= ring.len());
-    ring.cut(beg, end)
+    ring.cut(alloc, beg, end)
 }
 
 /// Takes the characters of a stretch out, and puts them in at a position.
@@ -122,7 +122,7 @@ fn move_to(
 ) -> Result<(), NoMemory> {
     let taken = cut(rt, alloc, ring, beg, end)?;
     assert!(rt; pos <= ring.len() && ring.len() < 1_000 && taken.len() < 1_000);
-    match ring.splice(pos, taken) {
+    match ring.splice(alloc, pos, taken) {
         Ok(()) => Ok(()),
         Err((refused, _)) => Err(refused),
     }

@@ -63,26 +63,26 @@ fn apply(
         Edit::Add(off, len) => {
             assert!(rt; off < 100 && 0 < len && len < 100);
             let look = DEFAULT_LOOK;
-            buffer.add(Piece { off, len, look })
+            buffer.add(alloc, Piece { off, len, look })
         }
         Edit::PushText(off, len) => {
             assert!(rt; off < 100 && 0 < len && len < 100);
             let look = DEFAULT_LOOK;
-            text.push(Piece { off, len, look })
+            text.push(alloc, Piece { off, len, look })
         }
         Edit::PushBuffer(off, len) => {
             assert!(rt; off < 100 && 0 < len && len < 100);
             let look = DEFAULT_LOOK;
-            buffer.push(Piece { off, len, look })
+            buffer.push(alloc, Piece { off, len, look })
         }
         Edit::CopyTo(off) => {
             *buffer = copied_to(rt, alloc, off, buffer)?;
             Ok(())
         }
         Edit::TakeAndAppend => {
-            let ring = buffer.take()?;
+            let ring = buffer.take(alloc)?;
             assert!(rt; buffer.len() < 100 && ring.len() < 100);
-            buffer.append(ring)
+            buffer.append(alloc, ring)
         }
         Edit::Clear => {
             buffer.clear();
@@ -95,16 +95,16 @@ fn apply(
         }
         Edit::Delete(beg, end) => {
             assert!(rt; beg <= end && beg <= text.len());
-            text.delete(beg, end, buffer)
+            text.delete(alloc, beg, end, buffer)
         }
         Edit::Insert(pos) => {
             assert!(rt; pos <= text.len());
-            text.insert(pos, buffer)
+            text.insert(alloc, pos, buffer)
         }
-        Edit::Append => text.append(buffer),
+        Edit::Append => text.append(alloc, buffer),
         Edit::ChangeLooks(beg, end, sel) => {
             assert!(rt; beg <= end && beg <= text.len());
-            text.change_looks(beg, end, sel, CHANGED)
+            text.change_looks(alloc, beg, end, sel, CHANGED)
         }
     }
 }
@@ -120,8 +120,8 @@ fn copied_to(
     assert!(rt; buffer.len() < 100);
     let mut other = Buffer::new(alloc)?;
     let look = DEFAULT_LOOK;
-    other.add(Piece { off, len: 1, look })?;
-    buffer.copy_to(&mut other)?;
+    other.add(alloc, Piece { off, len: 1, look })?;
+    buffer.copy_to(alloc, &mut other)?;
     Ok(other)
 }
 
@@ -131,7 +131,7 @@ fn saved(alloc: Global, text: &Text, beg: u32, end: u32) -> Result<Buffer, NoMem
     requires within { beg ≤ length (flat text.now) }
 {
     let mut buffer = Buffer::new(alloc)?;
-    text.save(beg, end, &mut buffer)?;
+    text.save(alloc, beg, end, &mut buffer)?;
     Ok(buffer)
 }
 
