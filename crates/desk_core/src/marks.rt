@@ -4,7 +4,7 @@ ghost use Rattle.desktop_definitions.specs.Step.{marked};
 ghost use Rattle.desktop_definitions.specs.Limits.{outside};
 ghost use Rattle.desktop_definitions.specs.Viewers.{with_caret};
 ghost use Rattle.desktop_definitions.specs.Gesture.{is_on_display, is_some_stretch, drawn_in};
-ghost use Rattle.desk_core.specs.Words.{IsOver, kept, IsPosition, Settles, SettlesUnread, Uses, unless};
+ghost use Rattle.desk_core.specs.Words.{IsOver, kept, IsPosition, Settles, SettlesUnread, Uses, Does, unless};
 
 use crate::desk::Desk;
 use crate::stop::StepResult;
@@ -57,9 +57,8 @@ impl Desk {
     pub fn set_caret<S: CharSource>(&mut self, id: u16, pos: u32, source: &mut S) -> StepResult
         requires at { IsPosition (kept self.old) id pos }
         requires over { IsOver (S.characters source.old) (kept self.old) }
-        ensures answered { IfOk result (Settles S.CharSource (λ d. Ok (with_caret d id pos))
-            source.old source.new (kept self.old) (kept self.new)) }
-        ensures uses { Uses S.CharSource result source.old source.new }
+        ensures { Does S.CharSource (λ d. Ok (with_caret d id pos)) result
+            source.old source.new (kept self.old) (kept self.new) }
     {
         self.caret = Some(Caret {
             viewer: id,
@@ -72,9 +71,8 @@ impl Desk {
     pub fn select<S: CharSource>(&mut self, drawn: Selection, source: &mut S) -> StepResult
         requires at { IsPosition (kept self.old) drawn.viewer drawn.end }
         requires over { IsOver (S.characters source.old) (kept self.old) }
-        ensures answered { IfOk result (Settles S.CharSource (λ d. Ok (drawn_in d drawn))
-            source.old source.new (kept self.old) (kept self.new)) }
-        ensures uses { Uses S.CharSource result source.old source.new }
+        ensures { Does S.CharSource (λ d. Ok (drawn_in d drawn)) result
+            source.old source.new (kept self.old) (kept self.new) }
     {
         if is_some_stretch(drawn) {
             select(&mut self.selections, drawn)?;
