@@ -119,7 +119,9 @@ fn no_memory(rt: &HostRuntime) -> io::Result<()> {
 /// Why the host refused the store's file.
 fn refused_file(rt: &HostRuntime, path: &str, fault: HostFault) -> io::Result<()> {
     match fault {
-        HostFault::Missing => eprintln!(rt; "desk: there is no file {path:?}"),
+        HostFault::Missing => eprintln!(rt;
+            "desk: there is no store {path:?}; desk PATH, with nothing else, makes one"
+        ),
         HostFault::InUse => eprintln!(rt;
             "desk: another program has {path:?} open, so nothing was done"
         ),
