@@ -99,8 +99,9 @@ caret_is c other true here same =
     λ k. record { viewer = sym viewer k; position = sym position k }
 caret_is c other false here same = absurd cc
 
-pub same_caret : (caret other : Option Caret) → ((c : Caret) → caret ≡ Some c → caret_position c.viewer caret
-    ≡ caret_position c.viewer other) → ((c : Caret) → other ≡ Some c → caret_position c.viewer caret ≡ caret_position c.viewer other)
+pub same_caret : (caret other : Option Caret)
+    → ((c : Caret) → caret ≡ Some c → caret_position c.viewer caret ≡ caret_position c.viewer other)
+    → ((c : Caret) → other ≡ Some c → caret_position c.viewer caret ≡ caret_position c.viewer other)
     → caret ≡ other
 same_caret None None here there = refl
 same_caret None (Some c) here there = let same = there c refl in let is = caret_there c in absurd (cc (same, is))

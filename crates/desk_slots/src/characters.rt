@@ -107,8 +107,8 @@ fn read_through<D: Disk>(
     read_image(alloc, &mut source, version, written, tail)
 }
 
-/// Reads the image of a slot of this head, in that version: the characters that are left over, to the front of a sector, and then its
-/// desktop. The characters of the area aren't read.
+/// Reads the image of a slot of this head, in that version: the characters that are left over, to the front of a
+/// sector, and then its desktop. The characters of the area aren't read.
 fn load_start<D: Disk>(
     alloc: Global,
     disk: &mut D,
@@ -159,8 +159,8 @@ fn with_pages(
     Ok(LiveDesktop::over(alloc, desktop, pages, head.area))
 }
 
-/// Loads what a slot of this head, which has that version, starts from. Memory is taken for the image and for the characters that are left over,
-/// fewer than a sector has.
+/// Loads what a slot of this head, which has that version, starts from. Memory is taken for the image and for the
+/// characters that are left over, fewer than a sector has.
 pub fn load_slot<D: Disk>(
     alloc: Global,
     disk: &mut D,

@@ -97,7 +97,8 @@ module _ (d : Desktop) (k : Track) (s : List (List Standing)) (n : ℕ) (start b
 -- What is known of entries that were put behind others, from a source that was only read: which they are of the desktop
 -- as it is seen, and, without the names, whatever the source told.
 module _ {S : Type 0} (s : Ghosts S) where
-  pub record HasListed (old new : S) (d : KeptDesktop) (before now : List Entry) (listed bare : Desktop → List Entry) : Type 0 where
+  pub record HasListed (old new : S) (d : KeptDesktop) (before now : List Entry)
+      (listed bare : Desktop → List Entry) : Type 0 where
     pub reads : OnlyReads s.characters s.failures s.honest s.same_ground old new
     pub calm : s.failures new ≡ s.failures old
     pub so_far : s.honest old → now ≡ before ++ listed (seen (s.characters old) d)

@@ -25,7 +25,8 @@ returns-in_ok-with_pages-in-Ok-clause-image g c = λ honest is.
     let content = (now (g.D.Disk.trail c.args.disk.now)).reads in
     let h = c.args.head.now in
     shown_by content _ c.args.slot h
-    (still_all _ _ (c.load_start.ensures.kept.moments honest)) is _ c.in-Ok.desktop c.in_ok-with_pages-in-Ok.field-0 p.desktop (p.characters content)
+    (still_all _ _ (c.load_start.ensures.kept.moments honest)) is _ c.in-Ok.desktop
+    c.in_ok-with_pages-in-Ok.field-0 p.desktop (p.characters content)
     (s.front honest) (s.enough honest)
     (subst (λ n. Spells n h.written (drop (left_over h.written) (stored content (image_at c.args.slot) h.extent))
     c.in-Ok.desktop) c.requires.version (s.spelled honest))

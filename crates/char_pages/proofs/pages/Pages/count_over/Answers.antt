@@ -18,7 +18,8 @@ returns-then-offset-self-clause-looked g c =
       most = omega arith;
       exact = λ h. c.count_range.ensures.count
           ∙ ap (λ l. count_by (λ b. b == c.args.wanted) (slice_range l at (at + c.args.most))) c.deref.ensures.value
-          ∙ ap (count_by (λ b. b == c.args.wanted)) (sym (range_behind reads p.base p.saved p.rest.items c.args.offset c.args.most past));
+          ∙ ap (count_by (λ b. b == c.args.wanted)) (sym (range_behind reads p.base p.saved
+          p.rest.items c.args.offset c.args.most past));
       few = c.count_range.ensures.few;
     }
 
