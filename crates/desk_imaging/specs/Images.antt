@@ -15,7 +15,7 @@ use Rattle.viewer_tracks.specs.Columns.{Columns, IsStack, stack_of, topmost, tim
 use Rattle.desktop_definitions.specs.declared.viewer.Viewer.{Viewer}
 use Rattle.desktop_definitions.specs.declared.viewer.Caret.{Caret}
 use Rattle.desktop_definitions.specs.declared.viewer.Selection.{Selection}
-use Rattle.desktop_definitions.specs.declared.viewer.Kept.{Kept}
+use Rattle.desktop_definitions.specs.declared.viewer.ClosedViewer.{ClosedViewer}
 use Rattle.desktop_definitions.specs.Limits.{newest_version, most_written}
 use Rattle.desktop_definitions.specs.Looks.{IsLook, AreLooks}
 use Rattle.desktop_definitions.specs.Seen.{seen_text, seen_table}
@@ -27,7 +27,7 @@ use Rattle.desk_image.specs.declared.picture.Ranked.{Ranked}
 use Rattle.desk_image.specs.declared.picture.ViewerPicture.{ViewerPicture}
 use Rattle.desktop_definitions.specs.Shown.{caret_position}
 use Rattle.desk_image.specs.Image.{Image, ranked_in, image_of, picture_of, listed, optional}
-use Rattle.desk_image.specs.Image.{look_bytes, cell_bytes, kept_bytes, text_bytes, file_bytes, pieces_bytes}
+use Rattle.desk_image.specs.Image.{look_bytes, cell_bytes, closed_bytes, text_bytes, file_bytes, pieces_bytes}
 use Rattle.desk_image.specs.Image.{viewers_bytes, stack_bytes, deepest}
 
 -- ---- what the writers of an image ask of a desktop's parts
@@ -62,7 +62,7 @@ abbrev pub display_long : KeptDesktop → ℕ
 display_long d = length (viewers_bytes newest_version (map (picture_of d.caret d.selections) d.viewers))
     + (length (stack_bytes newest_version (reverse (stack_of d.columns User)))
     + (length (stack_bytes newest_version (reverse (stack_of d.columns System)))
-    + length (optional (kept_bytes newest_version) d.kept)))
+    + length (optional (closed_bytes newest_version) d.closed)))
 
 -- ---- the desktop that has the parts of an image
 
@@ -114,7 +114,7 @@ drafted written i = record {
   caret = caret_of i.viewers;
   selections = selections_of i.viewers;
   marker = i.marker;
-  kept = i.kept;
+  closed = i.closed;
   files = i.files;
   copied = i.copied;
   deleted = i.deleted;
@@ -167,23 +167,23 @@ pub record CanBuild (c : Columns) (k : Track) (levels : Levels) : Type 0 where
 abbrev pub has_id : List (ℕ × Viewer) → ℕ → Bool
 has_id viewers v = list_any (λ e. e.0 == v) viewers
 
-abbrev pub is_kept_known : List (ℕ × Viewer) → Option Kept → Bool
-is_kept_known viewers None = true
-is_kept_known viewers (Some k) = has_id viewers k.viewer
+abbrev pub is_closed_known : List (ℕ × Viewer) → Option ClosedViewer → Bool
+is_closed_known viewers None = true
+is_closed_known viewers (Some k) = has_id viewers k.viewer
 
-abbrev pub stands_once : Levels → Levels → Option Kept → ℕ × Viewer → Bool
-stands_once user system kept e =
-    times_tracked user system e.0 + times_meant e.0 (option_map (λ k. k.viewer) kept) == 1
+abbrev pub stands_once : Levels → Levels → Option ClosedViewer → ℕ × Viewer → Bool
+stands_once user system closed e =
+    times_tracked user system e.0 + times_meant e.0 (option_map (λ k. k.viewer) closed) == 1
 
 -- all of the tracks are viewers
 abbrev pub are_known : List (ℕ × Viewer) → Levels → Bool
 are_known viewers stack = list_all (list_all (λ e. has_id viewers e.viewer)) stack
 
--- each viewer stands in one place, in a track or as the kept one, and nothing else does
-unfoldable pub are_placed : Levels → Levels → Option Kept → List (ℕ × Viewer) → Bool
-are_placed user system kept viewers =
-    list_all (stands_once user system kept) viewers && (are_known viewers user
-    && (are_known viewers system && is_kept_known viewers kept))
+-- each viewer stands in one place, in a track or as the closed one, and nothing else does
+unfoldable pub are_placed : Levels → Levels → Option ClosedViewer → List (ℕ × Viewer) → Bool
+are_placed user system closed viewers =
+    list_all (stands_once user system closed) viewers && (are_known viewers user
+    && (are_known viewers system && is_closed_known viewers closed))
 
 -- ---- what is marked
 
@@ -227,7 +227,7 @@ is_pictured caret selections p =
 -- the parts of an image, in whatever version it was read, make a desktop for which so many characters were written
 unfoldable pub is_desktop : ℕ → Image → Bool
 is_desktop written i =
-    nat_le written most_written && (are_placed i.user i.system i.kept (viewers_of i.viewers)
+    nat_le written most_written && (are_placed i.user i.system i.closed (viewers_of i.viewers)
     && (are_texts i.texts (viewers_of i.viewers)
     && (is_caret i.texts (viewers_of i.viewers) i.user i.system (caret_of i.viewers)
     && (list_all (is_selection i.texts (viewers_of i.viewers) i.user i.system) (selections_of i.viewers)

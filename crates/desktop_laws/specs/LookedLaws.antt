@@ -345,7 +345,7 @@ pub shape_stays : {d e : Desktop} → IsShaped d → main_parts d ≡ main_parts
     → HasLooks e → IsShaped e
 shape_stays shaped same few looks = record {
   viewers = subst (λ (x : Desktop). AreViewers x.texts x.viewers) same shaped.viewers;
-  places = subst (λ (x : Desktop). ArePlaces x.viewers x.columns x.kept) same shaped.places;
+  places = subst (λ (x : Desktop). ArePlaces x.viewers x.columns x.closed) same shaped.places;
   marks = subst (λ (x : Desktop). AreMarks x.columns (main_length x.texts x.viewers) x.caret x.selections) same
       shaped.marks;
   marker = subst (λ (x : Desktop). ForSome x.marker (λ m. (m.0 < COLUMNS) × (m.1 < ROWS))) same shaped.marker;

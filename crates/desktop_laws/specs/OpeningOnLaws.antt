@@ -96,7 +96,7 @@ pub viewer_can : (d : Desktop) (v : ℕ) → IsShaped d → IsPlaced v d.columns
     → CanShow d (viewer_or_none d.viewers v).main (viewer_or_none d.viewers v).org
 viewer_can d v shaped placed =
     let found = the_one (viewer_in d.viewers v) bare_viewer
-    (placed_known d.viewers d.columns d.kept v shaped.places placed) in
+    (placed_known d.viewers d.columns d.closed v shaped.places placed) in
     let shown = shaped.viewers.each v (viewer_or_none d.viewers v) found in
     record {
       there = shown.main;

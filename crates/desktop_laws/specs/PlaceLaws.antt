@@ -34,7 +34,7 @@ use Rattle.desktop_definitions.specs.Desktop.{Desktop, DesktopOf, held}
 use Rattle.desktop_definitions.specs.Viewers.{viewer_in, text_in, main_length, caret_outside, selections_outside}
 use Rattle.desktop_definitions.specs.Viewers.{without_viewer, bare_viewer}
 use Rattle.desktop_definitions.specs.Opening.{is_shown, dropped}
-use Rattle.desktop_definitions.specs.Sound.{AreViewers, times_there, IsKeptPlace, IsCaret, IsSelection}
+use Rattle.desktop_definitions.specs.Sound.{AreViewers, times_there, IsClosedPlace, IsCaret, IsSelection}
 use Rattle.desktop_definitions.specs.Sound.{AreMarks, AreFiles, HasLooks, IsShaped}
 use Rattle.desktop_laws.specs.StepLaws.{AllShown}
 use Rattle.desktop_laws.specs.LookedLaws.{looks_stay, dropped_looks}
@@ -248,9 +248,9 @@ pub record IsPlacedAnew (d : Desktop) (columns : Columns) (taken : Option ℕ) :
   pub files : AreFiles d.files
   pub pattern : length d.pattern ≤ most_pattern
   pub looks : HasLooks d
-  pub kept_place : ForSome d.kept IsKeptPlace
+  pub closed_place : ForSome d.closed IsClosedPlace
   pub columns_hold : IsColumns columns
-  pub once : (w : ℕ) → times_there columns d.kept w + times_meant w taken
+  pub once : (w : ℕ) → times_there columns d.closed w + times_meant w taken
       ≡ (if is_some (viewer_in d.viewers w) then 1 else 0)
   pub stay : StandStill d.columns columns taken
 
@@ -262,16 +262,16 @@ one_less there true sum = omega (arith, sum)
 one_less there false sum = omega (arith, sum)
 
 module _ (d : Desktop) (columns : Columns) where
-  once_left : (g w : ℕ) → IsPlacedAnew d columns (Some g) → times_there columns d.kept w
+  once_left : (g w : ℕ) → IsPlacedAnew d columns (Some g) → times_there columns d.closed w
       ≡ (if is_some (viewer_in (remove_entry (is_at (nat_cmp g)) d.viewers) w) then 1 else 0)
   once_left g w are = by_number w g _
       (λ same. one_less _ _ (let meant : times_meant w (Some g) ≡ 1 = rw (eq-eqb g w (sym same)) refl in
-      subst (λ n. times_there columns d.kept w + n ≡ (if is_some (viewer_in d.viewers w) then 1 else 0)) meant
+      subst (λ n. times_there columns d.closed w + n ≡ (if is_some (viewer_in d.viewers w) then 1 else 0)) meant
       (are.once w))
       ∙ (λ k. if is_some (sym (subst (λ (n : ℕ). viewer_in (remove_entry (is_at (nat_cmp g)) d.viewers) n ≡ None)
       (sym same) (removed_itself g d.viewers are.viewers.ids)) k) then 1 else 0))
       (λ other. let meant : times_meant w (Some g) ≡ 0 = rw (ne_eqb g w (λ same. other (sym same))) refl in
-      let sum : times_there columns d.kept w ≡ (if is_some (viewer_in d.viewers w) then 1 else 0)
+      let sum : times_there columns d.closed w ≡ (if is_some (viewer_in d.viewers w) then 1 else 0)
       = omega (arith, are.once w, meant) in
       sum ∙ (λ k. if is_some (sym (removed_other g w d.viewers other) k) then 1 else 0))
 
@@ -281,7 +281,7 @@ module _ (d : Desktop) (columns : Columns) where
     places = record {
       columns_hold = are.columns_hold;
       once = λ w. let sum = are.once w in omega (arith, sum);
-      kept_place = are.kept_place;
+      closed_place = are.closed_place;
     };
     marks = record {
       caret_stands = λ x here.
@@ -304,7 +304,7 @@ module _ (d : Desktop) (columns : Columns) where
     places = record {
       columns_hold = are.columns_hold;
       once = λ w. once_left g w are;
-      kept_place = are.kept_place;
+      closed_place = are.closed_place;
     };
     marks = marks_left g d.texts d.viewers d.columns columns are.stay d.caret d.selections are.marks;
     marker = are.marker;
@@ -324,7 +324,7 @@ module _ (d : Desktop) (columns : Columns) where
     files = shaped.files;
     pattern = shaped.pattern;
     looks = shaped.looks;
-    kept_place = shaped.places.kept_place;
+    closed_place = shaped.places.closed_place;
     columns_hold = hold;
     once = λ w. let before = shaped.places.once w in let now = places w in omega (arith, before, now);
     stay = stay;

@@ -150,7 +150,7 @@ empty_sound = record {
         once = λ v. omega arith;
       };
       once = λ v. refl;
-      kept_place = λ k here. absurd (cc here);
+      closed_place = λ k here. absurd (cc here);
     };
     marks = record {
       caret_stands = λ c here. absurd (cc here);
