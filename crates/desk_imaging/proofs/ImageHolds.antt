@@ -21,6 +21,7 @@ use Rattle.desktop_definitions.specs.declared.viewer.ClosedViewer.{ClosedViewer}
 use Rattle.desktop_definitions.specs.Limits.{most_written}
 use Rattle.desktop_definitions.specs.Tables.{Texts}
 use Rattle.desktop_definitions.specs.Desktop.{KeptDesktop}
+use Rattle.desktop_definitions.specs.Opening.{is_shown}
 use Rattle.desktop_definitions.specs.Viewers.{viewer_in, viewer_or_none, main_length}
 use Rattle.desktop_definitions.specs.Seen.{seen, seen_text, seen_table}
 use Rattle.desktop_definitions.specs.Sound.{IsViewer, AreViewers, ArePlaces, IsCaret, IsSelection, AreMarks}
@@ -31,9 +32,9 @@ use Rattle.desk_image.specs.declared.picture.Ranked.{Ranked}
 use Rattle.desktop_definitions.specs.Shown.{caret_position}
 use Rattle.desk_image.specs.Image.{Image, image_of, picture_of, ranked_in}
 use Rattle.desk_imaging.specs.Images.{is_desktop, IsDesktopOf, times_tracked, viewers_of, caret_of, selections_of}
-use Rattle.desk_imaging.specs.Images.{leaves_menu, is_framed, is_in_use, are_texts, has_id, is_closed_known, stands_once}
+use Rattle.desk_imaging.specs.Images.{leaves_menu, is_framed, are_texts, has_id, is_closed_known, stands_once}
 use Rattle.desk_imaging.specs.Images.{are_placed, main_size, is_caret, is_selection, is_pictured}
-use Rattle.desk_imaging.specs.Images.{Levels, highest, is_shown, most_ranks, same_ranked}
+use Rattle.desk_imaging.specs.Images.{Levels, highest, is_on_top, most_ranks, same_ranked}
 use Rattle.desk_imaging.proofs.ImageBack.{selections_back, caret_back, viewers_back}
 use Rattle.desk_imaging.proofs.ImageMade.{id_is}
 use Rattle.desk_imaging.proofs.Stacks.{times_reversed, highest_reversed, all_known}
@@ -70,13 +71,13 @@ module _ (texts : Texts (List Piece)) (viewers : List (ℕ × Viewer)) where
         (λ i d low. leaves_it v (get_or viewers i d).0 viewer (get_or viewers i d).1 is
         (viewer_at_place viewers i d are.ids low))))))
 
-    texts_pass : All (λ n. IsTrue (is_in_use viewers n)) (keys_of texts) → are_texts texts viewers ≡ true
+    texts_pass : All (λ n. IsTrue (is_shown viewers n)) (keys_of texts) → are_texts texts viewers ≡ true
     unfolding are_texts
     texts_pass used =
         both _ _ (text_there [] texts 0 are.log)
         (both _ _ (list_all-from_AllPass (is_framed texts viewers) viewers
         (λ i d low. framed (get_or viewers i d).0 (get_or viewers i d).1 (viewer_at_place viewers i d are.ids low)))
-        (list_all-from_AllPass (is_in_use viewers) (keys_of texts) used))
+        (list_all-from_AllPass (is_shown viewers) (keys_of texts) used))
 
 -- ---- places
 
@@ -130,7 +131,7 @@ module _ (viewers : List (ℕ × Viewer)) (columns : Columns) (closed : Option C
         (λ v some. known v (let same = placed_is v in omega (arith, some, same))))
         (closed_known closed refl)))
 
-    top_shown : (v : ℕ) → IsOnTop v columns → is_shown user system v ≡ true
+    top_shown : (v : ℕ) → IsOnTop v columns → is_on_top user system v ≡ true
     top_shown v on_top =
         let in_user : times_in v (highest user) ≡ times_in v (topmost columns.user) =
         ap (times_in v) (highest_reversed columns.user) in
@@ -214,9 +215,9 @@ module _ (d : KeptDesktop) (sound : IsSound (seen [] d)) where
   unfolding seen
   marks_hold = shaped.marks
 
-  used : All (λ n. IsTrue (is_in_use d.viewers n)) (keys_of d.texts)
+  used : All (λ n. IsTrue (is_shown d.viewers n)) (keys_of d.texts)
   unfolding seen
-  used = subst (λ ks. All (λ n. IsTrue (is_in_use d.viewers n)) ks) (keys_of-map_values (seen_text []) d.texts)
+  used = subst (λ ks. All (λ n. IsTrue (is_shown d.viewers n)) ks) (keys_of-map_values (seen_text []) d.texts)
       sound.shown
 
   low : nat_le d.written most_written ≡ true

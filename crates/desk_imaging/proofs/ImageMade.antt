@@ -28,7 +28,7 @@ use Rattle.event_bytes.specs.Bytes.{is_name}
 use Rattle.desktop_definitions.specs.Tables.{Texts, numbered, name_cmp}
 use Rattle.desktop_definitions.specs.Desktop.{held}
 use Rattle.desktop_definitions.specs.Viewers.{viewer_in, viewer_or_none, main_length}
-use Rattle.desktop_definitions.specs.Opening.{is_shown as is_text_shown}
+use Rattle.desktop_definitions.specs.Opening.{is_shown}
 use Rattle.desktop_definitions.specs.Seen.{seen, seen_text, seen_table}
 use Rattle.desktop_definitions.specs.Sound.{IsViewer, AreViewers, ArePlaces, IsClosedPlace, IsCaret, IsSelection}
 use Rattle.desktop_definitions.specs.Sound.{AreMarks, AreFiles, HasLooks, IsShaped, IsSound, IsWithin}
@@ -38,9 +38,9 @@ use Rattle.desktop_laws.specs.TextLaws.{there_seen, long_seen}
 use Rattle.desktop_laws.specs.PlaceLaws.{at_same, at_is}
 use Rattle.desk_image.specs.Image.{Image, image_of, IsSpellable}
 use Rattle.desk_image.specs.Fitting.{FitsImage, FitsStack, FitsClosed, FitsCell, totals, total}
-use Rattle.desk_imaging.specs.Images.{is_desktop, IsDesktopOf, drafted, Levels, times_tracked, are_known, is_shown}
+use Rattle.desk_imaging.specs.Images.{is_desktop, IsDesktopOf, drafted, Levels, times_tracked, are_known, is_on_top}
 use Rattle.desk_imaging.specs.Images.{viewers_of, caret_of, selections_of}
-use Rattle.desk_imaging.specs.Images.{leaves_menu, is_framed, is_in_use, are_texts, has_id, is_closed_known, stands_once}
+use Rattle.desk_imaging.specs.Images.{leaves_menu, is_framed, are_texts, has_id, is_closed_known, stands_once}
 use Rattle.desk_imaging.specs.Images.{are_placed, highest, main_size, is_caret, is_selection, is_pictured}
 use Rattle.desk_imaging.proofs.Stacks.{times_reversed, not_in_tracks}
 use Rattle.desk_imaging.proofs.ImageFits.{stack_fits, few_levels}
@@ -228,7 +228,7 @@ passed written i is =
 record AreTested (texts : Texts (List Piece)) (viewers : List (ℕ × Viewer)) : Type 0 where
   log : is_some (numbered texts 0) ≡ true
   framed : list_all (is_framed texts viewers) viewers ≡ true
-  used : list_all (is_in_use viewers) (keys_of texts) ≡ true
+  used : list_all (is_shown viewers) (keys_of texts) ≡ true
 
 tested : (texts : Texts (List Piece)) (viewers : List (ℕ × Viewer)) → are_texts texts viewers ≡ true
     → AreTested texts viewers
@@ -345,7 +345,8 @@ module _ (user system : Levels) (closed : Option ClosedViewer) (viewers : List (
     };
     once = λ v. (let all = times_by v (viewer_in viewers v) refl in let same = placed_is v in
         omega (arith, all, same));
-    closed_place = for_some (FitsClosed version) IsClosedPlace closed (λ k fits. record { some = fits.1.0; within = fits.1.1 }) fits;
+    closed_place = for_some (FitsClosed version) IsClosedPlace closed
+        (λ k fits. record { some = fits.1.0; within = fits.1.1 }) fits;
   }
 
 -- ---- marks
@@ -355,7 +356,7 @@ module _ (characters : List ℕ) (texts : Texts (List Piece)) (viewers : List (�
     abbrev columns_of : Columns
     columns_of = record { user = reverse user; system = reverse system }
 
-    on_top : (v : ℕ) → is_shown user system v ≡ true → IsOnTop v columns_of
+    on_top : (v : ℕ) → is_on_top user system v ≡ true → IsOnTop v columns_of
     on_top v is = ltb-true 0 (times_in v (highest user) + times_in v (highest system)) is
 
     caret_holds : (c : Caret) → is_caret texts viewers user system (Some c) ≡ true
@@ -420,11 +421,11 @@ module _ (written : ℕ) (i : Image) (makes : is_desktop written i ≡ true) whe
     }
 
     all_shown : (characters : List ℕ)
-        → All (λ n. IsTrue (is_text_shown (seen characters (drafted written i)) n)) (keys_of (seen_table characters i.texts))
+        → All (λ n. IsTrue (is_shown (viewers_of i.viewers) n)) (keys_of (seen_table characters i.texts))
     unfolding seen
-    all_shown characters = subst (λ ks. All (λ n. IsTrue (is_in_use (viewers_of i.viewers) n)) ks)
+    all_shown characters = subst (λ ks. All (λ n. IsTrue (is_shown (viewers_of i.viewers) n)) ks)
         (sym (keys_of-map_values (seen_text characters) i.texts))
-        (AllPass-from_list_all (is_in_use (viewers_of i.viewers)) (keys_of i.texts) text_tests.used)
+        (AllPass-from_list_all (is_shown (viewers_of i.viewers)) (keys_of i.texts) text_tests.used)
 
     drafted_sound : (characters : List ℕ) → IsSound (seen characters (drafted written i))
     unfolding seen

@@ -22,6 +22,7 @@ use Rattle.desktop_definitions.specs.Seen.{seen_text, seen_table}
 use Rattle.desktop_definitions.specs.Tables.{Texts, numbered}
 use Rattle.desktop_definitions.specs.Desktop.{KeptDesktop}
 use Rattle.desktop_definitions.specs.Viewers.{text_in, viewer_or_none}
+use Rattle.desktop_definitions.specs.Opening.{is_shown}
 use Rattle.desktop_definitions.specs.Sound.{IsKeptWhole}
 use Rattle.desk_image.specs.declared.picture.Ranked.{Ranked}
 use Rattle.desk_image.specs.declared.picture.ViewerPicture.{ViewerPicture}
@@ -140,14 +141,10 @@ is_framed texts viewers e =
     && (nat_le e.1.org (size_of texts e.1.main)
     && (not (e.1.menu == 0) && list_all (leaves_menu e) viewers)))
 
--- a text is the log, or shown by a viewer
-abbrev pub is_in_use : List (ℕ × Viewer) → ℕ → Bool
-is_in_use viewers n = (n == 0) || list_any (λ e. (e.1.menu == n) || (e.1.main == n)) viewers
-
 unfoldable pub are_texts : Texts (List Piece) → List (ℕ × Viewer) → Bool
 are_texts texts viewers =
     is_some (numbered texts 0) && (list_all (is_framed texts viewers) viewers
-    && list_all (is_in_use viewers) (keys_of texts))
+    && list_all (is_shown viewers) (keys_of texts))
 
 -- ---- places
 
@@ -191,8 +188,9 @@ are_placed user system closed viewers =
 abbrev pub highest : Levels → List Entry
 highest stack = topmost (reverse stack)
 
-abbrev pub is_shown : Levels → Levels → ℕ → Bool
-is_shown user system v = nat_lt 0 (times_in v (highest user) + times_in v (highest system))
+-- a viewer stands in a track that is shown
+abbrev pub is_on_top : Levels → Levels → ℕ → Bool
+is_on_top user system v = nat_lt 0 (times_in v (highest user) + times_in v (highest system))
 
 -- how many characters the main text of a viewer has
 abbrev pub main_size : Texts (List Piece) → List (ℕ × Viewer) → ℕ → ℕ
@@ -202,12 +200,12 @@ module _ (texts : Texts (List Piece)) (viewers : List (ℕ × Viewer)) (user sys
   -- a caret stands in a viewer of a track that is shown, within its text
   unfoldable pub is_caret : Option Caret → Bool
   is_caret None = true
-  is_caret (Some c) = is_shown user system c.viewer && nat_le c.position (main_size texts viewers c.viewer)
+  is_caret (Some c) = is_on_top user system c.viewer && nat_le c.position (main_size texts viewers c.viewer)
 
   -- a selection has some character, of a viewer of a track that is shown
   unfoldable pub is_selection : Selection → Bool
   is_selection s =
-      is_shown user system s.viewer
+      is_on_top user system s.viewer
       && (nat_lt s.beg s.end && nat_le s.end (main_size texts viewers s.viewer))
 
 -- ---- a viewer's caret and selection are those that the desktop has there

@@ -4,10 +4,11 @@ ghost use Rattle.std.specs.List.{list_all};
 ghost use Rattle.std.specs.Map.{keys_of};
 ghost use Rattle.viewer_tracks.specs.Viewers.{times_in};
 ghost use Rattle.viewer_tracks.specs.Columns.{times_on, times_meant};
+ghost use Rattle.desktop_definitions.specs.Opening.{is_shown};
 ghost use Rattle.desk_image.specs.Pictures.{entry_of, stack_of as levels_of};
-ghost use Rattle.desk_imaging.specs.Images.{size_of, leaves_menu, is_framed, is_in_use, are_texts, has_id};
+ghost use Rattle.desk_imaging.specs.Images.{size_of, leaves_menu, is_framed, are_texts, has_id};
 ghost use Rattle.desk_imaging.specs.Images.{are_known, is_closed_known, highest};
-ghost use Rattle.desk_imaging.specs.Images.{stands_once, are_placed, is_shown, main_size, is_caret, is_selection};
+ghost use Rattle.desk_imaging.specs.Images.{stands_once, are_placed, is_on_top, main_size, is_caret, is_selection};
 ghost use Rattle.desk_imaging.specs.Images.{same_ranked, is_pictured};
 
 use crate::imaging::ranked_in;
@@ -66,8 +67,8 @@ fn are_framed(texts: &Texts, viewers: &ViewerTable) -> bool
 }
 
 /// Whether each text is the log or shown by a viewer.
-fn are_in_use(texts: &Texts, viewers: &ViewerTable) -> bool
-    ensures { result ≡ list_all (is_in_use viewers.now.items) (keys_of texts.now.entries) }
+fn are_shown(texts: &Texts, viewers: &ViewerTable) -> bool
+    ensures { result ≡ list_all (is_shown viewers.now.items) (keys_of texts.now.entries) }
 {
     for number in texts.keys() {
         if *number != 0 && !is_in_sight(viewers, *number) {
@@ -82,7 +83,7 @@ fn are_in_use(texts: &Texts, viewers: &ViewerTable) -> bool
 pub fn are_texts(texts: &Texts, viewers: &ViewerTable) -> bool
     ensures { result ≡ are_texts texts.now.entries viewers.now.items }
 {
-    texts.contains_key(&0) && are_framed(texts, viewers) && are_in_use(texts, viewers)
+    texts.contains_key(&0) && are_framed(texts, viewers) && are_shown(texts, viewers)
 }
 
 // ---- places
@@ -216,8 +217,8 @@ fn stands_highest(stack: &[Stretches], id: u16) -> bool
 }
 
 /// Whether a viewer stands in a track that is shown.
-fn is_shown(user: &[Stretches], system: &[Stretches], id: u16) -> bool
-    ensures { result ≡ is_shown (levels_of user.now) (levels_of system.now) id }
+fn is_on_top(user: &[Stretches], system: &[Stretches], id: u16) -> bool
+    ensures { result ≡ is_on_top (levels_of user.now) (levels_of system.now) id }
 {
     stands_highest(user, id) || stands_highest(system, id)
 }
@@ -244,7 +245,7 @@ pub fn is_caret(
     match caret {
         None => true,
         Some(caret) => {
-            is_shown(user, system, caret.viewer)
+            is_on_top(user, system, caret.viewer)
                 && caret.position <= main_size(texts, viewers, caret.viewer)
         }
     }
@@ -262,7 +263,7 @@ fn is_selection(
     ensures { result ≡ is_selection texts.now.entries viewers.now.items (levels_of user.now)
         (levels_of system.now) selection }
 {
-    is_shown(user, system, selection.viewer)
+    is_on_top(user, system, selection.viewer)
         && selection.beg < selection.end
         && selection.end <= main_size(texts, viewers, selection.viewer)
 }

@@ -108,7 +108,7 @@ pub record IsShaped (d : Desktop) : Type 0 where
 pub record IsSound (d : Desktop) : Type 0 where
   pub shaped : IsShaped d
   -- each text is the log, or shown by a viewer
-  pub shown : All (λ n. IsTrue (is_shown d n)) (keys_of d.texts)
+  pub shown : All (λ n. IsTrue (is_shown d.viewers n)) (keys_of d.texts)
   pub written_within : d.written ≤ most_written
   pub held_within : held d ≤ most_held
 

@@ -207,12 +207,12 @@ all_any q P (k ∷ ks) all is = (elim (is_at (nat_cmp q) k) as (λ b. is_at (nat
     ]) refl is
 
 pub few_texts : {T : Type 0} (d : DesktopOf T) → IsStrictlySortedBy nat_cmp (keys_of d.texts)
-    → All (λ n. IsTrue (is_shown d n)) (keys_of d.texts) → length d.texts ≤ 1 + 2 * length d.viewers
+    → All (λ n. IsTrue (is_shown d.viewers n)) (keys_of d.texts) → length d.texts ≤ 1 + 2 * length d.viewers
 few_texts d numbers shown =
     let few = length-le_from_is_member (eq_by_cmp_equiv nat_cmp_total) (keys_of d.texts) (0 ∷ shown_numbers d.viewers)
     (IsDistinct-from_sorted nat_cmp (keys_of d.texts) numbers)
     (λ q is. (λ i. (at_is q 0 ∙ the_log q) i || is_number q d.viewers i)
-    ∙ all_any q (λ n. IsTrue (is_shown d n)) (keys_of d.texts) shown is) in
+    ∙ all_any q (λ n. IsTrue (is_shown d.viewers n)) (keys_of d.texts) shown is) in
     let same = length-keys_of d.texts in
     let two = two_each d.viewers in
     omega (arith, few, same, two)

@@ -306,7 +306,7 @@ module _ (d : Desktop) (has : HasLooks d) where
   pub dropped_looks : HasLooks (dropped d)
   unfolding dropped
   dropped_looks =
-      texts_looks (filter (λ e. is_shown d e.0) d.texts) (left_looks (is_shown d) d.texts has.texts)
+      texts_looks (filter (λ e. is_shown d.viewers e.0) d.texts) (left_looks (is_shown d.viewers) d.texts has.texts)
 
   -- other files
   pub files_looks : (files : Files (Text ℕ)) → All AreLooks (values_of files) → HasLooks (record d { files = files })

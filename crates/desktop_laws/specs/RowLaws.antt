@@ -97,10 +97,10 @@ any_shown n (e ∷ es) = ap (λ b. ((e.1.menu == n) || (e.1.main == n)) || b) (a
 pub shown_rest : (d new : Desktop) → keys_of new.texts ≡ keys_of d.texts
     → texts_shown new.viewers ≡ texts_shown d.viewers → AllShown d → AllShown new
 shown_rest d new numbers viewers all =
-    let same : (n : ℕ) → is_shown d n ≡ is_shown new n = λ n. ap (λ b. (n == 0) || b)
+    let same : (n : ℕ) → is_shown d.viewers n ≡ is_shown new.viewers n = λ n. ap (λ b. (n == 0) || b)
     (any_shown n d.viewers ∙ ap (λ shown. among shown n) (sym viewers) ∙ sym (any_shown n new.viewers)) in
-    subst (All (λ n. IsTrue (is_shown new n))) (sym numbers)
-    (All-weaker (λ n. IsTrue (is_shown d n)) (λ n. IsTrue (is_shown new n))
+    subst (All (λ n. IsTrue (is_shown new.viewers n))) (sym numbers)
+    (All-weaker (λ n. IsTrue (is_shown d.viewers n)) (λ n. IsTrue (is_shown new.viewers n))
     (λ n shown. subst IsTrue (same n) shown) (keys_of d.texts) all)
 
 -- ---- the limits
