@@ -1,5 +1,5 @@
 # A checkpoint changes nothing that is shown: after one between all kinds of events the looks are those without it, also
-# after closing and opening; caret, selections, marker, current look, pattern, buffers, kept viewer and log go on from
+# after closing and opening; caret, selections, marker, current look, pattern, buffers, closed viewer and log go on from
 # where they were.
 {
     "$TESTS/../tools/hand_in" System.Tool "$TESTS/tool.text"
@@ -21,7 +21,7 @@ for lines in '' checkpoint; do
 done
 "$OBERON" check desk.disk | sed 's/epoch [0-9]*/epoch E/'
 
-# What isn't shown at once: buffers, pattern, marker, kept viewer, current look, carets and selections.
+# What isn't shown at once: buffers, pattern, marker, closed viewer, current look, carets and selections.
 cat > first <<'END'
 file System.Tool Edit.Open A.Text%0dSystem.Recall%0dEdit.Recall%0dSystem.SetColor 3%0dSystem.OpenLog%0dEdit.Open B.Text%0d
 point m 60 31 60 31

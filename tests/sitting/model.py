@@ -16,7 +16,7 @@ REASONS = {
     4: "the word is no command's",
     5: 'there is no such file, or it is named twice',
     6: 'no room for more characters',
-    7: 'no viewer is at the marker, or none is kept',
+    7: 'no viewer is at the marker, or none was closed',
     8: 'there are 256 files',
     9: 'the cell lies outside the display',
     10: "it isn't there from the caret on",

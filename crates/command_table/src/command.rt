@@ -14,9 +14,9 @@ pub enum Command {
     SystemOpen,
     /// Opens the log in the system track.
     SystemOpenLog,
-    /// Closes a viewer, which is kept.
+    /// Closes a viewer, which can be recalled.
     SystemClose,
-    /// Opens the viewer that is kept.
+    /// Opens the viewer that was closed last.
     SystemRecall,
     /// Opens a viewer on the same text.
     SystemCopy,

@@ -13,5 +13,5 @@ pub use Rattle.desktop_definitions.specs.Change.{plain, more_written, put_at_car
 pub use Rattle.desktop_definitions.specs.Opening.{menu_line, opening}
 pub use Rattle.desktop_definitions.specs.Effects.{deleting_line, files_deleted}
 pub use Rattle.desktop_definitions.specs.Step.{fits}
-pub use Rattle.desktop_definitions.specs.Sound.{IsKeptPlace, AllWithin}
+pub use Rattle.desktop_definitions.specs.Sound.{IsClosedPlace, AllWithin}
 pub use Rattle.desktop_definitions.specs.Changed.{IsExtended, IsStanding}

@@ -2,15 +2,15 @@
 ghost use Rattle.std.specs.Prelude.{◌≡◌, IfOk, Ok, option_map};
 ghost use Rattle.viewer_tracks.specs.Display.{left_of};
 ghost use Rattle.desktop_definitions.specs.Effects.{put_away, brought_back};
-ghost use Rattle.desktop_laws.specs.ClosingLaws.{place_kept};
+ghost use Rattle.desktop_laws.specs.ClosingLaws.{place_closed};
 ghost use Rattle.desk_core.specs.Words.{IsOnTop, id_number, needs, IsOver, kept, Settles, Uses};
 ghost use Rattle.desk_commands.specs.Calls.{IsViewerOnTop};
-ghost use Rattle.desk_commands.specs.Words.{Track as ATrack, no_viewer, IsKeptPlace};
+ghost use Rattle.desk_commands.specs.Words.{Track as ATrack, no_viewer, IsClosedPlace};
 
 use char_file::CharSource;
 use desk_core::desk::Desk;
 use desk_core::stop::StepResult;
-use desktop_definitions::{Kept, Reply, codes};
+use desktop_definitions::{ClosedViewer, Reply, codes};
 use viewer_tracks::{SYSTEM_LEFT, Track, ViewerId, edits_keep_columns, edits_place_viewers};
 
 /// The track whose leftmost column this is.
@@ -24,15 +24,15 @@ pub fn track_from(left: u8) -> Track
     }
 }
 
-/// The viewer that is kept, where one is.
-fn viewer_kept(kept: Option<Kept>) -> Option<ViewerId>
-    ensures { id_number result ≡ option_map (λ k. k.viewer) kept }
+/// The viewer that was closed last, where there is one.
+fn viewer_closed(closed: Option<ClosedViewer>) -> Option<ViewerId>
+    ensures { id_number result ≡ option_map (λ k. k.viewer) closed }
 {
-    kept.map(|kept| ViewerId(kept.viewer))
+    closed.map(|closed| ViewerId(closed.viewer))
 }
 
-/// A viewer goes from the display with what is marked in it, and is kept with its place. The one that was kept
-/// before is gone, with the texts that nobody else shows.
+/// A viewer goes from the display with what is marked in it, and is the closed one with its place. The one that was
+/// closed before is gone, with the texts that nobody else shows.
 pub fn close_viewer<S: CharSource>(desk: &mut Desk, id: u16, source: &mut S) -> StepResult
     requires { IsViewerOnTop (S.characters source.old) (kept desk.old) id }
     ensures answered { IfOk result (Settles S.CharSource (λ d. Ok (put_away d id))
@@ -41,43 +41,43 @@ pub fn close_viewer<S: CharSource>(desk: &mut Desk, id: u16, source: &mut S) -> 
 {
     edits_keep_columns();
     edits_place_viewers();
-    let gone = viewer_kept(desk.kept);
-    desk.kept = Some(place_kept(desk, id));
+    let gone = viewer_closed(desk.closed);
+    desk.closed = Some(place_closed(desk, id));
     desk.tracks.close(ViewerId(id));
     desk.unmark_viewer(id);
     desk.let_go(gone);
     Ok(Reply::Done)
 }
 
-/// A viewer of the display with its place, as it is kept once it is closed.
-fn place_kept(desk: &Desk, id: u16) -> Kept
+/// A viewer of the display with its place, as a closed one.
+fn place_closed(desk: &Desk, id: u16) -> ClosedViewer
     requires { IsOnTop id (kept desk.now).columns }
-    ensures value { result ≡ place_kept (kept desk.now).columns id }
-    ensures place { IsKeptPlace result }
+    ensures value { result ≡ place_closed (kept desk.now).columns id }
+    ensures place { IsClosedPlace result }
 {
     let place = desk.tracks.place_of(ViewerId(id));
-    Kept {
+    ClosedViewer {
         viewer: id,
         track: track_from(place.x),
         top: place.top,
     }
 }
 
-/// The viewer that is kept opens in its track, up to the row where it ended. One whose whole place it takes is
-/// gone, with the texts that nobody else shows. Refused where none is kept.
+/// The viewer that was closed last opens in its track, up to the row where it ended. One whose whole place it takes is
+/// gone, with the texts that nobody else shows. Refused where there is none.
 pub fn recall_viewer<S: CharSource>(desk: &mut Desk, source: &mut S) -> StepResult
     requires over { IsOver (S.characters source.old) (kept desk.old) }
     ensures answered { IfOk result (Settles S.CharSource
-        (λ d. needs d.kept no_viewer λ k. Ok (brought_back d k))
+        (λ d. needs d.closed no_viewer λ k. Ok (brought_back d k))
         source.old source.new (kept desk.old) (kept desk.new)) }
     ensures uses { Uses S.CharSource result source.old source.new }
 {
-    let Some(viewer) = desk.kept else {
+    let Some(viewer) = desk.closed else {
         return Ok(Reply::No(codes::NO_VIEWER));
     };
     edits_keep_columns();
     edits_place_viewers();
-    desk.kept = None;
+    desk.closed = None;
     desk.open_at(viewer.viewer, viewer.track.left(), viewer.top);
     Ok(Reply::Done)
 }

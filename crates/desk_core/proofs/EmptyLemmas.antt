@@ -28,7 +28,7 @@ module _ (texts : Texts (List Piece)) (viewers : List (ℕ × Viewer)) (columns 
     caret = None;
     selections = selections;
     marker = None;
-    kept = None;
+    closed = None;
     files = files;
     copied = copied;
     deleted = deleted;

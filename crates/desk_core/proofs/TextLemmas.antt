@@ -192,7 +192,7 @@ module _ (characters : List ℕ) (d : KeptDesktop) (v : ℕ) (built : IsBuilt (l
   unfolding seen
   viewer_there = is_there (viewer_in d.viewers v) bare_viewer
       (once_there (is_some (viewer_in d.viewers v)) (times_placed v d.columns)
-      (times_meant v (option_map (λ k. k.viewer) d.kept)) placed ((built.shaped characters).places.once v))
+      (times_meant v (option_map (λ k. k.viewer) d.closed)) placed ((built.shaped characters).places.once v))
 
   main_there : IsSome (numbered d.texts (viewer_or_none d.viewers v).main)
   unfolding seen

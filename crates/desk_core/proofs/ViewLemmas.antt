@@ -26,7 +26,7 @@ module _ (d : KeptDesktop) (whole : IsKeptWhole d) where
   -- a viewer that stands in a track
   placed_is : (v : ℕ) → IsPlaced v d.columns → IsSome (viewer_in d.viewers v)
   unfolding seen
-  placed_is v placed = placed_there d.viewers d.columns d.kept v (whole.sound []).shaped.places placed
+  placed_is v placed = placed_there d.viewers d.columns d.closed v (whole.sound []).shaped.places placed
 
   placed_viewer : (v : ℕ) → IsPlaced v d.columns
       → IsViewer (seen_table [] d.texts) d.viewers v (viewer_or_none d.viewers v)

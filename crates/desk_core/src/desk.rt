@@ -12,7 +12,7 @@ use crate::held::lengths;
 use crate::stop::NoMemory;
 use crate::viewers::ViewerTable;
 use arrayvec::ArrayVec;
-use desktop_definitions::{Caret, Kept, MOST_PATTERN, Selection};
+use desktop_definitions::{Caret, ClosedViewer, MOST_PATTERN, Selection};
 use piece_ring::{DEFAULT_LOOK, Look};
 use std::alloc::Global;
 use std::collections::BTreeMap;
@@ -39,7 +39,7 @@ pub struct Desk {
     /// The cell of the marker, as column and row, if it is set.
     pub marker: Option<(u8, u8)>,
     /// The viewer that was closed last, if there is one.
-    pub kept: Option<Kept>,
+    pub closed: Option<ClosedViewer>,
     pub files: Files,
     /// What was copied last.
     pub copied: Buffer,
@@ -71,7 +71,7 @@ pub fn empty_desk(alloc: Global) -> Result<Desk, NoMemory>
         caret: None,
         selections: Vec::new(alloc),
         marker: None,
-        kept: None,
+        closed: None,
         files: BTreeMap::new(alloc),
         copied,
         deleted,

@@ -5,7 +5,7 @@ use Rattle.piece_ring.specs.declared.piece.Piece.{Piece}
 use Rattle.viewer_tracks.specs.Viewers.{Entry}
 use Rattle.command_table.specs.Versions.{newest_version}
 use Rattle.desk_image.specs.Image.{Image, piece_bytes, entry_bytes, look_bytes, optional, cell_bytes, listed}
-use Rattle.desk_image.specs.Image.{text_bytes, file_bytes, pieces_bytes, viewers_bytes, stack_bytes, kept_bytes}
+use Rattle.desk_image.specs.Image.{text_bytes, file_bytes, pieces_bytes, viewers_bytes, stack_bytes, closed_bytes}
 use Rattle.desk_image.specs.Image.{image_bytes}
 use Rattle.event_bytes.specs.Parts.{byte, word, counted}
 
@@ -61,10 +61,10 @@ pub long_image : (version : ℕ) (i : Image) → length (image_bytes version i)
     + (length (optional cell_bytes i.marker) + (length (listed word text_bytes i.texts)
     + (length (listed word file_bytes i.files) + (length (pieces_bytes i.copied) + (length (pieces_bytes i.deleted)
     + (length (viewers_bytes version i.viewers) + (length (stack_bytes version i.user)
-    + (length (stack_bytes version i.system) + length (optional (kept_bytes version) i.kept))))))))))
+    + (length (stack_bytes version i.system) + length (optional (closed_bytes version) i.closed))))))))))
 unfolding image_bytes
 long_image version i =
     long_parts (look_bytes i.look) (counted byte i.pattern) (optional cell_bytes i.marker)
     (listed word text_bytes i.texts) (listed word file_bytes i.files) (pieces_bytes i.copied) (pieces_bytes i.deleted)
     (viewers_bytes version i.viewers) (stack_bytes version i.user) (stack_bytes version i.system)
-    (optional (kept_bytes version) i.kept)
+    (optional (closed_bytes version) i.closed)

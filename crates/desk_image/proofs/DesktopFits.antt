@@ -17,7 +17,7 @@ use Rattle.desk_image.specs.Fitting.{FitsCell, FitsTexts, FitsFiles, FitsImage, 
 use Rattle.desk_image.proofs.PieceFits.{pieces_fit}
 use Rattle.desk_image.proofs.Room.{IsShort, short_image, most_texts}
 use Rattle.desk_image.proofs.TableFits.{text_fits, table_fits, texts_fit, files_fit}
-use Rattle.desk_image.proofs.ViewersFit.{AreSmall, viewers_fit, column_fits, kept_fits}
+use Rattle.desk_image.proofs.ViewersFit.{AreSmall, viewers_fit, column_fits, closed_fits}
 
 cell_fits : (marker : Option (ℕ × ℕ)) → ForSome marker (λ m. (m.0 < COLUMNS) × (m.1 < ROWS)) → IfSome marker FitsCell
 cell_fits None within = tt
@@ -29,7 +29,7 @@ unfolding held
 texts_low e low = omega (arith, low)
 
 small : (version : ℕ) (d : KeptDesktop) → IsKeptWhole d → IsSpellable version d
-    → AreSmall version (seen_table [] d.texts) d.viewers d.columns d.kept d.caret d.selections
+    → AreSmall version (seen_table [] d.texts) d.viewers d.columns d.closed d.caret d.selections
 unfolding seen
 small version d whole parts =
     let sound : IsSound (seen [] d) = whole.sound [] in
@@ -76,10 +76,10 @@ desktop_fits version d whole parts =
     (text_fits [] d.written d.copied parts.tables.copied within.copied looks.copied) (omega (arith, low)) (omega arith) in
     let deleted = pieces_fit d.written (most_held - totals d.texts - totals d.files - total d.copied) d.deleted
     (text_fits [] d.written d.deleted parts.tables.deleted within.deleted looks.deleted) (omega (arith, low)) (omega arith) in
-    let viewers = viewers_fit version (seen_table [] d.texts) d.viewers d.columns d.kept d.caret d.selections are in
-    let user = column_fits version (seen_table [] d.texts) d.viewers d.columns d.kept d.caret d.selections are User in
+    let viewers = viewers_fit version (seen_table [] d.texts) d.viewers d.columns d.closed d.caret d.selections are in
+    let user = column_fits version (seen_table [] d.texts) d.viewers d.columns d.closed d.caret d.selections are User in
     let system =
-    column_fits version (seen_table [] d.texts) d.viewers d.columns d.kept d.caret d.selections are System in
-    let kept = kept_fits version (seen_table [] d.texts) d.viewers d.columns d.kept d.caret d.selections are in
+    column_fits version (seen_table [] d.texts) d.viewers d.columns d.closed d.caret d.selections are System in
+    let closed = closed_fits version (seen_table [] d.texts) d.viewers d.columns d.closed d.caret d.selections are in
     let marker = cell_fits d.marker shaped.marker in
-    (looks.look, (shaped.pattern, (marker, (texts, (files, (copied, (deleted, (viewers, (user, (system, kept))))))))))
+    (looks.look, (shaped.pattern, (marker, (texts, (files, (copied, (deleted, (viewers, (user, (system, closed))))))))))

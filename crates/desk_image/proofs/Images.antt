@@ -15,7 +15,7 @@ use Rattle.viewer_tracks.specs.declared.display.Track.TheVariants.{User, System}
 use Rattle.viewer_tracks.specs.declared.display.TheConstants.{ROWS, DEPTH, SYSTEM_LEFT}
 use Rattle.viewer_tracks.specs.Display.{left_of}
 use Rattle.viewer_tracks.specs.Viewers.{Entry}
-use Rattle.desktop_definitions.specs.declared.viewer.Kept.{Kept}
+use Rattle.desktop_definitions.specs.declared.viewer.ClosedViewer.{ClosedViewer}
 use Rattle.desktop_definitions.specs.Limits.{most_files, most_held}
 use Rattle.desktop_definitions.specs.Tables.{Files}
 use Rattle.desk_image.specs.declared.picture.Ranked.{Ranked}
@@ -24,14 +24,14 @@ use Rattle.desk_image.specs.declared.limits.TheConstants.{MOST_VIEWERS}
 use Rattle.desk_image.specs.Image.{Image, image_with, listed, pieces_bytes, text_bytes, file_bytes, ranked_bytes}
 use Rattle.desk_image.specs.Image.{has_overlays, id_bytes, viewer_bytes, viewers_bytes, entry_bytes}
 use Rattle.desk_image.specs.Image.{track_bytes, depth_bytes}
-use Rattle.desk_image.specs.Image.{stack_bytes, kept_bytes, image_bytes, InByte, InLong, InId}
+use Rattle.desk_image.specs.Image.{stack_bytes, closed_bytes, image_bytes, InByte, InLong, InId}
 use Rattle.desk_image.specs.Fitting.{Chain, FitsPieces, less, total, totals, FitsText, after_text, FitsTexts, follows}
 use Rattle.desk_image.specs.Fitting.{FitsFile, after_file, FitsFiles, FitsRanked, FitsViewer, after_viewer, FitsViewers}
-use Rattle.desk_image.specs.Fitting.{FitsEntry, above, FitsTrack, FitsLevel, overlaid, FitsStack, FitsKept, FitsImage}
+use Rattle.desk_image.specs.Fitting.{FitsEntry, above, FitsTrack, FitsLevel, overlaid, FitsStack, FitsClosed, FitsImage}
 use Rattle.desk_image.specs.Reading.{keyed_at}
 use Rattle.desk_image.specs.Reading.{pieces_at, text_at, texts_at, file_at, files_at, ranked_at, id_at, viewer_at}
 use Rattle.desk_image.specs.Reading.{viewers_at, raw_entry_at, is_entry, entry_at, track_at, level_at, depth_at}
-use Rattle.desk_image.specs.Reading.{stack_at, side_at, raw_kept_at, is_kept, kept_at, image_at, whole_image_at}
+use Rattle.desk_image.specs.Reading.{stack_at, side_at, raw_closed_at, is_closed, closed_at, image_at, whole_image_at}
 use Rattle.desk_image.proofs.Lists.{tested, ruled, items, listed_part, optional_part}
 use Rattle.desk_image.proofs.Fields.{long_part, look_part, piece_part, pattern_part, cell_part}
 
@@ -263,22 +263,22 @@ side_part = record {
   again = side_again;
 }
 
-abbrev RawKept : ℕ → Kept → Type 0
-RawKept version k = InId version k.viewer × (Unit {0} × InByte k.top)
+abbrev RawClosed : ℕ → ClosedViewer → Type 0
+RawClosed version k = InId version k.viewer × (Unit {0} × InByte k.top)
 
-kept_fits : (version : ℕ) (k : Kept) → RawKept version k × (is_kept k ≡ true) → FitsKept version k
-kept_fits version k (raw, test) = (raw.0, (grind (arith, nat_tests, test), grind (arith, nat_tests, test)))
+closed_fits : (version : ℕ) (k : ClosedViewer) → RawClosed version k × (is_closed k ≡ true) → FitsClosed version k
+closed_fits version k (raw, test) = (raw.0, (grind (arith, nat_tests, test), grind (arith, nat_tests, test)))
 
-fits_kept : (version : ℕ) (k : Kept) → FitsKept version k → RawKept version k × (is_kept k ≡ true)
-fits_kept version k (viewer, (some, top)) = ((viewer, (tt, omega (arith, top))), grind (arith, nat_tests, some, top))
+fits_closed : (version : ℕ) (k : ClosedViewer) → FitsClosed version k → RawClosed version k × (is_closed k ≡ true)
+fits_closed version k (viewer, (some, top)) = ((viewer, (tt, omega (arith, top))), grind (arith, nat_tests, some, top))
 
-pub kept_part : (version : ℕ) → IsPart (kept_bytes version) (FitsKept version) (kept_at version)
-unfolding kept_at raw_kept_at
-kept_part version =
-    recast (kept_fits version) (fits_kept version) (only is_kept (whole (
-    field _ (λ (k : Kept). k.viewer) (id_part version) (λ viewer _.
-    field _ (λ (k : Kept). k.track) side_part (λ track _.
-    last (λ (k : Kept). k.top) (λ top. record { viewer = viewer; track = track; top = top }) byte_part
+pub closed_part : (version : ℕ) → IsPart (closed_bytes version) (FitsClosed version) (closed_at version)
+unfolding closed_at raw_closed_at
+closed_part version =
+    recast (closed_fits version) (fits_closed version) (only is_closed (whole (
+    field _ (λ (k : ClosedViewer). k.viewer) (id_part version) (λ viewer _.
+    field _ (λ (k : ClosedViewer). k.track) side_part (λ track _.
+    last (λ (k : ClosedViewer). k.top) (λ top. record { viewer = viewer; track = track; top = top }) byte_part
     (λ top. ((tt, refl), refl)) (λ top. refl) (λ k known. rw (← known.0.1, ← known.1) refl))))))
 
 -- ---- images
@@ -304,10 +304,10 @@ image_part version written small = whole (
     field _ (λ (i : Image). i.viewers) (viewers_part version) (λ viewers _.
     field _ (λ (i : Image). i.user) (stack_part version) (λ user _.
     field _ (λ (i : Image). i.system) (stack_part version) (λ system _.
-    last (λ (i : Image). i.kept) (λ kept. image_with (look, pattern, marker)
-    (texts, files, copied, deleted) viewers (user, system, kept))
-    (optional_part (kept_part version))
-    (λ kept. ((((((((((tt, refl), refl), refl), refl), refl), refl), refl), refl), refl), refl)) (λ kept. refl)
+    last (λ (i : Image). i.closed) (λ closed. image_with (look, pattern, marker)
+    (texts, files, copied, deleted) viewers (user, system, closed))
+    (optional_part (closed_part version))
+    (λ closed. ((((((((((tt, refl), refl), refl), refl), refl), refl), refl), refl), refl), refl)) (λ closed. refl)
     (λ i known. rw (
       ← known.0.0.0.0.0.0.0.0.0.1,
       ← known.0.0.0.0.0.0.0.0.1,

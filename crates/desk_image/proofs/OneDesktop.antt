@@ -236,10 +236,10 @@ same_desktop d e one other count same =
     λ v found. same_in d.caret e.caret d.selections e.selections v d.viewers
     (all ∙ ap (map (picture_of e.caret e.selections)) (sym viewers)) found in
     let here : (v : ℕ) → IsOnTop v d.columns → IsSome (viewer_in d.viewers v) =
-    λ v shown. placed_there d.viewers d.columns d.kept v shaped.places (on_top_placed d.columns v shown) in
+    λ v shown. placed_there d.viewers d.columns d.closed v shaped.places (on_top_placed d.columns v shown) in
     let there : (v : ℕ) → IsOnTop v e.columns → IsSome (viewer_in d.viewers v) =
     λ v shown. subst (λ (vs : List (ℕ × Viewer)). IsSome (viewer_in vs v)) (sym viewers)
-    (placed_there e.viewers e.columns e.kept v those.places (on_top_placed e.columns v shown)) in
+    (placed_there e.viewers e.columns e.closed v those.places (on_top_placed e.columns v shown)) in
     let caret = same_caret d.caret e.caret
     (λ c is. (agree c.viewer (here c.viewer (shaped.marks.caret_stands c is).placed)).caret_same)
     (λ c is. (agree c.viewer (there c.viewer (those.marks.caret_stands c is).placed)).caret_same) in
@@ -254,7 +254,7 @@ same_desktop d e one other count same =
       caret = caret k;
       selections = selections k;
       marker = (same k).marker;
-      kept = (same k).kept;
+      closed = (same k).closed;
       files = (same k).files;
       copied = (same k).copied;
       deleted = (same k).deleted;

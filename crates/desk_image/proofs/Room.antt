@@ -17,7 +17,7 @@ use Rattle.viewer_tracks.specs.declared.display.TheConstants.{ROWS, DEPTH}
 use Rattle.viewer_tracks.specs.Display.{left_of}
 use Rattle.viewer_tracks.specs.Viewers.{Entry, IsTrack}
 use Rattle.viewer_tracks.specs.Columns.{IsStack}
-use Rattle.desktop_definitions.specs.declared.viewer.Kept.{Kept}
+use Rattle.desktop_definitions.specs.declared.viewer.ClosedViewer.{ClosedViewer}
 use Rattle.desktop_definitions.specs.Limits.{most_files, most_held, most_pattern}
 use Rattle.desktop_definitions.specs.Tables.{Texts, Files}
 use Rattle.desktop_definitions.specs.Desktop.{KeptDesktop, held}
@@ -30,7 +30,7 @@ use Rattle.sector_disk.specs.declared.disk.TheConstants.{SECTOR_BYTES}
 use Rattle.desk_image.specs.declared.picture.ViewerPicture.{ViewerPicture}
 use Rattle.desk_image.specs.Image.{Image, image_of, image_bytes, IsSpellable, Spells, AreSome, picture_of}
 use Rattle.desk_image.specs.Image.{long, optional, listed, piece_bytes, pieces_bytes, cell_bytes, text_bytes}
-use Rattle.desk_image.specs.Image.{file_bytes, ranked_bytes, viewer_bytes, viewers_bytes, entry_bytes, kept_bytes}
+use Rattle.desk_image.specs.Image.{file_bytes, ranked_bytes, viewer_bytes, viewers_bytes, entry_bytes, closed_bytes}
 use Rattle.desk_image.specs.Image.{id_bytes, depth_bytes, track_bytes, stack_bytes, has_overlays}
 use Rattle.desk_image.specs.Fitting.{total, totals}
 use Rattle.desk_image.proofs.Lists.{all_reversed}
@@ -122,8 +122,8 @@ entry_few version e =
     let all = length-append (id_bytes version e.viewer) (byte e.height) in
     omega (arith, id, all)
 
-kept_few : (version : ℕ) (k : Kept) → length (kept_bytes version k) ≤ 4
-kept_few version k =
+closed_few : (version : ℕ) (k : ClosedViewer) → length (closed_bytes version k) ≤ 4
+closed_few version k =
     let id = id_few (has_overlays version) k.viewer in
     let all = length-append (id_bytes version k.viewer) (byte (left_of k.track) ++ byte k.top) in
     omega (arith, id, all)
@@ -181,7 +181,7 @@ pub record IsShort (i : Image) : Type 0 where
 -- the bytes of viewers, tracks and the viewer that was closed last
 abbrev last_bytes : ℕ → Image → List ℕ
 last_bytes version i = viewers_bytes version i.viewers
-    ++ (stack_bytes version i.user ++ (stack_bytes version i.system ++ optional (kept_bytes version) i.kept))
+    ++ (stack_bytes version i.user ++ (stack_bytes version i.system ++ optional (closed_bytes version) i.closed))
 
 last_few : (version : ℕ) (i : Image) → IsShort i → length (last_bytes version i) ≤ 15000
 last_few version i short =
@@ -190,14 +190,14 @@ last_few version i short =
     let both = length-append (id_bytes version (length i.viewers)) (flat_map (viewer_bytes version) i.viewers) in
     let user = stack_few version i.user short.user short.user_few in
     let system = stack_few version i.system short.system short.system_few in
-    let kept = optional_few (kept_bytes version) 4 (kept_few version) i.kept in
+    let closed = optional_few (closed_bytes version) 4 (closed_few version) i.closed in
     let all = length-append (viewers_bytes version i.viewers)
-    (stack_bytes version i.user ++ (stack_bytes version i.system ++ optional (kept_bytes version) i.kept)) in
+    (stack_bytes version i.user ++ (stack_bytes version i.system ++ optional (closed_bytes version) i.closed)) in
     let more = length-append (stack_bytes version i.user)
-    (stack_bytes version i.system ++ optional (kept_bytes version) i.kept) in
-    let rest = length-append (stack_bytes version i.system) (optional (kept_bytes version) i.kept) in
+    (stack_bytes version i.system ++ optional (closed_bytes version) i.closed) in
+    let rest = length-append (stack_bytes version i.system) (optional (closed_bytes version) i.closed) in
     let viewer_count = short.viewers in
-    omega (arith, number, viewers, both, user, system, kept, all, more, rest, viewer_count)
+    omega (arith, number, viewers, both, user, system, closed, all, more, rest, viewer_count)
 
 -- the bytes of texts, files and buffers, and all that comes after them
 abbrev text_part : ℕ → Image → List ℕ
@@ -286,7 +286,7 @@ unfolding image_of seen
 short_image version d whole parts =
     let sound : IsSound (seen [] d) = whole.sound [] in
     let shaped = sound.shaped in
-    let viewers = few_viewers d.viewers d.columns d.kept shaped.places shaped.viewers.ids in
+    let viewers = few_viewers d.viewers d.columns d.closed shaped.places shaped.viewers.ids in
     let texts = few_texts (seen [] d) shaped.viewers.numbers sound.shown in
     let same = length_seen (seen_text []) d.texts in
     let files = shaped.files.few in

@@ -8,7 +8,7 @@ use Rattle.desk_image.specs.declared.source.ByteSource.{Ghosts as SourceGhosts}
 use Rattle.desk_image.specs.Fitting.{total, totals}
 use Rattle.desk_image.specs.Image.{Image, Front, Held, Shown, image_with}
 use Rattle.desk_image.specs.Reading.{optional_at, look_at, pattern_at, cell_at, texts_at, files_at, pieces_at}
-use Rattle.desk_image.specs.Reading.{viewers_at, stack_at, kept_at, image_at}
+use Rattle.desk_image.specs.Reading.{viewers_at, stack_at, closed_at, image_at}
 use Rattle.desk_image.specs.Steps.{front_at, held_at, shown_at, sections_at}
 use Rattle.desk_image.specs.Streams.{Reads}
 use Rattle.desk_image.proofs.Parts.{follows_on, fails, makes}
@@ -62,11 +62,11 @@ module _ {E : Type 0} where
 
   shown_then : (version : ℕ) (next : Shown × List ℕ → Option E) (bytes : List ℕ) → shown_at version bytes >>= next
       ≡ stack_at version bytes >>= λ user. stack_at version user.1 >>= λ system.
-      optional_at (kept_at version) system.1 >>= λ kept. next ((user.0, system.0, kept.0), kept.1)
+      optional_at (closed_at version) system.1 >>= λ closed. next ((user.0, system.0, closed.0), closed.1)
   unfolding shown_at
   shown_then version next bytes = three next (stack_at version bytes) (λ user. stack_at version user.1)
-      (λ user system. optional_at (kept_at version) system.1)
-      (λ user system kept. ((user.0, system.0, kept.0), kept.1))
+      (λ user system. optional_at (closed_at version) system.1)
+      (λ user system closed. ((user.0, system.0, closed.0), closed.1))
 
 -- what follows each section
 abbrev pub with_shown : Front → Held → List ViewerPicture → Shown × List ℕ → Option (Image × List ℕ)

@@ -22,7 +22,7 @@ use Rattle.viewer_tracks.specs.Columns.{Columns, IsStack, stack_of, times_on}
 use Rattle.desktop_definitions.specs.declared.viewer.Viewer.{Viewer}
 use Rattle.desktop_definitions.specs.declared.viewer.Caret.{Caret}
 use Rattle.desktop_definitions.specs.declared.viewer.Selection.{Selection}
-use Rattle.desktop_definitions.specs.declared.viewer.Kept.{Kept}
+use Rattle.desktop_definitions.specs.declared.viewer.ClosedViewer.{ClosedViewer}
 use Rattle.desktop_definitions.specs.Limits.{most_held}
 use Rattle.desktop_definitions.specs.Tables.{Texts, numbered, lengths}
 use Rattle.desktop_definitions.specs.Viewers.{viewer_in, viewer_or_none, text_in, main_length}
@@ -37,7 +37,7 @@ use Rattle.desk_image.specs.declared.limits.TheConstants.{MOST_VIEWERS}
 use Rattle.desktop_definitions.specs.Shown.{caret_position}
 use Rattle.desk_image.specs.Image.{InWord, InLong, InId, has_overlays, deepest, ranked_in, picture_of}
 use Rattle.desk_image.specs.Fitting.{Chain, FitsRanked, FitsViewer, FitsViewers, FitsEntry, FitsTrack, FitsLevel}
-use Rattle.desk_image.specs.Fitting.{FitsStack, FitsKept, after_viewer, above, overlaid}
+use Rattle.desk_image.specs.Fitting.{FitsStack, FitsClosed, after_viewer, above, overlaid}
 use Rattle.desk_image.proofs.Lists.{all_reversed}
 use Rattle.desk_image.proofs.TableFits.{From, from_next, from_none}
 
@@ -112,7 +112,7 @@ caret_fits (Some c) v small =
 
 -- What is known of the texts, viewers and marks of a desktop.
 pub record AreSmall (version : ℕ) (texts : Texts (Text ℕ)) (viewers : List (ℕ × Viewer)) (columns : Columns)
-    (kept : Option Kept) (caret : Option Caret) (selections : List Selection) : Type 0
+    (closed : Option ClosedViewer) (caret : Option Caret) (selections : List Selection) : Type 0
   where
     pub numbers : All InWord (keys_of texts)
     pub ids : All (InId version) (keys_of viewers)
@@ -120,12 +120,12 @@ pub record AreSmall (version : ℕ) (texts : Texts (Text ℕ)) (viewers : List (
     pub system : length columns.system ≤ deepest version
     pub low : lengths texts ≤ most_held
     pub viewers_hold : AreViewers texts viewers
-    pub places : ArePlaces viewers columns kept
+    pub places : ArePlaces viewers columns closed
     pub marks : AreMarks columns (main_length texts viewers) caret selections
 
-module _ (version : ℕ) (texts : Texts (Text ℕ)) (viewers : List (ℕ × Viewer)) (columns : Columns) (kept : Option Kept)
+module _ (version : ℕ) (texts : Texts (Text ℕ)) (viewers : List (ℕ × Viewer)) (columns : Columns) (closed : Option ClosedViewer)
     (caret : Option Caret) (selections : List Selection)
-    (are : AreSmall version texts viewers columns kept caret selections) where
+    (are : AreSmall version texts viewers columns closed caret selections) where
   main_small : (v : ℕ) → main_length texts viewers v ≤ most_held
   main_small v =
       let here = text_small (viewer_or_none viewers v).main texts in
@@ -183,7 +183,7 @@ module _ (version : ℕ) (texts : Texts (Text ℕ)) (viewers : List (ℕ × View
 
   few_pictures : length (map (picture_of caret selections) viewers) ≤ MOST_VIEWERS
   few_pictures =
-      let few = few_viewers viewers columns kept are.places are.viewers_hold.ids in
+      let few = few_viewers viewers columns closed are.places are.viewers_hold.ids in
       let same = length-map {B = ViewerPicture} viewers (picture_of caret selections) in
       omega (arith, few, same)
 
@@ -193,7 +193,7 @@ module _ (version : ℕ) (texts : Texts (Text ℕ)) (viewers : List (ℕ × View
       → length (map (picture_of caret selections) viewers) < (if overlays then 2 ^ 16 else 2 ^ 8)
   few_ids true user system = let few = few_pictures in omega (arith, few)
   few_ids false user system =
-      let few = few_by_depth viewers columns kept are.places are.viewers_hold.ids in
+      let few = few_by_depth viewers columns closed are.places are.viewers_hold.ids in
       let same = length-map {B = ViewerPicture} viewers (picture_of caret selections) in
       omega (arith, few, same, user, system)
 
@@ -212,11 +212,11 @@ module _ (version : ℕ) (texts : Texts (Text ℕ)) (viewers : List (ℕ × View
   -- ---- where viewers stand
 
   -- a viewer that stands somewhere has an id that the version can say
-  standing : (v : ℕ) → 0 < times_there columns kept v → InId version v
+  standing : (v : ℕ) → 0 < times_there columns closed v → InId version v
   standing v some =
       found_key (InId version) v viewers are.ids (there (is_some (viewer_in viewers v)) (are.places.once v))
     where
-      there : (b : Bool) → times_there columns kept v ≡ (if b then 1 else 0) → b ≡ true
+      there : (b : Bool) → times_there columns closed v ≡ (if b then 1 else 0) → b ≡ true
       there true once = refl
       there false once = absurd (omega (arith, once, some))
 
@@ -234,7 +234,7 @@ module _ (version : ℕ) (texts : Texts (Text ℕ)) (viewers : List (ℕ × View
             (All-tail (λ (x : Entry). InId version x.viewer) e t named) (omega (arith, sum, low)),
       )
 
-  track_fits : (t : List Entry) → IsTrack t → ((v : ℕ) → times_in v t ≤ times_there columns kept v)
+  track_fits : (t : List Entry) → IsTrack t → ((v : ℕ) → times_in v t ≤ times_there columns closed v)
       → FitsTrack version t
   track_fits t track there = entries_fit ROWS t track.some
       (λ i d low. standing (slice_index_or t i d).viewer
@@ -262,7 +262,7 @@ module _ (version : ℕ) (texts : Texts (Text ℕ)) (viewers : List (ℕ × View
         (λ i low. some (suc i) (omega arith) (omega (arith, low))),
   )
 
-  stack_fits : (s : List (List Entry)) → IsStack s → ((v : ℕ) → times_on v s ≤ times_there columns kept v)
+  stack_fits : (s : List (List Entry)) → IsStack s → ((v : ℕ) → times_on v s ≤ times_there columns closed v)
       → length s ≤ deepest version → FitsStack version (reverse s)
   stack_fits s stack there few =
       let same = length-reverse s in
@@ -285,18 +285,18 @@ module _ (version : ℕ) (texts : Texts (Text ℕ)) (viewers : List (ℕ × View
   column_fits User = stack_fits columns.user are.places.columns_hold.user (λ v. omega arith) are.user
   column_fits System = stack_fits columns.system are.places.columns_hold.system (λ v. omega arith) are.system
 
-kept_there : (columns : Columns) (k : Kept) → 0 < times_there columns (Some k) k.viewer
-kept_there columns k =
+closed_there : (columns : Columns) (k : ClosedViewer) → 0 < times_there columns (Some k) k.viewer
+closed_there columns k =
     let one : (let n : ℕ = cond (k.viewer == k.viewer) 1 0 in n)
     ≡ 1 = ap (λ b. let n : ℕ = cond b 1 0 in n) (eq-eqb k.viewer k.viewer refl) in
     omega (arith, one)
 
-pub kept_fits : (version : ℕ) (texts : Texts (Text ℕ)) (viewers : List (ℕ × Viewer)) (columns : Columns)
-    (kept : Option Kept) (caret : Option Caret) (selections : List Selection)
-    → AreSmall version texts viewers columns kept caret selections → IfSome kept (FitsKept version)
-kept_fits version texts viewers columns None caret selections are = tt
-kept_fits version texts viewers columns (Some k) caret selections are =
-    let place = are.places.kept_place k refl in (
-      standing version texts viewers columns (Some k) caret selections are k.viewer (kept_there columns k),
+pub closed_fits : (version : ℕ) (texts : Texts (Text ℕ)) (viewers : List (ℕ × Viewer)) (columns : Columns)
+    (closed : Option ClosedViewer) (caret : Option Caret) (selections : List Selection)
+    → AreSmall version texts viewers columns closed caret selections → IfSome closed (FitsClosed version)
+closed_fits version texts viewers columns None caret selections are = tt
+closed_fits version texts viewers columns (Some k) caret selections are =
+    let place = are.places.closed_place k refl in (
+      standing version texts viewers columns (Some k) caret selections are k.viewer (closed_there columns k),
       (place.some, place.within),
     )

@@ -8,7 +8,7 @@ use Rattle.event_bytes.specs.Bytes.{is_name}
 use Rattle.piece_ring.specs.declared.piece.Piece.{Piece}
 use Rattle.viewer_tracks.specs.declared.display.TheConstants.{ROWS, COLUMNS}
 use Rattle.viewer_tracks.specs.Viewers.{Entry}
-use Rattle.desktop_definitions.specs.declared.viewer.Kept.{Kept}
+use Rattle.desktop_definitions.specs.declared.viewer.ClosedViewer.{ClosedViewer}
 use Rattle.desktop_definitions.specs.Limits.{most_files, most_held, most_pattern}
 use Rattle.desktop_definitions.specs.Looks.{IsLook}
 use Rattle.desktop_definitions.specs.Tables.{Texts, Files, name_cmp}
@@ -121,8 +121,8 @@ FitsPattern pattern = length pattern ≤ most_pattern
 abbrev pub FitsCell : ℕ × ℕ → Type 0
 FitsCell c = (c.0 < COLUMNS) × (c.1 < ROWS)
 
-abbrev pub FitsKept : ℕ → Kept → Type 0
-FitsKept version k = InId version k.viewer × ((0 < k.top) × (k.top ≤ ROWS))
+abbrev pub FitsClosed : ℕ → ClosedViewer → Type 0
+FitsClosed version k = InId version k.viewer × ((0 < k.top) × (k.top ≤ ROWS))
 
 -- ---- images of a version, for which so many characters were written
 
@@ -133,7 +133,7 @@ FitsImage version written i = IsLook i.look × (FitsPattern i.pattern × (IfSome
     × (FitsPieces written (most_held - totals i.texts - totals i.files) i.copied
     × (FitsPieces written (most_held - totals i.texts - totals i.files - total i.copied) i.deleted
     × (FitsViewers version i.viewers × (FitsStack version i.user × (FitsStack version i.system
-    × IfSome i.kept (FitsKept version))))))))))
+    × IfSome i.closed (FitsClosed version))))))))))
 
 -- of some version
 abbrev pub FitsSome : ℕ → Image → Type 0

@@ -21,7 +21,7 @@ use Rattle.desktop_definitions.specs.Limits.{least_offset, greatest_offset}
 use Rattle.desktop_definitions.specs.declared.viewer.Viewer.{Viewer}
 use Rattle.desktop_definitions.specs.declared.viewer.Caret.{Caret}
 use Rattle.desktop_definitions.specs.declared.viewer.Selection.{Selection}
-use Rattle.desktop_definitions.specs.declared.viewer.Kept.{Kept}
+use Rattle.desktop_definitions.specs.declared.viewer.ClosedViewer.{ClosedViewer}
 use Rattle.desktop_definitions.specs.Shown.{caret_position}
 use Rattle.desktop_definitions.specs.Tables.{Texts, Files}
 use Rattle.desktop_definitions.specs.Desktop.{KeptDesktop}
@@ -45,7 +45,7 @@ pub record Image : Type 0 where
   -- the tracks of both columns, from the lowest up, each bottom up
   pub user : List (List Entry)
   pub system : List (List Entry)
-  pub kept : Option Kept
+  pub closed : Option ClosedViewer
 
 -- ---- its sections
 
@@ -59,7 +59,7 @@ Held = Texts (List Piece) × Files (List Piece) × List Piece × List Piece
 
 -- the tracks of both columns, and the viewer that was closed last
 abbrev pub Shown : Type 0
-Shown = List (List Entry) × List (List Entry) × Option Kept
+Shown = List (List Entry) × List (List Entry) × Option ClosedViewer
 
 abbrev pub image_with : Front → Held → List ViewerPicture → Shown → Image
 image_with front held viewers shown = record {
@@ -73,7 +73,7 @@ image_with front held viewers shown = record {
   viewers = viewers;
   user = shown.0;
   system = shown.1;
-  kept = shown.2;
+  closed = shown.2;
 }
 
 -- ---- what an image says of a desktop
@@ -104,7 +104,7 @@ image_of d = record {
   viewers = map (picture_of d.caret d.selections) d.viewers;
   user = reverse (stack_of d.columns User);
   system = reverse (stack_of d.columns System);
-  kept = d.kept;
+  closed = d.closed;
 }
 
 -- ---- versions
@@ -190,15 +190,15 @@ depth_bytes version n = if has_overlays version then byte n else []
 abbrev pub stack_bytes : ℕ → List (List Entry) → List ℕ
 stack_bytes version stack = listed (depth_bytes version) (track_bytes version) stack
 
-abbrev pub kept_bytes : ℕ → Kept → List ℕ
-kept_bytes version k = id_bytes version k.viewer ++ (byte (left_of k.track) ++ byte k.top)
+abbrev pub closed_bytes : ℕ → ClosedViewer → List ℕ
+closed_bytes version k = id_bytes version k.viewer ++ (byte (left_of k.track) ++ byte k.top)
 
 unfoldable pub image_bytes : ℕ → Image → List ℕ
 image_bytes version i = look_bytes i.look ++ (counted byte i.pattern ++ (optional cell_bytes i.marker
     ++ (listed word text_bytes i.texts ++ (listed word file_bytes i.files
     ++ (pieces_bytes i.copied ++ (pieces_bytes i.deleted ++ (viewers_bytes version i.viewers
     ++ (stack_bytes version i.user ++ (stack_bytes version i.system
-    ++ optional (kept_bytes version) i.kept)))))))))
+    ++ optional (closed_bytes version) i.closed)))))))))
 
 -- ---- images of desktops
 

@@ -27,5 +27,5 @@ pictured p = record {
   viewers = p.viewers.items;
   user = stack_of p.user.items;
   system = stack_of p.system.items;
-  kept = p.kept;
+  closed = p.closed;
 }

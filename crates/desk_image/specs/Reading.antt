@@ -11,7 +11,7 @@ use Rattle.viewer_tracks.specs.declared.display.Track.{Track}
 use Rattle.viewer_tracks.specs.declared.display.Track.TheVariants.{User, System}
 use Rattle.viewer_tracks.specs.Viewers.{Entry}
 use Rattle.desktop_definitions.specs.Limits.{number_of_fonts, number_of_colours}
-use Rattle.desktop_definitions.specs.declared.viewer.Kept.{Kept}
+use Rattle.desktop_definitions.specs.declared.viewer.ClosedViewer.{ClosedViewer}
 use Rattle.desktop_definitions.specs.Limits.{most_files, most_held, most_pattern}
 use Rattle.desktop_definitions.specs.Tables.{Texts, Files}
 use Rattle.desk_image.specs.declared.picture.Ranked.{Ranked}
@@ -196,15 +196,15 @@ side_at bytes = do
   x ← byte_at bytes
   if x.0 == 0 then Some (User, x.1) else if x.0 == SYSTEM_LEFT then Some (System, x.1) else None
 
-unfoldable pub raw_kept_at : ℕ → Reader Kept
-raw_kept_at version bytes = three_at (id_at version) side_at byte_at
+unfoldable pub raw_closed_at : ℕ → Reader ClosedViewer
+raw_closed_at version bytes = three_at (id_at version) side_at byte_at
     (λ viewer track top. record { viewer = viewer; track = track; top = top }) bytes
 
-abbrev pub is_kept : Kept → Bool
-is_kept k = nat_lt 0 k.top && nat_le k.top ROWS
+abbrev pub is_closed : ClosedViewer → Bool
+is_closed k = nat_lt 0 k.top && nat_le k.top ROWS
 
-unfoldable pub kept_at : ℕ → Reader Kept
-kept_at version bytes = when is_kept (raw_kept_at version) bytes
+unfoldable pub closed_at : ℕ → Reader ClosedViewer
+closed_at version bytes = when is_closed (raw_closed_at version) bytes
 
 -- ---- the whole
 
@@ -221,11 +221,11 @@ image_at version written bytes = do
   viewers ← viewers_at version deleted.1
   user ← stack_at version viewers.1
   system ← stack_at version user.1
-  kept ← optional_at (kept_at version) system.1
+  closed ← optional_at (closed_at version) system.1
   Some (
     image_with (look.0, pattern.0, marker.0) (texts.0, files.0, copied.0, deleted.0) viewers.0
-        (user.0, system.0, kept.0),
-    kept.1,
+        (user.0, system.0, closed.0),
+    closed.1,
   )
 
 -- an image, and no byte after it

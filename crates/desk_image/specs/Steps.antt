@@ -10,7 +10,7 @@ use Rattle.desk_image.specs.declared.source.ByteSource.{Ghosts as SourceGhosts}
 use Rattle.desk_image.specs.Fitting.{Chain, total, totals, FitsTexts, FitsFiles, FitsPieces}
 use Rattle.desk_image.specs.Image.{Image, Front, Held, Shown, image_with}
 use Rattle.desk_image.specs.Reading.{times, optional_at, look_at, pattern_at, cell_at, texts_at, files_at, pieces_at}
-use Rattle.desk_image.specs.Reading.{viewers_at, stack_at, kept_at}
+use Rattle.desk_image.specs.Reading.{viewers_at, stack_at, closed_at}
 use Rattle.desk_image.specs.Streams.{Reads}
 
 -- ---- bytes
@@ -75,8 +75,8 @@ unfoldable pub shown_at : ℕ → Reader Shown
 shown_at version bytes = do
   user ← stack_at version bytes
   system ← stack_at version user.1
-  kept ← optional_at (kept_at version) system.1
-  Some ((user.0, system.0, kept.0), kept.1)
+  closed ← optional_at (closed_at version) system.1
+  Some ((user.0, system.0, closed.0), closed.1)
 
 -- all sections, with the viewers between them
 abbrev pub sections_at : ℕ → ℕ → Reader Image

@@ -4,10 +4,10 @@ ghost use Rattle.command_table.specs.Versions.{newest_version};
 ghost use Rattle.piece_ring.specs.declared.piece.Piece.{Piece};
 ghost use Rattle.viewer_tracks.specs.Viewers.{Entry};
 ghost use Rattle.desk_image.specs.Image.{pieces_bytes, cell_bytes, ranked_bytes, viewer_bytes, track_bytes};
-ghost use Rattle.desk_image.specs.Image.{kept_bytes, long, optional};
+ghost use Rattle.desk_image.specs.Image.{closed_bytes, long, optional};
 
 use crate::{Ranked, ViewerPicture};
-use desktop_definitions::Kept;
+use desktop_definitions::ClosedViewer;
 
 /// How many bytes a look has.
 pub const LOOK_BYTES: usize = 3;
@@ -74,11 +74,11 @@ pub fn entries_len(count: u8) -> usize
 }
 
 /// How many bytes the viewer that was closed last has, if there is one.
-pub fn kept_len(kept: Option<Kept>) -> usize
-    ensures value { result ≡ length (optional (kept_bytes newest_version) kept) }
+pub fn closed_len(closed: Option<ClosedViewer>) -> usize
+    ensures value { result ≡ length (optional (closed_bytes newest_version) closed) }
     ensures few { result ≤ 5 }
 {
-    match kept {
+    match closed {
         None => 1,
         Some(_) => 5,
     }

@@ -24,13 +24,13 @@ pub use laws::{
     desktops_fit, empty_image, images_are_read, images_have_room, one_desktop,
     parts_make_one_desktop,
 };
-pub use lengths::{LOOK_BYTES, cell_len, entries_len, kept_len, pieces_len, viewer_len};
+pub use lengths::{LOOK_BYTES, cell_len, closed_len, entries_len, pieces_len, viewer_len};
 pub use limits::{IMAGE_BYTES, MOST_VIEWERS};
 pub use picture::{Levels, PATTERN, Picture, Ranked, Stretch, Stretches, TRACK, ViewerPicture};
 pub use reading::read_picture;
 pub use sink::ByteSink;
 pub use source::ByteSource;
 pub use writing::{
-    put_byte, put_cell, put_counted, put_entry, put_kept, put_look, put_pieces, put_viewer,
+    put_byte, put_cell, put_closed, put_counted, put_entry, put_look, put_pieces, put_viewer,
     put_word,
 };

@@ -1,7 +1,7 @@
 //! What an image says, part by part.
 
 use arrayvec::ArrayVec;
-use desktop_definitions::{Kept, MOST_PATTERN, Viewer};
+use desktop_definitions::{ClosedViewer, MOST_PATTERN, Viewer};
 use event_bytes::Name;
 use piece_ring::Look;
 use std::collections::BTreeMap;
@@ -60,5 +60,5 @@ pub struct Picture {
     pub viewers: Vec<ViewerPicture>,
     pub user: Levels,
     pub system: Levels,
-    pub kept: Option<Kept>,
+    pub closed: Option<ClosedViewer>,
 }

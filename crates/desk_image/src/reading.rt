@@ -14,13 +14,13 @@ ghost use Rattle.desktop_definitions.specs.Looks.{IsLook};
 ghost use Rattle.desk_image.specs.Fitting.{FitsPiece, less, total, totals, FitsPieces, FitsText, after_text};
 ghost use Rattle.desk_image.specs.Fitting.{FitsTexts, FitsFile, after_file, FitsFiles, follows, FitsRanked};
 ghost use Rattle.desk_image.specs.Fitting.{FitsViewer, after_viewer, FitsViewers, FitsEntry, above, FitsTrack};
-ghost use Rattle.desk_image.specs.Fitting.{FitsLevel, overlaid, FitsStack, FitsPattern, FitsCell, FitsKept, FitsImage};
+ghost use Rattle.desk_image.specs.Fitting.{FitsLevel, overlaid, FitsStack, FitsPattern, FitsCell, FitsClosed, FitsImage};
 ghost use Rattle.desk_image.specs.Pictures.{entry_of, track_of, stack_of, pictured};
 ghost use Rattle.desk_image.specs.Reading.{optional_at, long_at, offset_at, raw_look_at, look_at};
 ghost use Rattle.desk_image.specs.Reading.{raw_piece_at, piece_at, pieces_at, text_at, texts_at, file_at, files_at};
 ghost use Rattle.desk_image.specs.Reading.{ranked_at, id_at, viewer_at, viewers_at, raw_entry_at, entry_at};
 ghost use Rattle.desk_image.specs.Reading.{track_at, level_at, depth_at, stack_at};
-ghost use Rattle.desk_image.specs.Reading.{pattern_at, raw_cell_at, cell_at, side_at, raw_kept_at, kept_at};
+ghost use Rattle.desk_image.specs.Reading.{pattern_at, raw_cell_at, cell_at, side_at, raw_closed_at, closed_at};
 ghost use Rattle.desk_image.specs.Reading.{image_at, whole_image_at, is_piece as pieces};
 ghost use Rattle.desk_image.specs.Steps.{ReadsItems, any_at, end_at, short_at, last_key, front_at, held_at, FitHeld};
 ghost use Rattle.desk_image.specs.Steps.{shown_at};
@@ -36,7 +36,7 @@ use crate::{
 use arrayvec::ArrayVec;
 use command_table::Version;
 use desktop_definitions::{
-    COLOURS, FONTS, GREATEST_OFFSET, Kept, LEAST_OFFSET, MOST_FILES, MOST_HELD, Viewer,
+    COLOURS, ClosedViewer, FONTS, GREATEST_OFFSET, LEAST_OFFSET, MOST_FILES, MOST_HELD, Viewer,
 };
 use event_bytes::Name;
 use piece_ring::{Look, Piece};
@@ -687,41 +687,50 @@ fn side_from<S: ByteSource>(source: &mut S) -> Result<Track, ImageFault>
 }
 
 /// The viewer that was closed last, of which the track alone is tested.
-#[tactic(auto, unfolding(crate::specs::Reading::raw_kept_at))]
-fn raw_kept_from<S: ByteSource>(source: &mut S, version: Version) -> Result<Kept, ImageFault>
-    ensures reads { Reads S.ByteSource (λ kept. kept) result (raw_kept_at (version_number version))
+#[tactic(auto, unfolding(crate::specs::Reading::raw_closed_at))]
+fn raw_closed_from<S: ByteSource>(
+    source: &mut S,
+    version: Version,
+) -> Result<ClosedViewer, ImageFault>
+    ensures reads { Reads S.ByteSource (λ closed. closed) result (raw_closed_at (version_number version))
         source.old source.new }
-    ensures fits { IfOk result (λ kept. InId (version_number version) kept.viewer) }
+    ensures fits { IfOk result (λ closed. InId (version_number version) closed.viewer) }
 {
     let viewer = id_from(source, version)?;
     let track = side_from(source)?;
     let top = byte_from(source)?;
-    Ok(Kept { viewer, track, top })
+    Ok(ClosedViewer { viewer, track, top })
 }
 
 /// The viewer that was closed last.
-#[tactic(auto, unfolding(crate::specs::Reading::kept_at))]
-fn one_kept_from<S: ByteSource>(source: &mut S, version: Version) -> Result<Kept, ImageFault>
-    ensures reads { Reads S.ByteSource (λ kept. kept) result (kept_at (version_number version)) source.old source.new }
-    ensures fits { IfOk result (FitsKept (version_number version)) }
+#[tactic(auto, unfolding(crate::specs::Reading::closed_at))]
+fn one_closed_from<S: ByteSource>(
+    source: &mut S,
+    version: Version,
+) -> Result<ClosedViewer, ImageFault>
+    ensures reads { Reads S.ByteSource (λ closed. closed) result (closed_at (version_number version)) source.old source.new }
+    ensures fits { IfOk result (FitsClosed (version_number version)) }
 {
-    let kept = raw_kept_from(source, version)?;
-    if 0 < kept.top && kept.top <= ROWS {
-        Ok(kept)
+    let closed = raw_closed_from(source, version)?;
+    if 0 < closed.top && closed.top <= ROWS {
+        Ok(closed)
     } else {
         Err(ImageFault::Damaged)
     }
 }
 
 /// The viewer that was closed last, where there is one.
-fn kept_from<S: ByteSource>(source: &mut S, version: Version) -> Result<Option<Kept>, ImageFault>
-    ensures reads { Reads S.ByteSource (λ kept. kept) result (optional_at (kept_at (version_number version)))
+fn closed_from<S: ByteSource>(
+    source: &mut S,
+    version: Version,
+) -> Result<Option<ClosedViewer>, ImageFault>
+    ensures reads { Reads S.ByteSource (λ closed. closed) result (optional_at (closed_at (version_number version)))
         source.old source.new }
-    ensures fits { IfOk result (λ kept. IfSome kept (FitsKept (version_number version))) }
+    ensures fits { IfOk result (λ closed. IfSome closed (FitsClosed (version_number version))) }
 {
     match byte_from(source)? {
         0 => Ok(None),
-        1 => Ok(Some(one_kept_from(source, version)?)),
+        1 => Ok(Some(one_closed_from(source, version)?)),
         _ => Err(ImageFault::Damaged),
     }
 }
@@ -761,7 +770,7 @@ struct Held {
 struct Shown {
     user: Levels,
     system: Levels,
-    kept: Option<Kept>,
+    closed: Option<ClosedViewer>,
 }
 
 /// The look, the pattern and the marker.
@@ -812,16 +821,20 @@ fn shown_from<S: ByteSource>(
     version: Version,
 ) -> Result<Shown, ImageFault>
     ensures reads { Reads S.ByteSource
-        (λ shown. (stack_of shown.user.items, stack_of shown.system.items, shown.kept)) result
+        (λ shown. (stack_of shown.user.items, stack_of shown.system.items, shown.closed)) result
         (shown_at (version_number version)) source.old source.new }
     ensures user { IfOk result (λ shown. FitsStack (version_number version) (stack_of shown.user.items)) }
     ensures system { IfOk result (λ shown. FitsStack (version_number version) (stack_of shown.system.items)) }
-    ensures kept { IfOk result (λ shown. IfSome shown.kept (FitsKept (version_number version))) }
+    ensures closed { IfOk result (λ shown. IfSome shown.closed (FitsClosed (version_number version))) }
 {
     let user = stack_from(alloc, source, version)?;
     let system = stack_from(alloc, source, version)?;
-    let kept = kept_from(source, version)?;
-    Ok(Shown { user, system, kept })
+    let closed = closed_from(source, version)?;
+    Ok(Shown {
+        user,
+        system,
+        closed,
+    })
 }
 
 /// An image of a version.
@@ -851,7 +864,7 @@ fn picture_from<S: ByteSource>(
         viewers,
         user: shown.user,
         system: shown.system,
-        kept: shown.kept,
+        closed: shown.closed,
     })
 }
 

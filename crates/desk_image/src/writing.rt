@@ -7,10 +7,10 @@ ghost use Rattle.desktop_definitions.specs.Looks.{IsLook, AreLooks};
 ghost use Rattle.desk_image.specs.Streams.{Puts};
 ghost use Rattle.desk_image.specs.Pictures.{entry_of};
 ghost use Rattle.desk_image.specs.Image.{look_bytes, piece_bytes, pieces_bytes, cell_bytes, ranked_bytes, viewer_bytes};
-ghost use Rattle.desk_image.specs.Image.{entry_bytes, kept_bytes, long, optional, AreSome};
+ghost use Rattle.desk_image.specs.Image.{entry_bytes, closed_bytes, long, optional, AreSome};
 
 use crate::{ByteSink, Ranked, Stretch, ViewerPicture};
-use desktop_definitions::{Kept, LEAST_OFFSET};
+use desktop_definitions::{ClosedViewer, LEAST_OFFSET};
 use piece_ring::{Cursor, Look, Piece};
 use sector_disk::Fault;
 
@@ -144,13 +144,13 @@ pub fn put_entry<K: ByteSink>(sink: &mut K, entry: Stretch) -> Result<(), Fault>
 }
 
 /// Puts the viewer that was closed last, if there is one.
-pub fn put_kept<K: ByteSink>(sink: &mut K, kept: Option<Kept>) -> Result<(), Fault>
-    ensures { Puts K.ByteSink result (optional (kept_bytes newest_version) kept) sink.old sink.new }
+pub fn put_closed<K: ByteSink>(sink: &mut K, closed: Option<ClosedViewer>) -> Result<(), Fault>
+    ensures { Puts K.ByteSink result (optional (closed_bytes newest_version) closed) sink.old sink.new }
 {
-    let Some(kept) = kept else {
+    let Some(closed) = closed else {
         return put_byte(sink, 0);
     };
     put_byte(sink, 1)?;
-    put_word(sink, kept.viewer)?;
-    sink.put(&[kept.track.left(), kept.top])
+    put_word(sink, closed.viewer)?;
+    sink.put(&[closed.track.left(), closed.top])
 }

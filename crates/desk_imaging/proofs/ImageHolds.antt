@@ -17,10 +17,11 @@ use Rattle.viewer_tracks.proofs.StackLemmas.{topmost_times}
 use Rattle.desktop_definitions.specs.declared.viewer.Viewer.{Viewer}
 use Rattle.desktop_definitions.specs.declared.viewer.Caret.{Caret}
 use Rattle.desktop_definitions.specs.declared.viewer.Selection.{Selection}
-use Rattle.desktop_definitions.specs.declared.viewer.Kept.{Kept}
+use Rattle.desktop_definitions.specs.declared.viewer.ClosedViewer.{ClosedViewer}
 use Rattle.desktop_definitions.specs.Limits.{most_written}
 use Rattle.desktop_definitions.specs.Tables.{Texts}
 use Rattle.desktop_definitions.specs.Desktop.{KeptDesktop}
+use Rattle.desktop_definitions.specs.Opening.{is_shown}
 use Rattle.desktop_definitions.specs.Viewers.{viewer_in, viewer_or_none, main_length}
 use Rattle.desktop_definitions.specs.Seen.{seen, seen_text, seen_table}
 use Rattle.desktop_definitions.specs.Sound.{IsViewer, AreViewers, ArePlaces, IsCaret, IsSelection, AreMarks}
@@ -31,9 +32,9 @@ use Rattle.desk_image.specs.declared.picture.Ranked.{Ranked}
 use Rattle.desktop_definitions.specs.Shown.{caret_position}
 use Rattle.desk_image.specs.Image.{Image, image_of, picture_of, ranked_in}
 use Rattle.desk_imaging.specs.Images.{is_desktop, IsDesktopOf, times_tracked, viewers_of, caret_of, selections_of}
-use Rattle.desk_imaging.specs.Images.{leaves_menu, is_framed, is_in_use, are_texts, has_id, is_kept_known, stands_once}
+use Rattle.desk_imaging.specs.Images.{leaves_menu, is_framed, are_texts, has_id, is_closed_known, stands_once}
 use Rattle.desk_imaging.specs.Images.{are_placed, main_size, is_caret, is_selection, is_pictured}
-use Rattle.desk_imaging.specs.Images.{Levels, highest, is_shown, most_ranks, same_ranked}
+use Rattle.desk_imaging.specs.Images.{Levels, highest, is_on_top, most_ranks, same_ranked}
 use Rattle.desk_imaging.proofs.ImageBack.{selections_back, caret_back, viewers_back}
 use Rattle.desk_imaging.proofs.ImageMade.{id_is}
 use Rattle.desk_imaging.proofs.Stacks.{times_reversed, highest_reversed, all_known}
@@ -70,13 +71,13 @@ module _ (texts : Texts (List Piece)) (viewers : List (ℕ × Viewer)) where
         (λ i d low. leaves_it v (get_or viewers i d).0 viewer (get_or viewers i d).1 is
         (viewer_at_place viewers i d are.ids low))))))
 
-    texts_pass : All (λ n. IsTrue (is_in_use viewers n)) (keys_of texts) → are_texts texts viewers ≡ true
+    texts_pass : All (λ n. IsTrue (is_shown viewers n)) (keys_of texts) → are_texts texts viewers ≡ true
     unfolding are_texts
     texts_pass used =
         both _ _ (text_there [] texts 0 are.log)
         (both _ _ (list_all-from_AllPass (is_framed texts viewers) viewers
         (λ i d low. framed (get_or viewers i d).0 (get_or viewers i d).1 (viewer_at_place viewers i d are.ids low)))
-        (list_all-from_AllPass (is_in_use viewers) (keys_of texts) used))
+        (list_all-from_AllPass (is_shown viewers) (keys_of texts) used))
 
 -- ---- places
 
@@ -84,7 +85,7 @@ there_if : (b : Bool) (n : ℕ) → n ≡ (if b then 1 else 0) → 0 < n → b �
 there_if true n is some = refl
 there_if false n is some = absurd (omega (arith, is, some))
 
-module _ (viewers : List (ℕ × Viewer)) (columns : Columns) (kept : Option Kept) (are : ArePlaces viewers columns kept)
+module _ (viewers : List (ℕ × Viewer)) (columns : Columns) (closed : Option ClosedViewer) (are : ArePlaces viewers columns closed)
   where
     abbrev user : Levels
     user = reverse columns.user
@@ -99,7 +100,7 @@ module _ (viewers : List (ℕ × Viewer)) (columns : Columns) (kept : Option Kep
         omega (arith, in_user, in_system)
 
     abbrev times : ℕ → ℕ
-    times v = times_tracked user system v + times_meant v (option_map (λ k. k.viewer) kept)
+    times v = times_tracked user system v + times_meant v (option_map (λ k. k.viewer) closed)
 
     times_is : (v : ℕ) → times v ≡ (if is_some (viewer_in viewers v) then 1 else 0)
     times_is v = let once = are.once v in let same = placed_is v in omega (arith, once, same)
@@ -110,27 +111,27 @@ module _ (viewers : List (ℕ × Viewer)) (columns : Columns) (kept : Option Kep
     once : (v : ℕ) (viewer : Viewer) → viewer_in viewers v ≡ Some viewer → times v ≡ 1
     once v viewer found = times_is v ∙ ap (λ o. (let n : ℕ = if is_some o then 1 else 0 in n)) found
 
-    kept_known : (o : Option Kept) → kept ≡ o → is_kept_known viewers o ≡ true
-    kept_known None is = refl
-    kept_known (Some k) is =
-        let one : times_meant k.viewer (option_map (λ k. k.viewer) kept) ≡ 1 =
-        ap (λ (o : Option Kept). times_meant k.viewer (option_map (λ k. k.viewer) o)) is
+    closed_known : (o : Option ClosedViewer) → closed ≡ o → is_closed_known viewers o ≡ true
+    closed_known None is = refl
+    closed_known (Some k) is =
+        let one : times_meant k.viewer (option_map (λ k. k.viewer) closed) ≡ 1 =
+        ap (λ (o : Option ClosedViewer). times_meant k.viewer (option_map (λ k. k.viewer) o)) is
         ∙ ap (λ b. (let n : ℕ = cond b 1 0 in n)) (eq-eqb k.viewer k.viewer refl) in
         known k.viewer (omega (arith, one))
 
-    places_pass : IsStrictlySortedBy nat_cmp (keys_of viewers) → are_placed user system kept viewers ≡ true
+    places_pass : IsStrictlySortedBy nat_cmp (keys_of viewers) → are_placed user system closed viewers ≡ true
     unfolding are_placed
     places_pass ids =
-        both _ _ (list_all-from_AllPass (stands_once user system kept) viewers
+        both _ _ (list_all-from_AllPass (stands_once user system closed) viewers
         (λ i d low. eq-eqb (times (get_or viewers i d).0) 1
         (once (get_or viewers i d).0 (get_or viewers i d).1 (viewer_at_place viewers i d ids low))))
         (both _ _ (all_known viewers columns.user
         (λ v some. known v (let same = placed_is v in omega (arith, some, same))))
         (both _ _ (all_known viewers columns.system
         (λ v some. known v (let same = placed_is v in omega (arith, some, same))))
-        (kept_known kept refl)))
+        (closed_known closed refl)))
 
-    top_shown : (v : ℕ) → IsOnTop v columns → is_shown user system v ≡ true
+    top_shown : (v : ℕ) → IsOnTop v columns → is_on_top user system v ≡ true
     top_shown v on_top =
         let in_user : times_in v (highest user) ≡ times_in v (topmost columns.user) =
         ap (times_in v) (highest_reversed columns.user) in
@@ -186,13 +187,13 @@ pictures_pass caret selections (e ∷ viewers) =
 
 passes : (written : ℕ) (i : Image) (viewers : List (ℕ × Viewer)) (caret : Option Caret) (selections : List Selection)
     → viewers_of i.viewers ≡ viewers → caret_of i.viewers ≡ caret → selections_of i.viewers ≡ selections
-    → nat_le written most_written ≡ true → are_placed i.user i.system i.kept viewers ≡ true
+    → nat_le written most_written ≡ true → are_placed i.user i.system i.closed viewers ≡ true
     → are_texts i.texts viewers ≡ true → is_caret i.texts viewers i.user i.system caret ≡ true
     → list_all (is_selection i.texts viewers i.user i.system) selections ≡ true
     → list_all (is_pictured caret selections) i.viewers ≡ true → is_desktop written i ≡ true
 unfolding is_desktop
 passes written i viewers caret selections vs c ss low placed texts at all pictured =
-    (λ k. nat_le written most_written && (are_placed i.user i.system i.kept (vs k) && (are_texts i.texts (vs k)
+    (λ k. nat_le written most_written && (are_placed i.user i.system i.closed (vs k) && (are_texts i.texts (vs k)
     && (is_caret i.texts (vs k) i.user i.system (c k)
     && (list_all (is_selection i.texts (vs k) i.user i.system) (ss k)
     && list_all (is_pictured (c k) (ss k)) i.viewers)))))
@@ -206,7 +207,7 @@ module _ (d : KeptDesktop) (sound : IsSound (seen [] d)) where
   unfolding seen
   viewers_hold = shaped.viewers
 
-  places_hold : ArePlaces d.viewers d.columns d.kept
+  places_hold : ArePlaces d.viewers d.columns d.closed
   unfolding seen
   places_hold = shaped.places
 
@@ -214,9 +215,9 @@ module _ (d : KeptDesktop) (sound : IsSound (seen [] d)) where
   unfolding seen
   marks_hold = shaped.marks
 
-  used : All (λ n. IsTrue (is_in_use d.viewers n)) (keys_of d.texts)
+  used : All (λ n. IsTrue (is_shown d.viewers n)) (keys_of d.texts)
   unfolding seen
-  used = subst (λ ks. All (λ n. IsTrue (is_in_use d.viewers n)) ks) (keys_of-map_values (seen_text []) d.texts)
+  used = subst (λ ks. All (λ n. IsTrue (is_shown d.viewers n)) ks) (keys_of-map_values (seen_text []) d.texts)
       sound.shown
 
   low : nat_le d.written most_written ≡ true
@@ -227,7 +228,7 @@ module _ (d : KeptDesktop) (sound : IsSound (seen [] d)) where
   stands_there v on_top =
       let in_user = topmost_times v d.columns.user in
       let in_system = topmost_times v d.columns.system in
-      placed_there d.viewers d.columns d.kept v places_hold (omega (arith, on_top, in_user, in_system))
+      placed_there d.viewers d.columns d.closed v places_hold (omega (arith, on_top, in_user, in_system))
 
   few_ranks : length d.selections ≤ most_ranks
   few_ranks =
@@ -245,12 +246,12 @@ module _ (d : KeptDesktop) (sound : IsSound (seen [] d)) where
       (selections_back d.caret d.selections d.viewers
       (λ i s low. stands_there (get_or d.selections i s).viewer (marks_hold.all_stand i s low).placed)
       marks_hold.one_each few_ranks)
-      low (places_pass d.viewers d.columns d.kept places_hold viewers_hold.ids)
+      low (places_pass d.viewers d.columns d.closed places_hold viewers_hold.ids)
       (texts_pass d.texts d.viewers viewers_hold used)
-      (caret_passes d.viewers d.columns d.kept places_hold d.texts d.caret marks_hold.caret_stands)
+      (caret_passes d.viewers d.columns d.closed places_hold d.texts d.caret marks_hold.caret_stands)
       (list_all-from_AllPass (is_selection d.texts d.viewers (reverse d.columns.user) (reverse d.columns.system))
       d.selections
-      (λ i s low. selection_passes d.viewers d.columns d.kept places_hold d.texts (get_or d.selections i s)
+      (λ i s low. selection_passes d.viewers d.columns d.closed places_hold d.texts (get_or d.selections i s)
       (marks_hold.all_stand i s low)))
       (pictures_pass d.caret d.selections d.viewers)
 

@@ -21,7 +21,7 @@ use Rattle.desktop_laws.specs.TableLaws.{length_seen}
 use Rattle.desk_core.proofs.ViewLemmas.{few}
 use Rattle.desk_image.specs.declared.limits.TheConstants.{IMAGE_BYTES}
 use Rattle.desk_image.specs.Image.{look_bytes, cell_bytes, optional, listed, text_bytes, file_bytes, pieces_bytes}
-use Rattle.desk_image.specs.Image.{viewers_bytes, stack_bytes, kept_bytes, picture_of, image_of, image_bytes, deepest}
+use Rattle.desk_image.specs.Image.{viewers_bytes, stack_bytes, closed_bytes, picture_of, image_of, image_bytes, deepest}
 use Rattle.desk_image.specs.Image.{IsSpellable}
 use Rattle.desk_image.specs.Laws.{RoomLaw}
 use Rattle.desk_imaging.specs.Images.{AreReady, settings_long, tables_long, display_long}
@@ -104,7 +104,7 @@ abbrev pub display_bytes : KeptDesktop → List ℕ
 display_bytes d = viewers_bytes newest_version (map (picture_of d.caret d.selections) d.viewers)
     ++ (stack_bytes newest_version (reverse (stack_of d.columns User))
     ++ (stack_bytes newest_version (reverse (stack_of d.columns System))
-    ++ optional (kept_bytes newest_version) d.kept))
+    ++ optional (closed_bytes newest_version) d.closed))
 
 grouped : (a b c d e f g h k l m : List ℕ)
     → (a ++ (b ++ c)) ++ ((d ++ (e ++ (f ++ g))) ++ (h ++ (k ++ (l ++ m))))
@@ -120,7 +120,7 @@ image_in_three d =
     (viewers_bytes newest_version (map (picture_of d.caret d.selections) d.viewers))
     (stack_bytes newest_version (reverse (stack_of d.columns User)))
     (stack_bytes newest_version (reverse (stack_of d.columns System)))
-    (optional (kept_bytes newest_version) d.kept)
+    (optional (closed_bytes newest_version) d.closed)
 
 -- how long it is, as its parts are counted
 pub image_long : (d : KeptDesktop)

@@ -22,25 +22,25 @@ use Rattle.viewer_tracks.specs.Columns.{Columns, IsStack, IsOnTop, times_meant, 
 use Rattle.desktop_definitions.specs.declared.viewer.Viewer.{Viewer}
 use Rattle.desktop_definitions.specs.declared.viewer.Caret.{Caret}
 use Rattle.desktop_definitions.specs.declared.viewer.Selection.{Selection}
-use Rattle.desktop_definitions.specs.declared.viewer.Kept.{Kept}
+use Rattle.desktop_definitions.specs.declared.viewer.ClosedViewer.{ClosedViewer}
 use Rattle.desktop_definitions.specs.Limits.{most_written, most_held}
 use Rattle.event_bytes.specs.Bytes.{is_name}
 use Rattle.desktop_definitions.specs.Tables.{Texts, numbered, name_cmp}
 use Rattle.desktop_definitions.specs.Desktop.{held}
 use Rattle.desktop_definitions.specs.Viewers.{viewer_in, viewer_or_none, main_length}
-use Rattle.desktop_definitions.specs.Opening.{is_shown as is_text_shown}
+use Rattle.desktop_definitions.specs.Opening.{is_shown}
 use Rattle.desktop_definitions.specs.Seen.{seen, seen_text, seen_table}
-use Rattle.desktop_definitions.specs.Sound.{IsViewer, AreViewers, ArePlaces, IsKeptPlace, IsCaret, IsSelection}
+use Rattle.desktop_definitions.specs.Sound.{IsViewer, AreViewers, ArePlaces, IsClosedPlace, IsCaret, IsSelection}
 use Rattle.desktop_definitions.specs.Sound.{AreMarks, AreFiles, HasLooks, IsShaped, IsSound, IsWithin}
 use Rattle.desktop_definitions.specs.Looks.{AreLooks}
 use Rattle.desktop_laws.specs.TableLaws.{length_seen, length_seen_text, lengths_seen}
 use Rattle.desktop_laws.specs.TextLaws.{there_seen, long_seen}
 use Rattle.desktop_laws.specs.PlaceLaws.{at_same, at_is}
 use Rattle.desk_image.specs.Image.{Image, image_of, IsSpellable}
-use Rattle.desk_image.specs.Fitting.{FitsImage, FitsStack, FitsKept, FitsCell, totals, total}
-use Rattle.desk_imaging.specs.Images.{is_desktop, IsDesktopOf, drafted, Levels, times_tracked, are_known, is_shown}
+use Rattle.desk_image.specs.Fitting.{FitsImage, FitsStack, FitsClosed, FitsCell, totals, total}
+use Rattle.desk_imaging.specs.Images.{is_desktop, IsDesktopOf, drafted, Levels, times_tracked, are_known, is_on_top}
 use Rattle.desk_imaging.specs.Images.{viewers_of, caret_of, selections_of}
-use Rattle.desk_imaging.specs.Images.{leaves_menu, is_framed, is_in_use, are_texts, has_id, is_kept_known, stands_once}
+use Rattle.desk_imaging.specs.Images.{leaves_menu, is_framed, are_texts, has_id, is_closed_known, stands_once}
 use Rattle.desk_imaging.specs.Images.{are_placed, highest, main_size, is_caret, is_selection, is_pictured}
 use Rattle.desk_imaging.proofs.Stacks.{times_reversed, not_in_tracks}
 use Rattle.desk_imaging.proofs.ImageFits.{stack_fits, few_levels}
@@ -208,7 +208,7 @@ three_parts p q r rest is =
 -- What is_desktop tests.
 record ArePassed (written : ℕ) (i : Image) : Type 0 where
   low : nat_le written most_written ≡ true
-  placed : are_placed i.user i.system i.kept (viewers_of i.viewers) ≡ true
+  placed : are_placed i.user i.system i.closed (viewers_of i.viewers) ≡ true
   texts : are_texts i.texts (viewers_of i.viewers) ≡ true
   caret : is_caret i.texts (viewers_of i.viewers) i.user i.system (caret_of i.viewers) ≡ true
   selections : list_all (is_selection i.texts (viewers_of i.viewers) i.user i.system) (selections_of i.viewers) ≡ true
@@ -228,7 +228,7 @@ passed written i is =
 record AreTested (texts : Texts (List Piece)) (viewers : List (ℕ × Viewer)) : Type 0 where
   log : is_some (numbered texts 0) ≡ true
   framed : list_all (is_framed texts viewers) viewers ≡ true
-  used : list_all (is_in_use viewers) (keys_of texts) ≡ true
+  used : list_all (is_shown viewers) (keys_of texts) ≡ true
 
 tested : (texts : Texts (List Piece)) (viewers : List (ℕ × Viewer)) → are_texts texts viewers ≡ true
     → AreTested texts viewers
@@ -281,43 +281,43 @@ module _ (characters : List ℕ) (texts : Texts (List Piece)) (viewers : List (�
 -- ---- places
 
 -- What are_placed tests.
-record AreStanding (user system : Levels) (kept : Option Kept) (viewers : List (ℕ × Viewer)) : Type 0 where
-  once : list_all (stands_once user system kept) viewers ≡ true
+record AreStanding (user system : Levels) (closed : Option ClosedViewer) (viewers : List (ℕ × Viewer)) : Type 0 where
+  once : list_all (stands_once user system closed) viewers ≡ true
   of_user : are_known viewers user ≡ true
   of_system : are_known viewers system ≡ true
-  of_kept : is_kept_known viewers kept ≡ true
+  of_closed : is_closed_known viewers closed ≡ true
 
-standing : (user system : Levels) (kept : Option Kept) (viewers : List (ℕ × Viewer))
-    → are_placed user system kept viewers ≡ true → AreStanding user system kept viewers
+standing : (user system : Levels) (closed : Option ClosedViewer) (viewers : List (ℕ × Viewer))
+    → are_placed user system closed viewers ≡ true → AreStanding user system closed viewers
 unfolding are_placed
-standing user system kept viewers is =
+standing user system closed viewers is =
     let a = and_parts _ _ is in
     let b = and_parts _ _ a.1 in
     let c = and_parts _ _ b.1 in
-    record { once = a.0; of_user = b.0; of_system = c.0; of_kept = c.1 }
+    record { once = a.0; of_user = b.0; of_system = c.0; of_closed = c.1 }
 
-not_kept : (viewers : List (ℕ × Viewer)) (v : ℕ) (kept : Option Kept) → has_id viewers v ≡ false
-    → is_kept_known viewers kept ≡ true → times_meant v (option_map (λ k. k.viewer) kept) ≡ 0
-not_kept viewers v None none is = refl
-not_kept viewers v (Some k) none is =
+not_closed : (viewers : List (ℕ × Viewer)) (v : ℕ) (closed : Option ClosedViewer) → has_id viewers v ≡ false
+    → is_closed_known viewers closed ≡ true → times_meant v (option_map (λ k. k.viewer) closed) ≡ 0
+not_closed viewers v None none is = refl
+not_closed viewers v (Some k) none is =
     let other : ¬ (k.viewer ≡ v) =
     λ same. (let there : has_id viewers v ≡ true = ap (has_id viewers) (sym same) ∙ is in absurd (cc (there, none))) in
     ap (λ b. (let n : ℕ = cond b 1 0 in n)) (ne_eqb k.viewer v other)
 
-module _ (user system : Levels) (kept : Option Kept) (viewers : List (ℕ × Viewer))
-    (are : AreStanding user system kept viewers) where
+module _ (user system : Levels) (closed : Option ClosedViewer) (viewers : List (ℕ × Viewer))
+    (are : AreStanding user system closed viewers) where
   abbrev times : ℕ → ℕ
-  times v = times_tracked user system v + times_meant v (option_map (λ k. k.viewer) kept)
+  times v = times_tracked user system v + times_meant v (option_map (λ k. k.viewer) closed)
 
   times_by : (v : ℕ) (o : Option Viewer) → viewer_in viewers v ≡ o → times v ≡ (if is_some o then 1 else 0)
   times_by v (Some viewer) found =
-      eqb-true (times v) 1 (found_passes (stands_once user system kept) viewers v viewer are.once found)
+      eqb-true (times v) 1 (found_passes (stands_once user system closed) viewers v viewer are.once found)
   times_by v None missing =
       let none : has_id viewers v ≡ false = id_is viewers v ∙ ap is_some missing in
       let in_user = not_in_tracks viewers v user none are.of_user in
       let in_system = not_in_tracks viewers v system none are.of_system in
-      let in_kept = not_kept viewers v kept none are.of_kept in
-      omega (arith, in_user, in_system, in_kept)
+      let in_closed = not_closed viewers v closed none are.of_closed in
+      omega (arith, in_user, in_system, in_closed)
 
   one_if_small : (b : Bool) → (if b then 1 else 0) ≤ 1
   one_if_small true = omega arith
@@ -335,8 +335,8 @@ module _ (user system : Levels) (kept : Option Kept) (viewers : List (ℕ × Vie
   placed_is : (v : ℕ) → times_placed v drafted_columns ≡ times_tracked user system v
   placed_is v = let one = times_reversed v user in let other = times_reversed v system in omega (arith, one, other)
 
-  places_hold : (version : ℕ) → IsStack (reverse user) → IsStack (reverse system) → IfSome kept (FitsKept version)
-      → ArePlaces viewers drafted_columns kept
+  places_hold : (version : ℕ) → IsStack (reverse user) → IsStack (reverse system) → IfSome closed (FitsClosed version)
+      → ArePlaces viewers drafted_columns closed
   places_hold version is_user is_system fits = record {
     columns_hold = record {
       user = is_user;
@@ -345,7 +345,8 @@ module _ (user system : Levels) (kept : Option Kept) (viewers : List (ℕ × Vie
     };
     once = λ v. (let all = times_by v (viewer_in viewers v) refl in let same = placed_is v in
         omega (arith, all, same));
-    kept_place = for_some (FitsKept version) IsKeptPlace kept (λ k fits. record { some = fits.1.0; within = fits.1.1 }) fits;
+    closed_place = for_some (FitsClosed version) IsClosedPlace closed
+        (λ k fits. record { some = fits.1.0; within = fits.1.1 }) fits;
   }
 
 -- ---- marks
@@ -355,7 +356,7 @@ module _ (characters : List ℕ) (texts : Texts (List Piece)) (viewers : List (�
     abbrev columns_of : Columns
     columns_of = record { user = reverse user; system = reverse system }
 
-    on_top : (v : ℕ) → is_shown user system v ≡ true → IsOnTop v columns_of
+    on_top : (v : ℕ) → is_on_top user system v ≡ true → IsOnTop v columns_of
     on_top v is = ltb-true 0 (times_in v (highest user) + times_in v (highest system)) is
 
     caret_holds : (c : Caret) → is_caret texts viewers user system (Some c) ≡ true
@@ -383,14 +384,14 @@ module _ (written : ℕ) (i : Image) (makes : is_desktop written i ≡ true) whe
   tests : ArePassed written i
   tests = passed written i makes
 
-  placed : AreStanding i.user i.system i.kept (viewers_of i.viewers)
-  placed = standing i.user i.system i.kept (viewers_of i.viewers) tests.placed
+  placed : AreStanding i.user i.system i.closed (viewers_of i.viewers)
+  placed = standing i.user i.system i.closed (viewers_of i.viewers) tests.placed
 
   text_tests : AreTested i.texts (viewers_of i.viewers)
   text_tests = tested i.texts (viewers_of i.viewers) tests.texts
 
   pub once_tracked : (v : ℕ) → times_tracked i.user i.system v ≤ 1
-  once_tracked v = tracked_once i.user i.system i.kept (viewers_of i.viewers) placed v
+  once_tracked v = tracked_once i.user i.system i.closed (viewers_of i.viewers) placed v
 
   marks_hold : (characters : List ℕ) → AreMarks (record { user = reverse i.user; system = reverse i.system })
       (main_length (seen_table characters i.texts) (viewers_of i.viewers)) (caret_of i.viewers)
@@ -410,7 +411,7 @@ module _ (written : ℕ) (i : Image) (makes : is_desktop written i ≡ true) whe
     drafted_shaped characters = record {
       viewers = viewers_hold characters i.texts (viewers_of i.viewers) text_tests
           (texts_are version written i fits).numbers.rising (viewers_are version written i fits).numbers.rising;
-      places = places_hold i.user i.system i.kept (viewers_of i.viewers) placed version
+      places = places_hold i.user i.system i.closed (viewers_of i.viewers) placed version
           (user_stack version written i fits) (system_stack version written i fits) fits.1.1.1.1.1.1.1.1.1.1;
       marks = marks_hold characters;
       marker = for_some FitsCell (λ m. (m.0 < COLUMNS) × (m.1 < ROWS)) i.marker (λ m is. is) fits.1.1.0;
@@ -420,11 +421,11 @@ module _ (written : ℕ) (i : Image) (makes : is_desktop written i ≡ true) whe
     }
 
     all_shown : (characters : List ℕ)
-        → All (λ n. IsTrue (is_text_shown (seen characters (drafted written i)) n)) (keys_of (seen_table characters i.texts))
+        → All (λ n. IsTrue (is_shown (viewers_of i.viewers) n)) (keys_of (seen_table characters i.texts))
     unfolding seen
-    all_shown characters = subst (λ ks. All (λ n. IsTrue (is_in_use (viewers_of i.viewers) n)) ks)
+    all_shown characters = subst (λ ks. All (λ n. IsTrue (is_shown (viewers_of i.viewers) n)) ks)
         (sym (keys_of-map_values (seen_text characters) i.texts))
-        (AllPass-from_list_all (is_in_use (viewers_of i.viewers)) (keys_of i.texts) text_tests.used)
+        (AllPass-from_list_all (is_shown (viewers_of i.viewers)) (keys_of i.texts) text_tests.used)
 
     drafted_sound : (characters : List ℕ) → IsSound (seen characters (drafted written i))
     unfolding seen

@@ -15,19 +15,20 @@ use Rattle.viewer_tracks.specs.Columns.{Columns, IsStack, stack_of, topmost, tim
 use Rattle.desktop_definitions.specs.declared.viewer.Viewer.{Viewer}
 use Rattle.desktop_definitions.specs.declared.viewer.Caret.{Caret}
 use Rattle.desktop_definitions.specs.declared.viewer.Selection.{Selection}
-use Rattle.desktop_definitions.specs.declared.viewer.Kept.{Kept}
+use Rattle.desktop_definitions.specs.declared.viewer.ClosedViewer.{ClosedViewer}
 use Rattle.desktop_definitions.specs.Limits.{newest_version, most_written}
 use Rattle.desktop_definitions.specs.Looks.{IsLook, AreLooks}
 use Rattle.desktop_definitions.specs.Seen.{seen_text, seen_table}
 use Rattle.desktop_definitions.specs.Tables.{Texts, numbered}
 use Rattle.desktop_definitions.specs.Desktop.{KeptDesktop}
 use Rattle.desktop_definitions.specs.Viewers.{text_in, viewer_or_none}
+use Rattle.desktop_definitions.specs.Opening.{is_shown}
 use Rattle.desktop_definitions.specs.Sound.{IsKeptWhole}
 use Rattle.desk_image.specs.declared.picture.Ranked.{Ranked}
 use Rattle.desk_image.specs.declared.picture.ViewerPicture.{ViewerPicture}
 use Rattle.desktop_definitions.specs.Shown.{caret_position}
 use Rattle.desk_image.specs.Image.{Image, ranked_in, image_of, picture_of, listed, optional}
-use Rattle.desk_image.specs.Image.{look_bytes, cell_bytes, kept_bytes, text_bytes, file_bytes, pieces_bytes}
+use Rattle.desk_image.specs.Image.{look_bytes, cell_bytes, closed_bytes, text_bytes, file_bytes, pieces_bytes}
 use Rattle.desk_image.specs.Image.{viewers_bytes, stack_bytes, deepest}
 
 -- ---- what the writers of an image ask of a desktop's parts
@@ -62,7 +63,7 @@ abbrev pub display_long : KeptDesktop → ℕ
 display_long d = length (viewers_bytes newest_version (map (picture_of d.caret d.selections) d.viewers))
     + (length (stack_bytes newest_version (reverse (stack_of d.columns User)))
     + (length (stack_bytes newest_version (reverse (stack_of d.columns System)))
-    + length (optional (kept_bytes newest_version) d.kept)))
+    + length (optional (closed_bytes newest_version) d.closed)))
 
 -- ---- the desktop that has the parts of an image
 
@@ -114,7 +115,7 @@ drafted written i = record {
   caret = caret_of i.viewers;
   selections = selections_of i.viewers;
   marker = i.marker;
-  kept = i.kept;
+  closed = i.closed;
   files = i.files;
   copied = i.copied;
   deleted = i.deleted;
@@ -140,14 +141,10 @@ is_framed texts viewers e =
     && (nat_le e.1.org (size_of texts e.1.main)
     && (not (e.1.menu == 0) && list_all (leaves_menu e) viewers)))
 
--- a text is the log, or shown by a viewer
-abbrev pub is_in_use : List (ℕ × Viewer) → ℕ → Bool
-is_in_use viewers n = (n == 0) || list_any (λ e. (e.1.menu == n) || (e.1.main == n)) viewers
-
 unfoldable pub are_texts : Texts (List Piece) → List (ℕ × Viewer) → Bool
 are_texts texts viewers =
     is_some (numbered texts 0) && (list_all (is_framed texts viewers) viewers
-    && list_all (is_in_use viewers) (keys_of texts))
+    && list_all (is_shown viewers) (keys_of texts))
 
 -- ---- places
 
@@ -167,23 +164,23 @@ pub record CanBuild (c : Columns) (k : Track) (levels : Levels) : Type 0 where
 abbrev pub has_id : List (ℕ × Viewer) → ℕ → Bool
 has_id viewers v = list_any (λ e. e.0 == v) viewers
 
-abbrev pub is_kept_known : List (ℕ × Viewer) → Option Kept → Bool
-is_kept_known viewers None = true
-is_kept_known viewers (Some k) = has_id viewers k.viewer
+abbrev pub is_closed_known : List (ℕ × Viewer) → Option ClosedViewer → Bool
+is_closed_known viewers None = true
+is_closed_known viewers (Some k) = has_id viewers k.viewer
 
-abbrev pub stands_once : Levels → Levels → Option Kept → ℕ × Viewer → Bool
-stands_once user system kept e =
-    times_tracked user system e.0 + times_meant e.0 (option_map (λ k. k.viewer) kept) == 1
+abbrev pub stands_once : Levels → Levels → Option ClosedViewer → ℕ × Viewer → Bool
+stands_once user system closed e =
+    times_tracked user system e.0 + times_meant e.0 (option_map (λ k. k.viewer) closed) == 1
 
 -- all of the tracks are viewers
 abbrev pub are_known : List (ℕ × Viewer) → Levels → Bool
 are_known viewers stack = list_all (list_all (λ e. has_id viewers e.viewer)) stack
 
--- each viewer stands in one place, in a track or as the kept one, and nothing else does
-unfoldable pub are_placed : Levels → Levels → Option Kept → List (ℕ × Viewer) → Bool
-are_placed user system kept viewers =
-    list_all (stands_once user system kept) viewers && (are_known viewers user
-    && (are_known viewers system && is_kept_known viewers kept))
+-- each viewer stands in one place, in a track or as the closed one, and nothing else does
+unfoldable pub are_placed : Levels → Levels → Option ClosedViewer → List (ℕ × Viewer) → Bool
+are_placed user system closed viewers =
+    list_all (stands_once user system closed) viewers && (are_known viewers user
+    && (are_known viewers system && is_closed_known viewers closed))
 
 -- ---- what is marked
 
@@ -191,8 +188,9 @@ are_placed user system kept viewers =
 abbrev pub highest : Levels → List Entry
 highest stack = topmost (reverse stack)
 
-abbrev pub is_shown : Levels → Levels → ℕ → Bool
-is_shown user system v = nat_lt 0 (times_in v (highest user) + times_in v (highest system))
+-- a viewer stands in a track that is shown
+abbrev pub is_on_top : Levels → Levels → ℕ → Bool
+is_on_top user system v = nat_lt 0 (times_in v (highest user) + times_in v (highest system))
 
 -- how many characters the main text of a viewer has
 abbrev pub main_size : Texts (List Piece) → List (ℕ × Viewer) → ℕ → ℕ
@@ -202,12 +200,12 @@ module _ (texts : Texts (List Piece)) (viewers : List (ℕ × Viewer)) (user sys
   -- a caret stands in a viewer of a track that is shown, within its text
   unfoldable pub is_caret : Option Caret → Bool
   is_caret None = true
-  is_caret (Some c) = is_shown user system c.viewer && nat_le c.position (main_size texts viewers c.viewer)
+  is_caret (Some c) = is_on_top user system c.viewer && nat_le c.position (main_size texts viewers c.viewer)
 
   -- a selection has some character, of a viewer of a track that is shown
   unfoldable pub is_selection : Selection → Bool
   is_selection s =
-      is_shown user system s.viewer
+      is_on_top user system s.viewer
       && (nat_lt s.beg s.end && nat_le s.end (main_size texts viewers s.viewer))
 
 -- ---- a viewer's caret and selection are those that the desktop has there
@@ -227,7 +225,7 @@ is_pictured caret selections p =
 -- the parts of an image, in whatever version it was read, make a desktop for which so many characters were written
 unfoldable pub is_desktop : ℕ → Image → Bool
 is_desktop written i =
-    nat_le written most_written && (are_placed i.user i.system i.kept (viewers_of i.viewers)
+    nat_le written most_written && (are_placed i.user i.system i.closed (viewers_of i.viewers)
     && (are_texts i.texts (viewers_of i.viewers)
     && (is_caret i.texts (viewers_of i.viewers) i.user i.system (caret_of i.viewers)
     && (list_all (is_selection i.texts (viewers_of i.viewers) i.user i.system) (selections_of i.viewers)

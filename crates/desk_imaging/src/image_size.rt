@@ -16,7 +16,7 @@ use desk_core::desk::Desk;
 use desk_core::files::Files;
 use desk_core::viewers::Texts;
 use desk_image::{
-    LOOK_BYTES, cell_len, entries_len, images_have_room, kept_len, pieces_len, viewer_len,
+    LOOK_BYTES, cell_len, closed_len, entries_len, images_have_room, pieces_len, viewer_len,
 };
 use desktop_definitions::{Caret, Selection, Viewer};
 use event_bytes::Name;
@@ -149,7 +149,7 @@ fn display_len(desk: &Desk) -> usize
         (map (picture_of (kept desk.now).caret (kept desk.now).selections) (kept desk.now).viewers)) < 2 ^ 32 }
     ensures { result ≡ display_long (kept desk.now) }
 {
-    let system = stack_len(&desk.tracks, Track::System) + kept_len(desk.kept);
+    let system = stack_len(&desk.tracks, Track::System) + closed_len(desk.closed);
     pictures_len(desk) + (stack_len(&desk.tracks, Track::User) + system)
 }
 

@@ -37,7 +37,7 @@ fn is_desktop(
     let user = picture.user.as_slice();
     let system = picture.system.as_slice();
     written <= MOST_WRITTEN
-        && are_placed(user, system, picture.kept, viewers)
+        && are_placed(user, system, picture.closed, viewers)
         && are_texts(texts, viewers)
         && is_caret(texts, viewers, user, system, caret)
         && are_selections(texts, viewers, user, system, selections)
@@ -68,7 +68,7 @@ fn desk_of(
         caret,
         selections,
         marker: picture.marker,
-        kept: picture.kept,
+        closed: picture.closed,
         files: picture.files,
         copied: picture.copied,
         deleted: picture.deleted,

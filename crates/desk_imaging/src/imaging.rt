@@ -11,7 +11,7 @@ ghost use Rattle.desktop_definitions.specs.Sound.{IsKeptWhole};
 ghost use Rattle.desk_image.specs.Streams.{Puts};
 ghost use Rattle.desk_image.specs.Image.{ranked_in, picture_of, image_of, listed, text_bytes, file_bytes};
 ghost use Rattle.desk_image.specs.Image.{pieces_bytes, viewers_bytes, track_bytes, stack_bytes, image_bytes};
-ghost use Rattle.desk_image.specs.Image.{look_bytes, cell_bytes, kept_bytes, optional};
+ghost use Rattle.desk_image.specs.Image.{look_bytes, cell_bytes, closed_bytes, optional};
 ghost use Rattle.desk_image.specs.Image.{InWord, AreSome, AreSpellable, IsSpellable};
 ghost use Rattle.desk_core.specs.Kept.{kept};
 ghost use Rattle.desk_imaging.specs.Images.{AreReady, CanBePut};
@@ -23,8 +23,8 @@ use desk_core::files::Files;
 use desk_core::viewers::Texts;
 use desk_core::views::position_in;
 use desk_image::{
-    ByteSink, Ranked, Stretch, ViewerPicture, put_byte, put_cell, put_counted, put_entry, put_kept,
-    put_look, put_pieces, put_viewer, put_word,
+    ByteSink, Ranked, Stretch, ViewerPicture, put_byte, put_cell, put_closed, put_counted,
+    put_entry, put_look, put_pieces, put_viewer, put_word,
 };
 use desktop_definitions::{Caret, Selection, Viewer};
 use event_bytes::Name;
@@ -275,13 +275,13 @@ fn put_display<K: ByteSink>(desk: &Desk, sink: &mut K) -> Result<(), Fault>
         (map (picture_of (kept desk.now).caret (kept desk.now).selections) (kept desk.now).viewers)
         ++ (stack_bytes newest_version (reverse (stack_of (kept desk.now).columns User))
         ++ (stack_bytes newest_version (reverse (stack_of (kept desk.now).columns System))
-        ++ optional (kept_bytes newest_version) (kept desk.now).kept))) sink.old sink.new }
+        ++ optional (closed_bytes newest_version) (kept desk.now).closed))) sink.old sink.new }
     ensures ids { OnOk result (All InWord (keys_of (kept desk.now).viewers)) }
 {
     put_pictures(desk, sink)?;
     put_stack(sink, &desk.tracks, Track::User)?;
     put_stack(sink, &desk.tracks, Track::System)?;
-    put_kept(sink, desk.kept)
+    put_closed(sink, desk.closed)
 }
 
 /// Puts the parts of the image, one after another.

@@ -4,10 +4,11 @@ ghost use Rattle.std.specs.List.{list_all};
 ghost use Rattle.std.specs.Map.{keys_of};
 ghost use Rattle.viewer_tracks.specs.Viewers.{times_in};
 ghost use Rattle.viewer_tracks.specs.Columns.{times_on, times_meant};
+ghost use Rattle.desktop_definitions.specs.Opening.{is_shown};
 ghost use Rattle.desk_image.specs.Pictures.{entry_of, stack_of as levels_of};
-ghost use Rattle.desk_imaging.specs.Images.{size_of, leaves_menu, is_framed, is_in_use, are_texts, has_id};
-ghost use Rattle.desk_imaging.specs.Images.{are_known, is_kept_known, highest};
-ghost use Rattle.desk_imaging.specs.Images.{stands_once, are_placed, is_shown, main_size, is_caret, is_selection};
+ghost use Rattle.desk_imaging.specs.Images.{size_of, leaves_menu, is_framed, are_texts, has_id};
+ghost use Rattle.desk_imaging.specs.Images.{are_known, is_closed_known, highest};
+ghost use Rattle.desk_imaging.specs.Images.{stands_once, are_placed, is_on_top, main_size, is_caret, is_selection};
 ghost use Rattle.desk_imaging.specs.Images.{same_ranked, is_pictured};
 
 use crate::imaging::ranked_in;
@@ -15,7 +16,7 @@ use desk_core::tables::{has_id, is_in_sight};
 use desk_core::viewers::{Texts, ViewerTable, viewer_or_none};
 use desk_core::views::position_in;
 use desk_image::{Ranked, Stretch, Stretches, ViewerPicture};
-use desktop_definitions::{Caret, Kept, Selection, Viewer};
+use desktop_definitions::{Caret, ClosedViewer, Selection, Viewer};
 
 // ---- texts and the viewers that show them
 
@@ -66,8 +67,8 @@ fn are_framed(texts: &Texts, viewers: &ViewerTable) -> bool
 }
 
 /// Whether each text is the log or shown by a viewer.
-fn are_in_use(texts: &Texts, viewers: &ViewerTable) -> bool
-    ensures { result ≡ list_all (is_in_use viewers.now.items) (keys_of texts.now.entries) }
+fn are_shown(texts: &Texts, viewers: &ViewerTable) -> bool
+    ensures { result ≡ list_all (is_shown viewers.now.items) (keys_of texts.now.entries) }
 {
     for number in texts.keys() {
         if *number != 0 && !is_in_sight(viewers, *number) {
@@ -82,7 +83,7 @@ fn are_in_use(texts: &Texts, viewers: &ViewerTable) -> bool
 pub fn are_texts(texts: &Texts, viewers: &ViewerTable) -> bool
     ensures { result ≡ are_texts texts.now.entries viewers.now.items }
 {
-    texts.contains_key(&0) && are_framed(texts, viewers) && are_in_use(texts, viewers)
+    texts.contains_key(&0) && are_framed(texts, viewers) && are_shown(texts, viewers)
 }
 
 // ---- places
@@ -115,14 +116,14 @@ fn times_on(stack: &[Stretches], id: u16) -> usize
     times
 }
 
-/// Once where that viewer is the kept one.
-fn times_kept(kept: Option<Kept>, id: u16) -> usize
-    ensures value { result ≡ times_meant id (option_map (λ k. k.viewer) kept) }
+/// Once where that viewer is the closed one.
+fn times_closed(closed: Option<ClosedViewer>, id: u16) -> usize
+    ensures value { result ≡ times_meant id (option_map (λ k. k.viewer) closed) }
     ensures few { result ≤ 1 }
 {
-    match kept {
+    match closed {
         None => 0,
-        Some(kept) => { if kept.viewer == id { 1 } else { 0 } }
+        Some(closed) => { if closed.viewer == id { 1 } else { 0 } }
     }
 }
 
@@ -144,24 +145,29 @@ fn are_known(viewers: &ViewerTable, stack: &[Stretches]) -> bool
         .all(|track| are_viewers(viewers, track.as_slice()))
 }
 
-/// Whether the kept one is a viewer, where there is one.
-fn is_kept_known(viewers: &ViewerTable, kept: Option<Kept>) -> bool
-    ensures { result ≡ is_kept_known viewers.now.items kept }
+/// Whether the closed one is a viewer, where there is one.
+fn is_closed_known(viewers: &ViewerTable, closed: Option<ClosedViewer>) -> bool
+    ensures { result ≡ is_closed_known viewers.now.items closed }
 {
-    match kept {
+    match closed {
         None => true,
-        Some(kept) => has_id(viewers.as_slice(), kept.viewer),
+        Some(closed) => has_id(viewers.as_slice(), closed.viewer),
     }
 }
 
 /// Whether a viewer stands in one place.
-fn stands_once(user: &[Stretches], system: &[Stretches], kept: Option<Kept>, id: u16) -> bool
+fn stands_once(
+    user: &[Stretches],
+    system: &[Stretches],
+    closed: Option<ClosedViewer>,
+    id: u16,
+) -> bool
     requires user { length user.now < 2 ^ 8 }
     requires system { length system.now < 2 ^ 8 }
     ensures { result ≡ (times_on id (levels_of user.now) + times_on id (levels_of system.now)
-        + times_meant id (option_map (λ k. k.viewer) kept) == 1) }
+        + times_meant id (option_map (λ k. k.viewer) closed) == 1) }
 {
-    times_on(user, id) + times_on(system, id) + times_kept(kept, id) == 1
+    times_on(user, id) + times_on(system, id) + times_closed(closed, id) == 1
 }
 
 /// Whether each viewer does.
@@ -169,33 +175,33 @@ fn stand_once(
     viewers: &ViewerTable,
     user: &[Stretches],
     system: &[Stretches],
-    kept: Option<Kept>,
+    closed: Option<ClosedViewer>,
 ) -> bool
     requires user { length user.now < 2 ^ 8 }
     requires system { length system.now < 2 ^ 8 }
-    ensures { result ≡ list_all (stands_once (levels_of user.now) (levels_of system.now) kept) viewers.now.items }
+    ensures { result ≡ list_all (stands_once (levels_of user.now) (levels_of system.now) closed) viewers.now.items }
 {
     viewers
         .iter()
-        .all(|entry| stands_once(user, system, kept, entry.0))
+        .all(|entry| stands_once(user, system, closed, entry.0))
 }
 
-/// Whether each viewer stands in one place, in a track or as the kept one, and nothing else does.
+/// Whether each viewer stands in one place, in a track or as the closed one, and nothing else does.
 #[tactic(auto, unfolding(crate::specs::Images::are_placed))]
 pub fn are_placed(
     user: &[Stretches],
     system: &[Stretches],
-    kept: Option<Kept>,
+    closed: Option<ClosedViewer>,
     viewers: &ViewerTable,
 ) -> bool
     requires user { length user.now < 2 ^ 8 }
     requires system { length system.now < 2 ^ 8 }
-    ensures { result ≡ are_placed (levels_of user.now) (levels_of system.now) kept viewers.now.items }
+    ensures { result ≡ are_placed (levels_of user.now) (levels_of system.now) closed viewers.now.items }
 {
-    stand_once(viewers, user, system, kept)
+    stand_once(viewers, user, system, closed)
         && are_known(viewers, user)
         && are_known(viewers, system)
-        && is_kept_known(viewers, kept)
+        && is_closed_known(viewers, closed)
 }
 
 // ---- what is marked
@@ -211,8 +217,8 @@ fn stands_highest(stack: &[Stretches], id: u16) -> bool
 }
 
 /// Whether a viewer stands in a track that is shown.
-fn is_shown(user: &[Stretches], system: &[Stretches], id: u16) -> bool
-    ensures { result ≡ is_shown (levels_of user.now) (levels_of system.now) id }
+fn is_on_top(user: &[Stretches], system: &[Stretches], id: u16) -> bool
+    ensures { result ≡ is_on_top (levels_of user.now) (levels_of system.now) id }
 {
     stands_highest(user, id) || stands_highest(system, id)
 }
@@ -239,7 +245,7 @@ pub fn is_caret(
     match caret {
         None => true,
         Some(caret) => {
-            is_shown(user, system, caret.viewer)
+            is_on_top(user, system, caret.viewer)
                 && caret.position <= main_size(texts, viewers, caret.viewer)
         }
     }
@@ -257,7 +263,7 @@ fn is_selection(
     ensures { result ≡ is_selection texts.now.entries viewers.now.items (levels_of user.now)
         (levels_of system.now) selection }
 {
-    is_shown(user, system, selection.viewer)
+    is_on_top(user, system, selection.viewer)
         && selection.beg < selection.end
         && selection.end <= main_size(texts, viewers, selection.viewer)
 }

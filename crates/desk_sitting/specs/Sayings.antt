@@ -19,7 +19,7 @@ reasons =
     codes "refused (4): the word is no command's" ∷
     codes "refused (5): there is no such file, or it is named twice" ∷
     codes "refused (6): no room for more characters; System.Collect may make some" ∷
-    codes "refused (7): no viewer is at the marker, or none is kept" ∷
+    codes "refused (7): no viewer is at the marker, or none was closed" ∷
     codes "refused (8): there are 256 files" ∷
     codes "refused (9): the cell lies outside the display" ∷
     codes "refused (10): it isn't there from the caret on" ∷

@@ -32,7 +32,7 @@ const REASONS: [&[u8]; 14] = [
     b"refused (4): the word is no command's",
     b"refused (5): there is no such file, or it is named twice",
     b"refused (6): no room for more characters; System.Collect may make some",
-    b"refused (7): no viewer is at the marker, or none is kept",
+    b"refused (7): no viewer is at the marker, or none was closed",
     b"refused (8): there are 256 files",
     b"refused (9): the cell lies outside the display",
     b"refused (10): it isn't there from the caret on",

@@ -13,7 +13,7 @@ use Rattle.desktop_definitions.specs.Limits.{wrong_symbol, no_viewer, bad_value,
 use Rattle.desktop_definitions.specs.Desktop.{Desktop}
 use Rattle.desktop_definitions.specs.Change.{in_look, plain}
 use Rattle.desktop_definitions.specs.Opening.{menu_line}
-use Rattle.desk_tests.proofs.StepWords.{Case, done, refused, click, look, chars, entry, viewer, caret, selection, kept}
+use Rattle.desk_tests.proofs.StepWords.{Case, done, refused, click, look, chars, entry, viewer, caret, selection, closed}
 use Rattle.desk_tests.proofs.StepWords.{columns, texts_with, edited, scrolled, with_viewer, with_document, without}
 use Prim.Native.String.{String}
 
@@ -42,17 +42,17 @@ abbrev pub log_opens : ℕ → ℕ → (Desktop → Desktop) → Outcome
 log_opens n v place =
     makes (λ d. record (place (with_viewer d v n (codes "System.Log") 0)) { written = d.written + 60 })
 
--- the marked viewer is closed, and the one that was kept is gone
+-- the marked viewer is closed, and the one that was closed before is gone
 abbrev pub closes : List Entry → ℕ → Outcome
 closes user top = makes (λ d. record (placed user (without d (6 ∷ []) (3 ∷ []))) {
   caret = None;
   selections = [];
-  kept = kept 1 User top;
+  closed = closed 1 User top;
 })
 
--- these viewers, of which one was kept; a copy of the marked one, with a menu line of number n
+-- these viewers, of which one was closed; a copy of the marked one, with a menu line of number n
 abbrev pub recalls : List Entry → Outcome
-recalls user = makes (λ d. record (placed user d) { kept = None })
+recalls user = makes (λ d. record (placed user d) { closed = None })
 
 abbrev pub copies : ℕ → ℕ → List Entry → Outcome
 copies n v user = makes (λ d. placed user (with_viewer d v n (codes "A.T") 3))
@@ -158,7 +158,7 @@ joined [] = []
 joined (one ∷ []) = codes one.0
 joined (one ∷ next ∷ rest) = codes one.0 ++ codes "\r" ++ joined (next ∷ rest)
 
--- A text of calls, a document in which stand caret, newest selection and marker, the log, and a viewer that is kept.
+-- A text of calls, a document in which stand caret, newest selection and marker, the log, and a closed viewer.
 abbrev pub with_all : Desktop
 with_all = record {
   texts = (0, chars "log\r") ∷ (1, plain (joined lines)) ∷ (2, chars "Tool") ∷ (3, chars "A.T B.T \rA.T x") ∷
@@ -168,7 +168,7 @@ with_all = record {
   caret = caret 1 1;
   selections = selection 1 4 7 ∷ [];
   marker = Some (3, 5);
-  kept = kept 3 User 6;
+  closed = closed 3 User 6;
   files = (codes "A.T", chars "old") ∷ (codes "B.T", with_low) ∷ [];
   copied = [];
   deleted = chars "de\r";
@@ -177,13 +177,13 @@ with_all = record {
   written = 200;
 }
 
--- the same without caret, selection, marker, kept viewer, pattern and deleted characters
+-- the same without caret, selection, marker, closed viewer, pattern and deleted characters
 abbrev pub bare : Desktop
 bare = record (without with_all (6 ∷ []) (3 ∷ [])) {
   caret = None;
   selections = [];
   marker = None;
-  kept = None;
+  closed = None;
   deleted = [];
   pattern = [];
 }
@@ -244,7 +244,7 @@ low_calls = called one_row ((21, closes (entry 2 4 ∷ []) 1) ∷ (19, says too_
 abbrev pub menu_calls : List Case
 menu_calls =
     refused bare (Point Middle 3 6 1 6) no_command ∷
-    done bare (Point Middle 3 6 7 6) (record (placed (entry 2 3 ∷ []) bare) { kept = kept 1 User 7 }) ∷
+    done bare (Point Middle 3 6 7 6) (record (placed (entry 2 3 ∷ []) bare) { closed = closed 1 User 7 }) ∷
     done bare (Point Middle 3 6 20 6) ((copies 6 3 (entry 2 3 ∷ entry 3 2 ∷ entry 1 2 ∷ []) bare).0) ∷
     refused bare (Point Middle 3 6 33 6) no_selection ∷
     done bare (Point Middle 3 6 45 6) ((stores bare).0) ∷

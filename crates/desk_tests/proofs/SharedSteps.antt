@@ -17,7 +17,7 @@ use Rattle.desktop_definitions.specs.Limits.{no_selection}
 use Rattle.desktop_definitions.specs.Desktop.{Desktop}
 use Rattle.desktop_definitions.specs.Change.{in_look, plain}
 use Rattle.desk_tests.proofs.StepWords.{Case, done, refused, unchanged, click, clicks_in_bar, clicks_for_caret, look}
-use Rattle.desk_tests.proofs.StepWords.{chars, entry, columns, viewer, caret, selection, kept, edited, scrolled}
+use Rattle.desk_tests.proofs.StepWords.{chars, entry, columns, viewer, caret, selection, closed, edited, scrolled}
 use Rattle.desk_tests.proofs.StepWords.{without, texts_with, with_document, Listing, Row, rows_of, cells, filler, bar}
 use Rattle.desk_tests.proofs.StepWords.{menu, hyphens, body, blanks, selected, at_marker}
 use Prim.Native.String.{String}
@@ -79,7 +79,7 @@ shared = record {
   caret = caret 1 5;
   selections = oldest ∷ middle ∷ newest ∷ [];
   marker = Some (70, 3);
-  kept = kept 4 System 20;
+  closed = closed 4 System 20;
   files = (codes "A.T", chars "old") ∷ (tool_name, tool_text) ∷ [];
   copied = chars "c" ++ low_chars "\rp";
   deleted = chars "del";

@@ -25,7 +25,7 @@ use Rattle.desktop_definitions.specs.declared.reply.Reply.TheVariants.{Done, No}
 use Rattle.desktop_definitions.specs.declared.viewer.Viewer.{Viewer}
 use Rattle.desktop_definitions.specs.declared.viewer.Caret.{Caret}
 use Rattle.desktop_definitions.specs.declared.viewer.Selection.{Selection}
-use Rattle.desktop_definitions.specs.declared.viewer.Kept.{Kept}
+use Rattle.desktop_definitions.specs.declared.viewer.ClosedViewer.{ClosedViewer}
 use Rattle.desktop_definitions.specs.Tables.{Texts}
 use Rattle.desktop_definitions.specs.Desktop.{Desktop, empty_desktop}
 use Rattle.desktop_definitions.specs.Change.{plain}
@@ -60,8 +60,8 @@ caret viewer position = Some (record { viewer = viewer; position = position })
 abbrev pub selection : ℕ → ℕ → ℕ → Selection
 selection viewer beg end = record { viewer = viewer; beg = beg; end = end }
 
-abbrev pub kept : ℕ → Track → ℕ → Option Kept
-kept viewer track top = Some (record { viewer = viewer; track = track; top = top })
+abbrev pub closed : ℕ → Track → ℕ → Option ClosedViewer
+closed viewer track top = Some (record { viewer = viewer; track = track; top = top })
 
 -- ---- a desktop with something else in it
 

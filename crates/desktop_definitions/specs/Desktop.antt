@@ -2,7 +2,7 @@
 -- what is marked in them; and files by name. T is the type of a text.
 use Rattle.std.specs.Prelude.{ℕ, ◌+◌, List, [], ◌∷◌, length, Option, None}
 use Rattle.viewer_tracks.specs.Columns.{Columns, no_viewers}
-use Rattle.desktop_definitions.specs.Words.{Look, Piece, default_look, Text, Viewer, Caret, Selection, Kept}
+use Rattle.desktop_definitions.specs.Words.{Look, Piece, default_look, Text, Viewer, Caret, Selection, ClosedViewer}
 use Rattle.desktop_definitions.specs.Tables.{Texts, Files, named, with_values, lengths}
 
 pub record DesktopOf (T : Type 0) : Type 0 where
@@ -16,7 +16,7 @@ pub record DesktopOf (T : Type 0) : Type 0 where
   pub selections : List Selection
   -- a column of characters and a row of the display
   pub marker : Option (ℕ × ℕ)
-  pub kept : Option Kept
+  pub closed : Option ClosedViewer
   -- by rising names
   pub files : Files T
   -- the buffers of what was copied and of what was deleted last
@@ -46,7 +46,7 @@ empty_desktop = record {
   caret = None;
   selections = [];
   marker = None;
-  kept = None;
+  closed = None;
   files = [];
   copied = [];
   deleted = [];
@@ -64,7 +64,7 @@ with_texts f d = record {
   caret = d.caret;
   selections = d.selections;
   marker = d.marker;
-  kept = d.kept;
+  closed = d.closed;
   files = with_values f d.files;
   copied = f d.copied;
   deleted = f d.deleted;

@@ -15,7 +15,7 @@ use Rattle.viewer_tracks.specs.declared.display.TheConstants.{DEPTH}
 use Rattle.viewer_tracks.specs.Columns.{stack_of, track_of, placed_bottom, placed_top, after_close, allocated}
 use Rattle.command_table.specs.Parameters.{name_in}
 use Rattle.command_table.specs.Deciding.{can_be_deleted}
-use Rattle.desktop_definitions.specs.Words.{unwrap_or, is_at, keys_of, Look, Text, Kept}
+use Rattle.desktop_definitions.specs.Words.{unwrap_or, is_at, keys_of, Look, Text, ClosedViewer}
 use Rattle.desktop_definitions.specs.Limits.{no_selection, no_file, too_many_files, wrong_symbol}
 use Rattle.desktop_definitions.specs.Limits.{not_found, too_deep, too_low, most_pattern}
 use Rattle.desktop_definitions.specs.Needs.{needs, unless}
@@ -51,18 +51,18 @@ log_opened d =
     more_written (opening_on d (plain menu) 0 0 (allocated d.columns System d.marker)) (length menu)
 
 module _ {T : Type 0} where
-  -- The viewer goes from the display with what is marked in it, and is kept with its place. What was kept before is
-  -- gone.
+  -- The viewer goes from the display with what is marked in it, and is the closed one with its place. What was closed
+  -- before is gone.
   unfoldable pub put_away : DesktopOf T → ℕ → DesktopOf T
   put_away d v =
-      record (without_viewer (unmarked (λ w. w == v) d) (option_map (λ k. k.viewer) d.kept)) {
+      record (without_viewer (unmarked (λ w. w == v) d) (option_map (λ k. k.viewer) d.closed)) {
         columns = after_close d.columns v;
-        kept = Some (record { viewer = v; track = track_of d.columns v; top = placed_top d.columns v });
+        closed = Some (record { viewer = v; track = track_of d.columns v; top = placed_top d.columns v });
       }
 
-  -- the viewer that is kept stands where it stood
-  unfoldable pub brought_back : DesktopOf T → Kept → DesktopOf T
-  brought_back d k = opened_at (record d { kept = None }) k.viewer (left_of k.track, k.top)
+  -- the closed viewer stands where it stood
+  unfoldable pub brought_back : DesktopOf T → ClosedViewer → DesktopOf T
+  brought_back d k = opened_at (record d { closed = None }) k.viewer (left_of k.track, k.top)
 
 -- a second viewer of a viewer's text takes the lower half of its place, with a copy of its menu and the same first line
 abbrev pub parted : {X : Type 0} → DesktopOf (List X) → ℕ → ℕ → DesktopOf (List X)

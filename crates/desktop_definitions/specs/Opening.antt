@@ -16,6 +16,10 @@ least_unused used = position_or_len (λ n. not (list_any (λ k. k == n) used)) (
 abbrev pub menu_line : List ℕ → List ℕ
 menu_line name = name ++ codes " | System.Close System.Copy Edit.Search Edit.Store"
 
+-- a text is the log, or one of these viewers shows it
+abbrev pub is_shown : List (ℕ × Viewer) → ℕ → Bool
+is_shown viewers n = (n == 0) || list_any (λ e. (e.1.menu == n) || (e.1.main == n)) viewers
+
 module _ {T : Type 0} where
   -- a text more, of the least number that no text has
   abbrev pub with_new : Texts T → T → Texts T
@@ -53,10 +57,6 @@ module _ {T : Type 0} where
   opening d menu main cell =
       opening_on (record d { texts = with_new d.texts main }) menu (new_number d) 0 cell
 
-  -- a text is the log, or shown by a viewer
-  abbrev pub is_shown : DesktopOf T → ℕ → Bool
-  is_shown d n = (n == 0) || list_any (λ e. (e.1.menu == n) || (e.1.main == n)) d.viewers
-
   -- without the texts that nobody shows
   unfoldable pub dropped : DesktopOf T → DesktopOf T
-  dropped d = record d { texts = filter (λ e. is_shown d e.0) d.texts }
+  dropped d = record d { texts = filter (λ e. is_shown d.viewers e.0) d.texts }

@@ -8,7 +8,7 @@ use Rattle.event_bytes.specs.Bytes.{is_name}
 use Rattle.piece_ring.specs.Offsets.{AreWithin}
 use Rattle.viewer_tracks.specs.declared.display.TheConstants.{ROWS, COLUMNS}
 use Rattle.viewer_tracks.specs.Columns.{Columns, IsColumns, IsOnTop, times_placed, times_meant}
-use Rattle.desktop_definitions.specs.Words.{nat_cmp, keys_of, Piece, flat, Viewer, Caret, Selection, Kept}
+use Rattle.desktop_definitions.specs.Words.{nat_cmp, keys_of, Piece, flat, Viewer, Caret, Selection, ClosedViewer}
 use Rattle.desktop_definitions.specs.Limits.{most_files, most_written, most_held, most_pattern}
 use Rattle.desktop_definitions.specs.Looks.{IsLook, AreLooks}
 use Rattle.desktop_definitions.specs.Tables.{Texts, Files, name_cmp, numbered}
@@ -42,18 +42,18 @@ pub record AreViewers {X : Type 0} (texts : Texts (List X)) (viewers : List (ℕ
 -- ---- places
 
 -- in how many places a viewer stands: in the tracks, covered ones too, or as the one that was closed last
-abbrev pub times_there : Columns → Option Kept → ℕ → ℕ
-times_there columns kept v = times_placed v columns + times_meant v (option_map (λ k. k.viewer) kept)
+abbrev pub times_there : Columns → Option ClosedViewer → ℕ → ℕ
+times_there columns closed v = times_placed v columns + times_meant v (option_map (λ k. k.viewer) closed)
 
-pub record IsKeptPlace (k : Kept) : Type 0 where
+pub record IsClosedPlace (k : ClosedViewer) : Type 0 where
   pub some : 0 < k.top
   pub within : k.top ≤ ROWS
 
-pub record ArePlaces (viewers : List (ℕ × Viewer)) (columns : Columns) (kept : Option Kept) : Type 0 where
+pub record ArePlaces (viewers : List (ℕ × Viewer)) (columns : Columns) (closed : Option ClosedViewer) : Type 0 where
   pub columns_hold : IsColumns columns
   -- each viewer stands in one place, and nothing else does
-  pub once : (v : ℕ) → times_there columns kept v ≡ (if is_some (viewer_in viewers v) then 1 else 0)
-  pub kept_place : ForSome kept IsKeptPlace
+  pub once : (v : ℕ) → times_there columns closed v ≡ (if is_some (viewer_in viewers v) then 1 else 0)
+  pub closed_place : ForSome closed IsClosedPlace
 
 -- ---- what is marked; the main text of a viewer v has `long v` characters
 
@@ -98,7 +98,7 @@ pub record HasLooks (d : Desktop) : Type 0 where
 -- What holds of a desktop also inside an event: all but the limits on characters and that no text is left over.
 pub record IsShaped (d : Desktop) : Type 0 where
   pub viewers : AreViewers d.texts d.viewers
-  pub places : ArePlaces d.viewers d.columns d.kept
+  pub places : ArePlaces d.viewers d.columns d.closed
   pub marks : AreMarks d.columns (main_length d.texts d.viewers) d.caret d.selections
   pub marker : ForSome d.marker (λ m. (m.0 < COLUMNS) × (m.1 < ROWS))
   pub files : AreFiles d.files
@@ -108,7 +108,7 @@ pub record IsShaped (d : Desktop) : Type 0 where
 pub record IsSound (d : Desktop) : Type 0 where
   pub shaped : IsShaped d
   -- each text is the log, or shown by a viewer
-  pub shown : All (λ n. IsTrue (is_shown d n)) (keys_of d.texts)
+  pub shown : All (λ n. IsTrue (is_shown d.viewers n)) (keys_of d.texts)
   pub written_within : d.written ≤ most_written
   pub held_within : held d ≤ most_held
 

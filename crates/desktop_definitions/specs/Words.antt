@@ -11,4 +11,4 @@ pub use Rattle.piece_ring.specs.Flat.{flat}
 pub use Rattle.desktop_definitions.specs.declared.viewer.Viewer.{Viewer}
 pub use Rattle.desktop_definitions.specs.declared.viewer.Caret.{Caret}
 pub use Rattle.desktop_definitions.specs.declared.viewer.Selection.{Selection}
-pub use Rattle.desktop_definitions.specs.declared.viewer.Kept.{Kept}
+pub use Rattle.desktop_definitions.specs.declared.viewer.ClosedViewer.{ClosedViewer}

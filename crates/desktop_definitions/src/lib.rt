@@ -25,4 +25,4 @@ pub use limits::{
 };
 pub use region::Region;
 pub use reply::Reply;
-pub use viewer::{Caret, Kept, Selection, Viewer};
+pub use viewer::{Caret, ClosedViewer, Selection, Viewer};

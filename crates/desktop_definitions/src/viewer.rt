@@ -35,7 +35,7 @@ pub struct Selection {
 
 /// The viewer that was closed last, and where it stood.
 #[derive(Clone, Copy, Debug, PartialEq, Eq)]
-pub struct Kept {
+pub struct ClosedViewer {
     /// The viewer's id.
     pub viewer: u16,
     /// The track in which it stood.

@@ -174,7 +174,7 @@ module _ (d : Desktop) (texts : Texts (Text ℕ)) (files : Files (Text ℕ)) (co
   pub sound_alike : IsSound d → count ≤ most_written → IsSound alike
   sound_alike was low = record {
     shaped = shaped_alike was.shaped;
-    shown = subst (λ (numbers : List ℕ). All (λ n. IsTrue (is_shown d n)) numbers)
+    shown = subst (λ (numbers : List ℕ). All (λ n. IsTrue (is_shown d.viewers n)) numbers)
         (sym (same_keys texts d.texts same_texts)) was.shown;
     written_within = low;
     held_within = omega (arith, held_alike, was.held_within);

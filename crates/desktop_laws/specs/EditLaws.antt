@@ -118,7 +118,7 @@ module _ (d : Desktop) (n : ℕ) (text : Text ℕ) (viewers : List (ℕ × Viewe
     edited_shaped looks = record {
       viewers = viewers_stay d.texts (set_value (is_at (nat_cmp n)) d.texts text) d.viewers viewers
           (keys-set_value (is_at (nat_cmp n)) d.texts text) reorged shaped.viewers;
-      places = places_stay later d.viewers viewers reorged d.columns d.kept shaped.places;
+      places = places_stay later d.viewers viewers reorged d.columns d.closed shaped.places;
       marks = marks_stay d.columns (main_length d.texts d.viewers)
           (main_length (set_value (is_at (nat_cmp n)) d.texts text) viewers) (shows d n) mains_stay d.caret
           d.selections shaped.marks;
@@ -137,7 +137,7 @@ module _ (d : Desktop) (shaped : IsShaped d) where
       (orgs_within d.texts d.viewers shaped.viewers) low in
       record {
         viewers = viewers_stay d.texts d.texts d.viewers news refl same shaped.viewers;
-        places = places_stay long d.viewers news same d.columns d.kept shaped.places;
+        places = places_stay long d.viewers news same d.columns d.closed shaped.places;
         marks = record {
           caret_stands = λ c is. (let old = shaped.marks.caret_stands c is in record {
             placed = old.placed;

@@ -22,7 +22,7 @@ use Rattle.viewer_tracks.specs.declared.display.TheConstants.{ROWS, DEPTH}
 use Rattle.viewer_tracks.specs.Viewers.{Entry, IsTrack, times_in}
 use Rattle.viewer_tracks.specs.Columns.{Columns, times_on, times_meant}
 use Rattle.desktop_definitions.specs.declared.viewer.Viewer.{Viewer}
-use Rattle.desktop_definitions.specs.declared.viewer.Kept.{Kept}
+use Rattle.desktop_definitions.specs.declared.viewer.ClosedViewer.{ClosedViewer}
 use Rattle.desktop_definitions.specs.Desktop.{DesktopOf}
 use Rattle.desktop_definitions.specs.Opening.{is_shown}
 use Rattle.desktop_definitions.specs.Sound.{ArePlaces, times_there}
@@ -111,25 +111,25 @@ named_on v (t ∷ under) some =
 
 -- ---- viewers
 
-abbrev kept_name : Option Kept → List ℕ
-kept_name None = []
-kept_name (Some k) = k.viewer ∷ []
+abbrev closed_name : Option ClosedViewer → List ℕ
+closed_name None = []
+closed_name (Some k) = k.viewer ∷ []
 
-one_kept : (kept : Option Kept) → length (kept_name kept) ≤ 1
-one_kept None = omega arith
-one_kept (Some k) = omega arith
+one_closed : (closed : Option ClosedViewer) → length (closed_name closed) ≤ 1
+one_closed None = omega arith
+one_closed (Some k) = omega arith
 
-named_kept : (v : ℕ) (kept : Option Kept) → 0 < times_meant v (option_map (λ k. k.viewer) kept)
-    → list_any (is_at (nat_cmp v)) (kept_name kept) ≡ true
-named_kept v None some = absurd (omega (arith, some))
-named_kept v (Some k) some = (elim (k.viewer == v) as (λ b. (k.viewer == v) ≡ b → 0 < cond b 1 0
+named_closed : (v : ℕ) (closed : Option ClosedViewer) → 0 < times_meant v (option_map (λ k. k.viewer) closed)
+    → list_any (is_at (nat_cmp v)) (closed_name closed) ≡ true
+named_closed v None some = absurd (omega (arith, some))
+named_closed v (Some k) some = (elim (k.viewer == v) as (λ b. (k.viewer == v) ≡ b → 0 < cond b 1 0
     → is_at (nat_cmp v) k.viewer || false ≡ true) [
       | true ↦ λ is some. or_left _ _ (at_is v k.viewer ∙ is)
       | false ↦ λ is some. absurd (omega (arith, some))
     ]) refl some
 
-module _ (viewers : List (ℕ × Viewer)) (columns : Columns) (kept : Option Kept)
-    (are : ArePlaces viewers columns kept) where
+module _ (viewers : List (ℕ × Viewer)) (columns : Columns) (closed : Option ClosedViewer)
+    (are : ArePlaces viewers columns closed) where
   abbrev user : List ℕ
   user = all_names columns.user
 
@@ -137,29 +137,29 @@ module _ (viewers : List (ℕ × Viewer)) (columns : Columns) (kept : Option Kep
   system = all_names columns.system
 
   abbrev all_there : List ℕ
-  all_there = user ++ (system ++ kept_name kept)
+  all_there = user ++ (system ++ closed_name closed)
 
   few_all : length all_there ≤ ROWS * (length columns.user + length columns.system) + 1
   few_all =
       let first = few_on columns.user are.columns_hold.user.tracks in
       let second = few_on columns.system are.columns_hold.system.tracks in
-      let third = one_kept kept in
-      let sum = length-append user (system ++ kept_name kept) in
-      let more = length-append system (kept_name kept) in
+      let third = one_closed closed in
+      let sum = length-append user (system ++ closed_name closed) in
+      let more = length-append system (closed_name closed) in
       omega (arith, first, second, third, sum, more)
 
-  named_there : (v : ℕ) → 0 < times_there columns kept v → list_any (is_at (nat_cmp v)) all_there ≡ true
+  named_there : (v : ℕ) → 0 < times_there columns closed v → list_any (is_at (nat_cmp v)) all_there ≡ true
   named_there v some =
       ⊎_elim
-      (λ left. any_left _ user (system ++ kept_name kept) (named_on v columns.user left))
-      (λ no_user. any_right _ user (system ++ kept_name kept) (⊎_elim
-      (λ right. any_left _ system (kept_name kept) (named_on v columns.system right))
-      (λ no_system. any_right _ system (kept_name kept) (named_kept v kept (omega (arith, some, no_user, no_system))))
+      (λ left. any_left _ user (system ++ closed_name closed) (named_on v columns.user left))
+      (λ no_user. any_right _ user (system ++ closed_name closed) (⊎_elim
+      (λ right. any_left _ system (closed_name closed) (named_on v columns.system right))
+      (λ no_system. any_right _ system (closed_name closed) (named_closed v closed (omega (arith, some, no_user, no_system))))
       (cases_lt 0 (times_on v columns.system))))
       (cases_lt 0 (times_on v columns.user))
 
-  some_there : (v : ℕ) (found : Bool) → found ≡ true → times_there columns kept v ≡ cond found 1 0
-      → 0 < times_there columns kept v
+  some_there : (v : ℕ) (found : Bool) → found ≡ true → times_there columns closed v ≡ cond found 1 0
+      → 0 < times_there columns closed v
   some_there v true is once = omega (arith, once)
   some_there v false is once = absurd cc
 
@@ -207,12 +207,12 @@ all_any q P (k ∷ ks) all is = (elim (is_at (nat_cmp q) k) as (λ b. is_at (nat
     ]) refl is
 
 pub few_texts : {T : Type 0} (d : DesktopOf T) → IsStrictlySortedBy nat_cmp (keys_of d.texts)
-    → All (λ n. IsTrue (is_shown d n)) (keys_of d.texts) → length d.texts ≤ 1 + 2 * length d.viewers
+    → All (λ n. IsTrue (is_shown d.viewers n)) (keys_of d.texts) → length d.texts ≤ 1 + 2 * length d.viewers
 few_texts d numbers shown =
     let few = length-le_from_is_member (eq_by_cmp_equiv nat_cmp_total) (keys_of d.texts) (0 ∷ shown_numbers d.viewers)
     (IsDistinct-from_sorted nat_cmp (keys_of d.texts) numbers)
     (λ q is. (λ i. (at_is q 0 ∙ the_log q) i || is_number q d.viewers i)
-    ∙ all_any q (λ n. IsTrue (is_shown d n)) (keys_of d.texts) shown is) in
+    ∙ all_any q (λ n. IsTrue (is_shown d.viewers n)) (keys_of d.texts) shown is) in
     let same = length-keys_of d.texts in
     let two = two_each d.viewers in
     omega (arith, few, same, two)

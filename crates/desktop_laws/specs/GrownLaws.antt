@@ -62,24 +62,24 @@ menu_is_shown n true b c = refl
 menu_is_shown n false b c = λ k. (eq-eqb n n refl k || b) || c
 
 module _ {X : Type 0} (d : DesktopOf (List X)) (menu : List X) (main org : ℕ) (k : Track) where
-  shown_over : (n : ℕ) → is_shown (opening_over d menu main org k) n
+  shown_over : (n : ℕ) → is_shown (opening_over d menu main org k).viewers n
       ≡ (n == 0) || (shows_text n (new_viewer d main org) || list_any (λ e. shows_text n e.1) d.viewers)
   unfolding opening_over covered_by
   shown_over n = ap (λ b. (n == 0) || b)
       (any_put (shows_text n) (new_id d) (new_viewer d main org) d.viewers (unused_none d.viewers))
 
-  all_shown_over : All (λ n. IsTrue (is_shown d n)) (keys_of d.texts)
-      → All (λ n. IsTrue (is_shown (opening_over d menu main org k) n)) (keys_of (opening_over d menu main org k).texts)
+  all_shown_over : All (λ n. IsTrue (is_shown d.viewers n)) (keys_of d.texts)
+      → All (λ n. IsTrue (is_shown (opening_over d menu main org k).viewers n)) (keys_of (opening_over d menu main org k).texts)
   unfolding opening_over covered_by
   all_shown_over all =
-      let now : ℕ → Type 0 = λ n. IsTrue (is_shown (opening_over d menu main org k) n) in
+      let now : ℕ → Type 0 = λ n. IsTrue (is_shown (opening_over d menu main org k).viewers n) in
       All-keys-insert_entry nat_cmp (new_number d) menu now d.texts
-      (All-weaker (λ n. IsTrue (is_shown d n)) now
+      (All-weaker (λ n. IsTrue (is_shown d.viewers n)) now
       (λ n is. shown_over n ∙ or_more (n == 0) (shows_text n (new_viewer d main org)) _ is ∙ is) (keys_of d.texts) all)
       (shown_over (new_number d) ∙ menu_is_shown (new_number d) (new_number d == 0) (main == new_number d) _)
 
   -- so none goes
-  pub none_goes : All (λ n. IsTrue (is_shown d n)) (keys_of d.texts)
+  pub none_goes : All (λ n. IsTrue (is_shown d.viewers n)) (keys_of d.texts)
       → dropped (opening_over d menu main org k) ≡ opening_over d menu main org k
   none_goes all = all_shown (opening_over d menu main org k) (all_shown_over all)
 

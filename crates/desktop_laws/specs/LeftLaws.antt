@@ -72,7 +72,7 @@ module _ (test : Viewer → Bool) (g : ℕ) where
 
 pub still_is : {T : Type 0} (d : DesktopOf T) (taken : Option ℕ) (n : ℕ)
     → IsStrictlySortedBy nat_cmp (keys_of d.viewers)
-    → is_shown (without_viewer d taken) n ≡ (n == 0) || still_shown taken d.viewers n
+    → is_shown (without_viewer d taken).viewers n ≡ (n == 0) || still_shown taken d.viewers n
 still_is d None n rising = refl
 still_is d (Some g) n rising =
     ap (λ b. (n == 0) || b) (any_removed (λ viewer. (viewer.menu == n) || (viewer.main == n)) g d.viewers rising)
@@ -118,7 +118,7 @@ without_texts d None = refl
 without_texts d (Some g) = refl
 
 held_dropped : (d : Desktop) (taken : Option ℕ) (texts : Texts (Text ℕ))
-    → filter (λ e. is_shown (without_viewer d taken) e.0) d.texts ≡ texts
+    → filter (λ e. is_shown (without_viewer d taken).viewers e.0) d.texts ≡ texts
     → held (dropped (without_viewer d taken))
     ≡ lengths texts + lengths d.files + length d.copied + length d.deleted
 unfolding held dropped

@@ -306,7 +306,7 @@ module _ (d : Desktop) (has : HasLooks d) where
   pub dropped_looks : HasLooks (dropped d)
   unfolding dropped
   dropped_looks =
-      texts_looks (filter (λ e. is_shown d e.0) d.texts) (left_looks (is_shown d) d.texts has.texts)
+      texts_looks (filter (λ e. is_shown d.viewers e.0) d.texts) (left_looks (is_shown d.viewers) d.texts has.texts)
 
   -- other files
   pub files_looks : (files : Files (Text ℕ)) → All AreLooks (values_of files) → HasLooks (record d { files = files })
@@ -345,7 +345,7 @@ pub shape_stays : {d e : Desktop} → IsShaped d → main_parts d ≡ main_parts
     → HasLooks e → IsShaped e
 shape_stays shaped same few looks = record {
   viewers = subst (λ (x : Desktop). AreViewers x.texts x.viewers) same shaped.viewers;
-  places = subst (λ (x : Desktop). ArePlaces x.viewers x.columns x.kept) same shaped.places;
+  places = subst (λ (x : Desktop). ArePlaces x.viewers x.columns x.closed) same shaped.places;
   marks = subst (λ (x : Desktop). AreMarks x.columns (main_length x.texts x.viewers) x.caret x.selections) same
       shaped.marks;
   marker = subst (λ (x : Desktop). ForSome x.marker (λ m. (m.0 < COLUMNS) × (m.1 < ROWS))) same shaped.marker;

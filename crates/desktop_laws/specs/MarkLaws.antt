@@ -364,7 +364,7 @@ module _ (x : Desktop) (shaped : IsShaped x) (viewers : List (ℕ × Viewer)) (f
           ∙ ap (λ (b : Bool). if b then 1 else 0)
           (sym (ap (λ (o : Option Viewer). is_some o) (found w)
           ∙ is_some_map (λ (y : Viewer). moved_to (f w y) y) (viewer_in x.viewers w)));
-      kept_place = shaped.places.kept_place;
+      closed_place = shaped.places.closed_place;
     };
     marks = subst (λ (long : ℕ → ℕ). AreMarks x.columns long x.caret x.selections) (λ k w. long_as w k) shaped.marks;
     marker = shaped.marker;

@@ -21,7 +21,7 @@ use Rattle.std.proofs.lemmas.Map.Steps.{le-length_from_below}
 use Rattle.desktop_definitions.specs.declared.viewer.Viewer.{Viewer}
 use Rattle.desktop_definitions.specs.declared.viewer.Caret.{Caret}
 use Rattle.desktop_definitions.specs.declared.viewer.Selection.{Selection}
-use Rattle.desktop_definitions.specs.declared.viewer.Kept.{Kept}
+use Rattle.desktop_definitions.specs.declared.viewer.ClosedViewer.{ClosedViewer}
 use Rattle.viewer_tracks.specs.Columns.{Columns, IsPlaced, IsOnTop}
 use Rattle.desktop_definitions.specs.Tables.{Texts, numbered}
 use Rattle.desktop_definitions.specs.Viewers.{viewer_in, text_in, main_length, viewer_or_none, bare_viewer}
@@ -289,13 +289,13 @@ some_if there true some is = refl
 some_if there false some is = absurd (omega (arith, some, is))
 
 pub placed_known : (viewers : List (ℕ × Viewer)) (columns : Columns)
-    (kept : Option Kept) (w : ℕ)
-    → ArePlaces viewers columns kept → IsPlaced w columns → IsSome (viewer_in viewers w)
-placed_known viewers columns kept w are placed =
+    (closed : Option ClosedViewer) (w : ℕ)
+    → ArePlaces viewers columns closed → IsPlaced w columns → IsSome (viewer_in viewers w)
+placed_known viewers columns closed w are placed =
     let once = are.once w in
-    some_if (times_there columns kept w) _ (omega (arith, placed)) once
+    some_if (times_there columns closed w) _ (omega (arith, placed)) once
 
-pub on_top_known : (viewers : List (ℕ × Viewer)) (columns : Columns) (kept : Option Kept) (w : ℕ)
-    → ArePlaces viewers columns kept → IsOnTop w columns → IsSome (viewer_in viewers w)
-on_top_known viewers columns kept w are top =
-    placed_known viewers columns kept w are (on_top_placed columns w top)
+pub on_top_known : (viewers : List (ℕ × Viewer)) (columns : Columns) (closed : Option ClosedViewer) (w : ℕ)
+    → ArePlaces viewers columns closed → IsOnTop w columns → IsSome (viewer_in viewers w)
+on_top_known viewers columns closed w are top =
+    placed_known viewers columns closed w are (on_top_placed columns w top)

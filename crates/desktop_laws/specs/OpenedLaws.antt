@@ -116,7 +116,7 @@ module _ (d : Desktop) (text : Text ℕ) (shaped : IsShaped d) where
     marks = same_marks d.columns (main_length d.texts d.viewers) (main_length (with_new d.texts text) d.viewers)
         d.caret d.selections
         (λ w top. text_long d.texts (with_new d.texts text) (new_number d) is_text_more d.viewers shaped.viewers w
-        (on_top_known d.viewers d.columns d.kept w shaped.places top)) shaped.marks;
+        (on_top_known d.viewers d.columns d.closed w shaped.places top)) shaped.marks;
     marker = shaped.marker;
     files = shaped.files;
     pattern = shaped.pattern;
@@ -165,7 +165,7 @@ module _ (d : Desktop) (menu : Text ℕ) (main org : ℕ) (shaped : IsShaped d) 
   long_stays : (w : ℕ) → IsOnTop w d.columns
       → main_length texts (new_viewers d main org) w ≡ main_length d.texts d.viewers w
   long_stays w top =
-      let some = on_top_known d.viewers d.columns d.kept w shaped.places top in
+      let some = on_top_known d.viewers d.columns d.closed w shaped.places top in
       viewer_long texts d.viewers (new_viewers d main org) (new_id d) (new_viewer d main org) is_viewer_more
       (text_viewers d.texts texts (new_number d) more d.viewers shaped.viewers) w some
       ∙ text_long d.texts texts (new_number d) more d.viewers shaped.viewers w some
@@ -177,31 +177,31 @@ module _ (d : Desktop) (menu : Text ℕ) (main org : ℕ) (shaped : IsShaped d) 
   module _ (columns : Columns) (taken : Option ℕ) (hold : IsColumns columns)
       (places : (w : ℕ) → times_placed w columns + times_meant w taken
       ≡ times_placed w d.columns + times_meant w (Some (new_id d))) where
-    once_new : times_there columns d.kept (new_id d) + times_meant (new_id d) taken
+    once_new : times_there columns d.closed (new_id d) + times_meant (new_id d) taken
         ≡ found (new_viewers d main org) (new_id d)
     once_new =
         let v = new_id d in
         let meant : times_meant v (Some v) ≡ 1 = rw (eq-eqb v v refl) refl in
-        let none : times_there d.columns d.kept v ≡ 0
+        let none : times_there d.columns d.closed v ≡ 0
         = shaped.places.once v ∙ (λ k. if is_some (is_viewer_more.none k) then 1 else 0) in
         let one : found (new_viewers d main org) v ≡ 1 = λ k. if is_some (is_viewer_more.there k) then 1 else 0 in
         let all = places v in
         omega (arith, meant, none, one, all)
 
     once_other : (w : ℕ) → ¬ (w ≡ new_id d)
-        → times_there columns d.kept w + times_meant w taken ≡ found (new_viewers d main org) w
+        → times_there columns d.closed w + times_meant w taken ≡ found (new_viewers d main org) w
     once_other w other =
         let meant : times_meant w (Some (new_id d)) ≡ 0
         = rw (ne_eqb (new_id d) w (λ same. other (sym same))) refl in
         let same : found (new_viewers d main org) w ≡ found d.viewers w
         = λ k. if is_some (is_viewer_more.others w other k) then 1 else 0 in
         let all = places w in
-        let before : times_there d.columns d.kept w ≡ found d.viewers w = shaped.places.once w in
+        let before : times_there d.columns d.closed w ≡ found d.viewers w = shaped.places.once w in
         omega (arith, meant, same, all, before)
 
-    once_anew : (w : ℕ) → times_there columns d.kept w + times_meant w taken ≡ found (new_viewers d main org) w
+    once_anew : (w : ℕ) → times_there columns d.closed w + times_meant w taken ≡ found (new_viewers d main org) w
     once_anew w = by_number w (new_id d) _
-        (λ same. subst (λ (n : ℕ). times_there columns d.kept n + times_meant n taken
+        (λ same. subst (λ (n : ℕ). times_there columns d.closed n + times_meant n taken
         ≡ found (new_viewers d main org) n) (sym same) once_new)
         (once_other w)
 
@@ -221,7 +221,7 @@ module _ (d : Desktop) (menu : Text ℕ) (main org : ℕ) (shaped : IsShaped d) 
       files = shaped.files;
       pattern = shaped.pattern;
       looks = looks_stay (new_looks d shaped.looks menu looks) refl;
-      kept_place = shaped.places.kept_place;
+      closed_place = shaped.places.closed_place;
       columns_hold = hold;
       once = once_anew;
       stay = stay;

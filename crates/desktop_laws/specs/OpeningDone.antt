@@ -52,7 +52,7 @@ pub kept_viewers : (d : KeptDesktop) → IsKeptWhole d → length d.viewers ≤ 
 unfolding seen
 kept_viewers d whole =
     let shaped = (whole.sound []).shaped in
-    few_viewers d.viewers d.columns d.kept shaped.places shaped.viewers.ids
+    few_viewers d.viewers d.columns d.closed shaped.places shaped.viewers.ids
 
 kept_texts : (d : KeptDesktop) → IsKeptWhole d → length d.texts ≤ 1 + 2 * length d.viewers
 unfolding seen
@@ -79,7 +79,7 @@ unfolding seen
 new_fresh d whole placed =
     let v = new_id d in
     let once = (whole.sound []).shaped.places.once v in
-    let none : times_there d.columns d.kept v ≡ 0
+    let none : times_there d.columns d.closed v ≡ 0
     = once ∙ (λ k. if is_some (unused_none d.viewers k) then 1 else 0) in
     absurd (omega (arith, none, placed))
 

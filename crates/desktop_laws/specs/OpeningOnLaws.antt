@@ -96,7 +96,7 @@ pub viewer_can : (d : Desktop) (v : ℕ) → IsShaped d → IsPlaced v d.columns
     → CanShow d (viewer_or_none d.viewers v).main (viewer_or_none d.viewers v).org
 viewer_can d v shaped placed =
     let found = the_one (viewer_in d.viewers v) bare_viewer
-    (placed_known d.viewers d.columns d.kept v shaped.places placed) in
+    (placed_known d.viewers d.columns d.closed v shaped.places placed) in
     let shown = shaped.viewers.each v (viewer_or_none d.viewers v) found in
     record {
       there = shown.main;
@@ -119,8 +119,8 @@ or_more false true c is = sym is
 or_more false false c is = refl
 
 module _ (d : Desktop) (all : AllShown d) where
-  shown_there : (k : ℕ) → list_any (λ j. j == k) (keys_of d.texts) ≡ true → is_shown d k ≡ true
-  shown_there k there = all_any k (λ n. is_shown d n ≡ true) (keys_of d.texts) all (any_at k (keys_of d.texts) ∙ there)
+  shown_there : (k : ℕ) → list_any (λ j. j == k) (keys_of d.texts) ≡ true → is_shown d.viewers k ≡ true
+  shown_there k there = all_any k (λ n. is_shown d.viewers n ≡ true) (keys_of d.texts) all (any_at k (keys_of d.texts) ∙ there)
 
   pub stays_anyway : (main k : ℕ) (taken : Option ℕ) → (main ≡ 0) ⊎ (taken ≡ None)
       → list_any (λ j. j == k) (keys_of d.texts) ≡ true

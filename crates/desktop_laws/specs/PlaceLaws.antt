@@ -34,7 +34,7 @@ use Rattle.desktop_definitions.specs.Desktop.{Desktop, DesktopOf, held}
 use Rattle.desktop_definitions.specs.Viewers.{viewer_in, text_in, main_length, caret_outside, selections_outside}
 use Rattle.desktop_definitions.specs.Viewers.{without_viewer, bare_viewer}
 use Rattle.desktop_definitions.specs.Opening.{is_shown, dropped}
-use Rattle.desktop_definitions.specs.Sound.{AreViewers, times_there, IsKeptPlace, IsCaret, IsSelection}
+use Rattle.desktop_definitions.specs.Sound.{AreViewers, times_there, IsClosedPlace, IsCaret, IsSelection}
 use Rattle.desktop_definitions.specs.Sound.{AreMarks, AreFiles, HasLooks, IsShaped}
 use Rattle.desktop_laws.specs.StepLaws.{AllShown}
 use Rattle.desktop_laws.specs.LookedLaws.{looks_stay, dropped_looks}
@@ -248,9 +248,9 @@ pub record IsPlacedAnew (d : Desktop) (columns : Columns) (taken : Option ℕ) :
   pub files : AreFiles d.files
   pub pattern : length d.pattern ≤ most_pattern
   pub looks : HasLooks d
-  pub kept_place : ForSome d.kept IsKeptPlace
+  pub closed_place : ForSome d.closed IsClosedPlace
   pub columns_hold : IsColumns columns
-  pub once : (w : ℕ) → times_there columns d.kept w + times_meant w taken
+  pub once : (w : ℕ) → times_there columns d.closed w + times_meant w taken
       ≡ (if is_some (viewer_in d.viewers w) then 1 else 0)
   pub stay : StandStill d.columns columns taken
 
@@ -262,16 +262,16 @@ one_less there true sum = omega (arith, sum)
 one_less there false sum = omega (arith, sum)
 
 module _ (d : Desktop) (columns : Columns) where
-  once_left : (g w : ℕ) → IsPlacedAnew d columns (Some g) → times_there columns d.kept w
+  once_left : (g w : ℕ) → IsPlacedAnew d columns (Some g) → times_there columns d.closed w
       ≡ (if is_some (viewer_in (remove_entry (is_at (nat_cmp g)) d.viewers) w) then 1 else 0)
   once_left g w are = by_number w g _
       (λ same. one_less _ _ (let meant : times_meant w (Some g) ≡ 1 = rw (eq-eqb g w (sym same)) refl in
-      subst (λ n. times_there columns d.kept w + n ≡ (if is_some (viewer_in d.viewers w) then 1 else 0)) meant
+      subst (λ n. times_there columns d.closed w + n ≡ (if is_some (viewer_in d.viewers w) then 1 else 0)) meant
       (are.once w))
       ∙ (λ k. if is_some (sym (subst (λ (n : ℕ). viewer_in (remove_entry (is_at (nat_cmp g)) d.viewers) n ≡ None)
       (sym same) (removed_itself g d.viewers are.viewers.ids)) k) then 1 else 0))
       (λ other. let meant : times_meant w (Some g) ≡ 0 = rw (ne_eqb g w (λ same. other (sym same))) refl in
-      let sum : times_there columns d.kept w ≡ (if is_some (viewer_in d.viewers w) then 1 else 0)
+      let sum : times_there columns d.closed w ≡ (if is_some (viewer_in d.viewers w) then 1 else 0)
       = omega (arith, are.once w, meant) in
       sum ∙ (λ k. if is_some (sym (removed_other g w d.viewers other) k) then 1 else 0))
 
@@ -281,7 +281,7 @@ module _ (d : Desktop) (columns : Columns) where
     places = record {
       columns_hold = are.columns_hold;
       once = λ w. let sum = are.once w in omega (arith, sum);
-      kept_place = are.kept_place;
+      closed_place = are.closed_place;
     };
     marks = record {
       caret_stands = λ x here.
@@ -304,7 +304,7 @@ module _ (d : Desktop) (columns : Columns) where
     places = record {
       columns_hold = are.columns_hold;
       once = λ w. once_left g w are;
-      kept_place = are.kept_place;
+      closed_place = are.closed_place;
     };
     marks = marks_left g d.texts d.viewers d.columns columns are.stay d.caret d.selections are.marks;
     marker = are.marker;
@@ -324,7 +324,7 @@ module _ (d : Desktop) (columns : Columns) where
     files = shaped.files;
     pattern = shaped.pattern;
     looks = shaped.looks;
-    kept_place = shaped.places.kept_place;
+    closed_place = shaped.places.closed_place;
     columns_hold = hold;
     once = λ w. let before = shaped.places.once w in let now = places w in omega (arith, before, now);
     stay = stay;
@@ -363,9 +363,9 @@ stay_as test (e ∷ es) all = rw (all 0 e.0 (omega arith)) (ap (λ l. e ∷ l) (
     (test n)) e.0 (keys_of es) all)))
 
 -- where all texts are shown none goes
-pub all_shown : {T : Type 0} (d : DesktopOf T) → All (λ n. IsTrue (is_shown d n)) (keys_of d.texts) → dropped d ≡ d
+pub all_shown : {T : Type 0} (d : DesktopOf T) → All (λ n. IsTrue (is_shown d.viewers n)) (keys_of d.texts) → dropped d ≡ d
 unfolding dropped
-all_shown d all = λ k. record d { texts = stay_as (is_shown d) d.texts all k }
+all_shown d all = λ k. record d { texts = stay_as (is_shown d.viewers) d.texts all k }
 
 fewer_lengths : (test : ℕ → Bool) (texts : Texts (Text ℕ)) → lengths (filter (λ e. test e.0) texts) ≤ lengths texts
 fewer_lengths test [] = omega arith
@@ -381,28 +381,28 @@ fewer_lengths test (e ∷ es) =
     ]
 
 module _ (d : Desktop) where
-  pub menu_shown : (v : ℕ) (viewer : Viewer) → viewer_in d.viewers v ≡ Some viewer → is_shown d viewer.menu ≡ true
+  pub menu_shown : (v : ℕ) (viewer : Viewer) → viewer_in d.viewers v ≡ Some viewer → is_shown d.viewers viewer.menu ≡ true
   menu_shown v viewer found = or_right (viewer.menu == 0) _
       (shown_by d.viewers v viewer (λ x. (x.menu == viewer.menu) || (x.main == viewer.menu)) found
       (rw (eq-eqb viewer.menu viewer.menu refl) refl))
 
-  pub main_shown : (v : ℕ) (viewer : Viewer) → viewer_in d.viewers v ≡ Some viewer → is_shown d viewer.main ≡ true
+  pub main_shown : (v : ℕ) (viewer : Viewer) → viewer_in d.viewers v ≡ Some viewer → is_shown d.viewers viewer.main ≡ true
   main_shown v viewer found = or_right (viewer.main == 0) _
       (shown_by d.viewers v viewer (λ x. (x.menu == viewer.main) || (x.main == viewer.main)) found
       (or_right (viewer.menu == viewer.main) _ (eq-eqb viewer.main viewer.main refl)))
 
   abbrev left_texts : Texts (Text ℕ)
-  left_texts = filter (λ e. is_shown d e.0) d.texts
+  left_texts = filter (λ e. is_shown d.viewers e.0) d.texts
 
-  text_left : (n : ℕ) → is_shown d n ≡ true → numbered left_texts n ≡ numbered d.texts n
+  text_left : (n : ℕ) → is_shown d.viewers n ≡ true → numbered left_texts n ≡ numbered d.texts n
   text_left n is =
-      lookup-filter-keys (is_at (nat_cmp n)) (is_shown d) true
-      (λ k same. subst (λ (m : ℕ). is_shown d m ≡ true) (at_same n k same) is) d.texts
+      lookup-filter-keys (is_at (nat_cmp n)) (is_shown d.viewers) true
+      (λ k same. subst (λ (m : ℕ). is_shown d.viewers m ≡ true) (at_same n k same) is) d.texts
 
-  some_left : (n : ℕ) → is_shown d n ≡ true → IsSome (numbered d.texts n) → IsSome (numbered left_texts n)
+  some_left : (n : ℕ) → is_shown d.viewers n ≡ true → IsSome (numbered d.texts n) → IsSome (numbered left_texts n)
   some_left n is some = subst (λ (o : Option (Text ℕ)). IsSome o) (sym (text_left n is)) some
 
-  length_left : (n : ℕ) → is_shown d n ≡ true → length (text_in left_texts n) ≡ length (text_in d.texts n)
+  length_left : (n : ℕ) → is_shown d.viewers n ≡ true → length (text_in left_texts n) ≡ length (text_in d.texts n)
   length_left n is = ap (λ (o : Option (Text ℕ)). length (unwrap_or o [])) (text_left n is)
 
   -- each main text is as long as before
@@ -417,8 +417,8 @@ module _ (d : Desktop) where
   viewers_shown : AreViewers d.texts d.viewers → AreViewers left_texts d.viewers
   viewers_shown are = record {
     log = some_left 0 refl are.log;
-    numbers = subst (IsStrictlySortedBy nat_cmp) (sym (keys_filter (is_shown d) d.texts))
-        (IsStrictlySortedBy-filter nat_cmp (is_shown d) (keys_of d.texts) are.numbers);
+    numbers = subst (IsStrictlySortedBy nat_cmp) (sym (keys_filter (is_shown d.viewers) d.texts))
+        (IsStrictlySortedBy-filter nat_cmp (is_shown d.viewers) (keys_of d.texts) are.numbers);
     ids = are.ids;
     each = λ v viewer found.
         let old = are.each v viewer found in
@@ -461,11 +461,12 @@ module _ (d : Desktop) where
 
   pub dropped_shown : AllShown (dropped d)
   unfolding dropped
-  dropped_shown = subst (λ (ks : List ℕ). All (λ n. IsTrue (is_shown d n)) ks) (sym (keys_filter (is_shown d) d.texts))
-      (λ i n low. filter_passes (is_shown d) (keys_of d.texts) i n low)
+  dropped_shown = subst (λ (ks : List ℕ). All (λ n. IsTrue (is_shown d.viewers n)) ks)
+      (sym (keys_filter (is_shown d.viewers) d.texts))
+      (λ i n low. filter_passes (is_shown d.viewers) (keys_of d.texts) i n low)
 
   pub dropped_held : held (dropped d) ≤ held d
   unfolding dropped held
   dropped_held =
-      let parts = fewer_lengths (is_shown d) d.texts in
+      let parts = fewer_lengths (is_shown d.viewers) d.texts in
       omega (arith, parts)

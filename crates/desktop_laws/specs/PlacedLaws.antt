@@ -44,7 +44,7 @@ filter_seen {T} {U} f test (e ∷ es) = elim (test e.0) as
 pub seen_dropped : (characters : List ℕ) (d : KeptDesktop) → seen characters (dropped d) ≡ dropped (seen characters d)
 unfolding seen dropped
 seen_dropped characters d = λ k. record (seen characters d) {
-  texts = filter_seen (seen_text characters) (is_shown d) d.texts k;
+  texts = filter_seen (seen_text characters) (is_shown d.viewers) d.texts k;
 }
 
 pub seen_anew : (characters : List ℕ) (d : KeptDesktop) (columns : Columns) (taken : Option ℕ)
@@ -71,7 +71,7 @@ within_filter n test (e ∷ es) all =
 pub dropped_within : (n : ℕ) (d : KeptDesktop) → IsWithin n d → IsWithin n (dropped d)
 unfolding dropped
 dropped_within n d within = record {
-  texts = within_filter n (is_shown d) d.texts within.texts;
+  texts = within_filter n (is_shown d.viewers) d.texts within.texts;
   files = within.files;
   copied = within.copied;
   deleted = within.deleted;
@@ -235,9 +235,9 @@ over_columns characters d over = (over.whole.sound characters).shaped.places.col
 
 -- each text of a desktop that is kept is shown
 pub over_shown : (characters : List ℕ) (d : KeptDesktop) → IsOver characters d
-    → All (λ n. IsTrue (is_shown d n)) (keys_of d.texts)
+    → All (λ n. IsTrue (is_shown d.viewers n)) (keys_of d.texts)
 unfolding seen
-over_shown characters d over = subst (λ (ks : List ℕ). All (λ n. IsTrue (is_shown d n)) ks)
+over_shown characters d over = subst (λ (ks : List ℕ). All (λ n. IsTrue (is_shown d.viewers n)) ks)
     (keys_of-map_values (seen_text []) d.texts) (over.whole.sound []).shown
 
 module _ (H : Type 0) (old : List ℕ) (d : KeptDesktop) (over : IsOver old d) where

@@ -17,7 +17,7 @@ use Rattle.piece_ring.specs.declared.piece.Piece.{Piece}
 use Rattle.piece_ring.specs.Flat.{flat}
 use Rattle.viewer_tracks.specs.Columns.{Columns, IsPlaced}
 use Rattle.desktop_definitions.specs.declared.viewer.Viewer.{Viewer}
-use Rattle.desktop_definitions.specs.declared.viewer.Kept.{Kept}
+use Rattle.desktop_definitions.specs.declared.viewer.ClosedViewer.{ClosedViewer}
 use Rattle.desktop_definitions.specs.declared.reply.Reply.TheVariants.{Done, No}
 use Rattle.desktop_definitions.specs.Limits.{most_written, most_held, no_caret, no_selection, no_command, no_file, full}
 use Rattle.desktop_definitions.specs.Limits.{too_many_files, outside, wrong_symbol, no_viewer as viewer_missing}
@@ -97,10 +97,10 @@ any_shown n (e ∷ es) = ap (λ b. ((e.1.menu == n) || (e.1.main == n)) || b) (a
 pub shown_rest : (d new : Desktop) → keys_of new.texts ≡ keys_of d.texts
     → texts_shown new.viewers ≡ texts_shown d.viewers → AllShown d → AllShown new
 shown_rest d new numbers viewers all =
-    let same : (n : ℕ) → is_shown d n ≡ is_shown new n = λ n. ap (λ b. (n == 0) || b)
+    let same : (n : ℕ) → is_shown d.viewers n ≡ is_shown new.viewers n = λ n. ap (λ b. (n == 0) || b)
     (any_shown n d.viewers ∙ ap (λ shown. among shown n) (sym viewers) ∙ sym (any_shown n new.viewers)) in
-    subst (All (λ n. IsTrue (is_shown new n))) (sym numbers)
-    (All-weaker (λ n. IsTrue (is_shown d n)) (λ n. IsTrue (is_shown new n))
+    subst (All (λ n. IsTrue (is_shown new.viewers n))) (sym numbers)
+    (All-weaker (λ n. IsTrue (is_shown d.viewers n)) (λ n. IsTrue (is_shown new.viewers n))
     (λ n shown. subst IsTrue (same n) shown) (keys_of d.texts) all)
 
 -- ---- the limits
@@ -358,8 +358,8 @@ some_placed true a b is low = refl
 some_placed false a b is low = absurd (omega (arith, is, low))
 
 -- a viewer in a track is in the table
-pub placed_there : {viewers : List (ℕ × Viewer)} {columns : Columns} {kept : Option Kept}
-    → ArePlaces viewers columns kept → (v : ℕ) → IsPlaced v columns → IsSome (viewer_in viewers v)
+pub placed_there : {viewers : List (ℕ × Viewer)} {columns : Columns} {closed : Option ClosedViewer}
+    → ArePlaces viewers columns closed → (v : ℕ) → IsPlaced v columns → IsSome (viewer_in viewers v)
 placed_there places v placed = some_placed _ _ _ (places.once v) placed
 
 -- the main text of a viewer is there
@@ -372,7 +372,7 @@ main_there texts viewers are v some = (elim (viewer_in viewers v) as
       | Some viewer ↦ λ is there. (are.each v viewer is).main
     ]) refl some
 
-pub main_seen : (d : Desktop) → AreViewers d.texts d.viewers → ArePlaces d.viewers d.columns d.kept → (v : ℕ)
+pub main_seen : (d : Desktop) → AreViewers d.texts d.viewers → ArePlaces d.viewers d.columns d.closed → (v : ℕ)
     → IsPlaced v d.columns → IsSome (numbered d.texts (viewer_or_none d.viewers v).main)
 main_seen d are places v placed = main_there d.texts d.viewers are v (placed_there places v placed)
 

@@ -16,7 +16,7 @@ use Rattle.viewer_tracks.specs.Columns.{Columns}
 use Rattle.desktop_definitions.specs.declared.viewer.Viewer.{Viewer}
 use Rattle.desktop_definitions.specs.declared.viewer.Caret.{Caret}
 use Rattle.desktop_definitions.specs.declared.viewer.Selection.{Selection}
-use Rattle.desktop_definitions.specs.declared.viewer.Kept.{Kept}
+use Rattle.desktop_definitions.specs.declared.viewer.ClosedViewer.{ClosedViewer}
 use Rattle.desktop_definitions.specs.Tables.{Texts, numbered}
 use Rattle.desktop_definitions.specs.Viewers.{bare_viewer, viewer_in, viewer_or_none, text_in, caret_outside}
 use Rattle.desktop_definitions.specs.Viewers.{selections_outside}
@@ -311,13 +311,13 @@ main_same long (Some old) None same = absurd same
 main_same long (Some old) (Some new) same = same.main
 
 module _ (long : ℕ → ℕ) (olds news : List (ℕ × Viewer)) (same : AreReorged long olds news) where
-  pub places_stay : (columns : Columns) (kept : Option Kept) → ArePlaces olds columns kept
-      → ArePlaces news columns kept
-  places_stay columns kept are = record {
+  pub places_stay : (columns : Columns) (closed : Option ClosedViewer) → ArePlaces olds columns closed
+      → ArePlaces news columns closed
+  places_stay columns closed are = record {
     columns_hold = are.columns_hold;
     once = λ v. are.once v ∙ sym (ap one_if
         (some_same long (viewer_in olds v) (viewer_in news v) (reorged_found long (is_at (nat_cmp v)) olds news same)));
-    kept_place = are.kept_place;
+    closed_place = are.closed_place;
   }
 
   pub main_stays : (v : ℕ) → (viewer_or_none news v).main ≡ (viewer_or_none olds v).main

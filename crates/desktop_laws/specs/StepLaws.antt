@@ -30,7 +30,7 @@ use Rattle.desktop_laws.specs.LookedLaws.{default_is_look, no_looks, looks_stay,
 
 -- no text is left over
 abbrev pub AllShown : Desktop → Type 0
-AllShown d = All (λ n. IsTrue (is_shown d n)) (keys_of d.texts)
+AllShown d = All (λ n. IsTrue (is_shown d.viewers n)) (keys_of d.texts)
 
 keep_all : {T : Type 0} (test : ℕ → Bool) (texts : Texts T) → All (λ n. IsTrue (test n)) (keys_of texts)
     → filter (λ e. test e.0) texts ≡ texts
@@ -42,7 +42,7 @@ keep_all test (e ∷ es) all =
 -- where no text is left over none goes
 pub all_stay : (d : Desktop) → AllShown d → dropped d ≡ d
 unfolding dropped
-all_stay d all = λ k. record d { texts = keep_all (is_shown d) d.texts all k }
+all_stay d all = λ k. record d { texts = keep_all (is_shown d.viewers) d.texts all k }
 
 pub settled_done : (d new : Desktop) → AllShown new → fits new ≡ true → settled d (Ok new) ≡ (new, Done)
 unfolding settled
@@ -150,7 +150,7 @@ empty_sound = record {
         once = λ v. omega arith;
       };
       once = λ v. refl;
-      kept_place = λ k here. absurd (cc here);
+      closed_place = λ k here. absurd (cc here);
     };
     marks = record {
       caret_stands = λ c here. absurd (cc here);

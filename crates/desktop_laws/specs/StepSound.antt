@@ -61,7 +61,7 @@ use Rattle.desktop_definitions.specs.declared.region.Region.{Region}
 use Rattle.desktop_definitions.specs.declared.region.Region.TheVariants.{Filler, Menu, Bar, Body}
 use Rattle.desktop_definitions.specs.declared.call.Call.{Call}
 use Rattle.desktop_definitions.specs.declared.viewer.Caret.{Caret}
-use Rattle.desktop_definitions.specs.declared.viewer.Kept.{Kept}
+use Rattle.desktop_definitions.specs.declared.viewer.ClosedViewer.{ClosedViewer}
 use Rattle.desktop_definitions.specs.declared.viewer.Selection.{Selection}
 use Rattle.desktop_definitions.specs.Limits.{most_pattern, too_low, too_deep, no_file, too_many_files}
 use Rattle.desktop_definitions.specs.Limits.{wrong_symbol, no_selection, not_found, no_caret, outside}
@@ -97,7 +97,7 @@ use Rattle.desktop_definitions.specs.Call.{text_called, seen_at_marker, meant, n
 use Rattle.desktop_definitions.specs.Call.{names_of}
 use Rattle.desktop_definitions.specs.Commands.{command_at, commanded, called}
 use Rattle.desktop_definitions.specs.Step.{filed, fits, marked, settled, raw, step_in}
-use Rattle.desktop_definitions.specs.Sound.{IsShaped, IsSound, IsCaret, IsKeptPlace, times_there}
+use Rattle.desktop_definitions.specs.Sound.{IsShaped, IsSound, IsCaret, IsClosedPlace, times_there}
 use Rattle.desktop_laws.specs.LookedLaws.{look_at_looks, relooked_is_look, copied_looks, taken_looks, typed_looks}
 use Rattle.desktop_laws.specs.LookedLaws.{looks_stay, shape_stays, written_shaped, files_looks, put_looks, no_looks}
 use Rattle.desktop_laws.specs.LookedLaws.{font_sets_look, colour_sets_look, offset_sets_look}
@@ -107,8 +107,8 @@ use Rattle.desktop_laws.specs.OpenLaws.{unused_none}
 use Rattle.desktop_laws.specs.OpenedLaws.{at_cell, over, left_at, CanShow, text_more, opening_is, text_shaped, new_shown}
 use Rattle.desktop_laws.specs.OpeningDone.{opened_shaped}
 use Rattle.desktop_laws.specs.OpeningOnLaws.{log_can, viewer_can}
-use Rattle.desktop_laws.specs.ClosingLaws.{place_kept, closed_desktop, closed_columns, kept_before, put_away_is}
-use Rattle.desktop_laws.specs.ClosingLaws.{closed_anew, restood, kept_nowhere, recalled_columns, replaced_by_kept}
+use Rattle.desktop_laws.specs.ClosingLaws.{place_closed, closed_desktop, closed_columns, closed_before, put_away_is}
+use Rattle.desktop_laws.specs.ClosingLaws.{closed_anew, restood, closed_nowhere, recalled_columns, replaced_by_closed}
 use Rattle.desktop_laws.specs.ClosingLaws.{brought_back_is, recalled_anew}
 use Rattle.desktop_laws.specs.EditLaws.{with_org_shaped, with_caret_shaped, with_selection_shaped, unselected_shaped}
 use Rattle.desktop_laws.specs.KeyLaws.{looks_long}
@@ -237,8 +237,8 @@ top_within t i is = (elim (nat_lt i (length t)) as (λ b. nat_lt i (length t) �
       | false ↦ λ high. (omega arith, omega arith)
     ]) refl
 
-kept_within : (c : Columns) (v : ℕ) → IsColumns c → IsOnTop v c → IsKeptPlace (place_kept c v)
-kept_within c v are placed =
+closed_within : (c : Columns) (v : ℕ) → IsColumns c → IsOnTop v c → IsClosedPlace (place_closed c v)
+closed_within c v are placed =
     let k = track_of c v in
     let own = ap (λ (t : List Entry). top_of t (entry_of t v)) (shown_stands c v are placed) in
     let both = top_within (shown c k) (entry_of (shown c k) v) (topmost_track (stack_of c k) (stack_in c k are)) in
@@ -249,7 +249,7 @@ kept_within c v are placed =
 module _ (d : Desktop) (shaped : IsShaped d) where
   new_fresh : ¬ IsPlaced (new_id d) d.columns
   new_fresh placed =
-      let none : times_there d.columns d.kept (new_id d) ≡ 0 = shaped.places.once (new_id d)
+      let none : times_there d.columns d.closed (new_id d) ≡ 0 = shaped.places.once (new_id d)
       ∙ (λ k. if is_some (unused_none d.viewers k) then 1 else 0) in
       omega (arith, none, placed)
 
@@ -305,17 +305,17 @@ module _ (d : Desktop) (shaped : IsShaped d) where
   put_away_shaped : (v : ℕ) → IsOnTop v d.columns → IsShaped (put_away d v)
   put_away_shaped v placed =
       let hold = shaped.places.columns_hold in
-      subst IsShaped (put_away_is d v) (anew_shaped (closed_desktop d v) (closed_columns d v) (kept_before d v)
+      subst IsShaped (put_away_is d v) (anew_shaped (closed_desktop d v) (closed_columns d v) (closed_before d v)
       (closed_anew d v shaped placed (close_keeps d.columns v hold placed)
-      (λ w. close_places d.columns v w hold placed) (kept_within d.columns v hold placed)))
+      (λ w. close_places d.columns v w hold placed) (closed_within d.columns v hold placed)))
 
-  brought_back_shaped : (k : Kept) → d.kept ≡ Some k → IsShaped (brought_back d k)
+  brought_back_shaped : (k : ClosedViewer) → d.closed ≡ Some k → IsShaped (brought_back d k)
   brought_back_shaped k is =
       let hold = shaped.places.columns_hold in
       subst IsShaped (brought_back_is d k)
-      (anew_shaped (restood d d.columns d.caret d.selections None) (recalled_columns d k) (replaced_by_kept d k)
+      (anew_shaped (restood d d.columns d.caret d.selections None) (recalled_columns d k) (replaced_by_closed d k)
       (recalled_anew d k shaped is
-      (open_keeps d.columns k.viewer (left_of k.track) k.top hold (kept_nowhere d k shaped is))
+      (open_keeps d.columns k.viewer (left_of k.track) k.top hold (closed_nowhere d k shaped is))
       (λ w. open_places d.columns k.viewer (left_of k.track) k.top w hold)))
 
   copied_shaped : (v : ℕ) → IsOnTop v d.columns → IfOk (viewer_copied d v) IsShaped
@@ -475,7 +475,7 @@ module _ (d : Desktop) (shaped : IsShaped d) where
       by_need IsShaped (meant d call) viewer_missing (λ v. Ok (put_away d v))
       (λ v is. put_away_shaped d shaped v (meant_placed call v placed is))
   commanded_shaped SystemRecall call placed =
-      by_need IsShaped d.kept viewer_missing (λ k. Ok (brought_back d k)) (λ k is. brought_back_shaped d shaped k is)
+      by_need IsShaped d.closed viewer_missing (λ k. Ok (brought_back d k)) (λ k is. brought_back_shaped d shaped k is)
   commanded_shaped SystemCopy call placed =
       by_need IsShaped (meant d call) viewer_missing (viewer_copied d)
       (λ v is. copied_shaped d shaped v (meant_placed call v placed is))

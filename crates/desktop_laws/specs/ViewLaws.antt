@@ -30,7 +30,7 @@ use Rattle.viewer_tracks.proofs.ColumnLemmas.{stack_in}
 use Rattle.desktop_definitions.specs.declared.viewer.Viewer.{Viewer}
 use Rattle.desktop_definitions.specs.declared.viewer.Caret.{Caret}
 use Rattle.desktop_definitions.specs.declared.viewer.Selection.{Selection}
-use Rattle.desktop_definitions.specs.declared.viewer.Kept.{Kept}
+use Rattle.desktop_definitions.specs.declared.viewer.ClosedViewer.{ClosedViewer}
 use Rattle.desktop_definitions.specs.declared.entry.Entry.{Entry}
 use Rattle.desktop_definitions.specs.declared.entry.Entry.TheVariants.{Viewer as ViewerEntry}
 use Rattle.desktop_laws.specs.TableLaws.{length_seen_text}
@@ -49,9 +49,9 @@ one_there true n is some = refl
 one_there false n is some = absurd (omega arith)
 
 -- a viewer that stands in a track is there
-pub placed_there : (viewers : List (ℕ × Viewer)) (columns : Columns) (kept : Option Kept) (v : ℕ)
-    → ArePlaces viewers columns kept → IsPlaced v columns → IsSome (viewer_in viewers v)
-placed_there viewers columns kept v places placed =
+pub placed_there : (viewers : List (ℕ × Viewer)) (columns : Columns) (closed : Option ClosedViewer) (v : ℕ)
+    → ArePlaces viewers columns closed → IsPlaced v columns → IsSome (viewer_in viewers v)
+placed_there viewers columns closed v places placed =
     one_there (is_some (viewer_in viewers v)) _ (places.once v) (omega (arith, placed))
 
 place_got : {X : Type 0} (xs : List X) (i : ℕ) (d : X) → i < length xs → slice_get xs i ≡ Some (slice_index_or xs i d)

@@ -1,7 +1,7 @@
 use Rattle.std.proofs.Common.{◌==◌, Some, subst, ◌∙◌}
 use Rattle.desktop_definitions.specs.Opening.{dropped}
 use Rattle.desktop_definitions.specs.Viewers.{unmarked, without_viewer}
-use Rattle.desktop_definitions.specs.Sound.{IsKeptPlace}
+use Rattle.desktop_definitions.specs.Sound.{IsClosedPlace}
 use Rattle.desktop_laws.specs.PlacedLaws.{over_columns}
 use Rattle.desktop_laws.specs.ClosingLaws.{closed_answered}
 use Rattle.desk_core.specs.Kept.{kept}
@@ -15,10 +15,10 @@ returns-clause-answered g c =
     closed_answered _ _ d c.requires.over v c.requires.placed
     (c.edits_keep_columns.ensures.closed d.columns v hold c.requires.placed)
     (λ w. c.edits_place_viewers.ensures.closed d.columns v w hold c.requires.placed)
-    (subst IsKeptPlace c.place_kept.ensures.value c.place_kept.ensures.place)
+    (subst IsClosedPlace c.place_closed.ensures.value c.place_closed.ensures.place)
     (kept c.let_go.new.self)
     (c.let_go.ensures ∙ (λ k. dropped (without_viewer
     ((c.unmark_viewer.ensures ∙ (λ i. unmarked (λ w. w == v) (record d {
       columns = c.close.ensures.closed i;
-      kept = Some (c.place_kept.ensures.value i);
-    }))) k) (c.viewer_kept-gone.ensures k))))
+      closed = Some (c.place_closed.ensures.value i);
+    }))) k) (c.viewer_closed-gone.ensures k))))

@@ -4,17 +4,17 @@ use Rattle.desktop_definitions.specs.Opening.{dropped}
 use Rattle.desktop_definitions.specs.Viewers.{opened_at}
 use Rattle.desktop_definitions.specs.Effects.{brought_back}
 use Rattle.desktop_laws.specs.PlacedLaws.{over_columns}
-use Rattle.desktop_laws.specs.ClosingLaws.{kept_fresh, none_kept_answered, recalled_answered}
+use Rattle.desktop_laws.specs.ClosingLaws.{recalled_fresh, none_closed_answered, recalled_answered}
 use Rattle.desk_core.specs.Kept.{kept}
 use Rattle.desk_commands.proofs.closings.recall_viewer.Goals as goal
 
 pub returns-in_default-clause-answered : goal.returns-in_default-clause-answered
 returns-in_default-clause-answered g c =
-    none_kept_answered _ _ (kept c.args.desk.now) c.requires.over c.in_default.is
+    none_closed_answered _ _ (kept c.args.desk.now) c.requires.over c.in_default.is
 
 pub open_at-requires-clause-fresh : goal.open_at-requires-clause-fresh
 open_at-requires-clause-fresh g c =
-    kept_fresh (g.S.CharSource.characters c.args.source.now) (kept c.args.desk.now) c.in-Some.viewer
+    recalled_fresh (g.S.CharSource.characters c.args.source.now) (kept c.args.desk.now) c.in-Some.viewer
     c.requires.over c.in-Some.is
 
 pub returns-clause-answered : goal.returns-clause-answered
@@ -25,8 +25,8 @@ returns-clause-answered g c =
     let hold = over_columns _ d c.requires.over in
     recalled_answered _ _ d c.requires.over k c.in-Some.is
     (c.edits_keep_columns.ensures.opened d.columns k.viewer (left_of k.track) k.top hold
-    (kept_fresh _ d k c.requires.over c.in-Some.is))
+    (recalled_fresh _ d k c.requires.over c.in-Some.is))
     (λ w. c.edits_place_viewers.ensures.opened d.columns k.viewer (left_of k.track) k.top w hold)
     (kept c.open_at.new.self)
     (c.open_at.ensures
-    ∙ ap (λ (x : ℕ). dropped (opened_at (record d { kept = None }) k.viewer (x, k.top))) c.left.ensures)
+    ∙ ap (λ (x : ℕ). dropped (opened_at (record d { closed = None }) k.viewer (x, k.top))) c.left.ensures)

@@ -6,4 +6,4 @@ returns-clause-puts g c =
     let k = g.K.ByteSink in
     let through = g.met.K.ByteSink.ground_through in
     then_put k through c.in_ok-put_pictures.ensures.puts (then_put k through c.in_ok-put_stack.ensures
-    (then_put k through c.in_ok-put_stack-2.ensures c.put_kept.ensures))
+    (then_put k through c.in_ok-put_stack-2.ensures c.put_closed.ensures))

@@ -8,6 +8,6 @@ pub returns : goal.returns
 unfolding dropped
 returns c =
     let d = kept c.args.self.now in
-    let left = filter_same_pairs _ (λ e. is_shown d e.0) _ (λ n text b after f run. search rules) _ _
+    let left = filter_same_pairs _ (λ e. is_shown d.viewers e.0) _ (λ n text b after f run. search rules) _ _
     c.retain.ensures.filtered in
     λ k. record d { texts = left k }
