@@ -1,6 +1,6 @@
 //! How a cell looks on a terminal: ink, paper and style.
-ghost use Rattle.std.specs.Prelude.{◌≡◌, ◌<◌};
-ghost use Rattle.terminal_painting.specs.Pen.{ink_of, is_slanted, marked_ink, paper_of, pen_of, plain, rule_of};
+ghost use Rattle.std.specs.Prelude.{◌≡◌};
+ghost use Rattle.terminal_painting.specs.Pen.{IsCode, ink_of, is_slanted, marked_ink, paper_of, pen_of, plain, rule_of};
 ghost use Rattle.terminal_painting.specs.Pen.{rule_code, same_pen, slant_code, weight_code, weight_of};
 
 use screen_pictures::{Cell, Mark};
@@ -27,23 +27,23 @@ const INKS: [u8; 16] = [
     231, 196, 46, 21, 201, 226, 51, 124, 28, 18, 39, 30, 245, 250, 254, 16,
 ];
 
-/// How heavy the strokes of a character are.
+/// How heavy the strokes of a character are, by the numbers of a terminal.
 #[derive(Clone, Copy, Debug, PartialEq, Eq)]
 pub enum Weight {
-    Regular,
-    Bold,
-    Faint,
+    Regular = 22,
+    Bold = 1,
+    Faint = 2,
 }
 
-/// The line that is drawn along a character.
+/// The line that is drawn along a character, by the numbers of a terminal.
 #[derive(Clone, Copy, Debug, PartialEq, Eq)]
 pub enum Rule {
     /// There is none.
-    Plain,
+    Plain = 24,
     /// A line under the character.
-    Under,
+    Under = 4,
     /// A line over it.
-    Over,
+    Over = 53,
 }
 
 /// What a terminal draws with.
@@ -74,14 +74,9 @@ impl Weight {
 
     /// The number by which a terminal knows it.
     pub(crate) fn code(self) -> u8
-        ensures value { result ≡ weight_code self }
-        ensures two_digits { result < 100 }
+        ensures { IsCode result (weight_code self) }
     {
-        match self {
-            Weight::Regular => 22,
-            Weight::Bold => 1,
-            Weight::Faint => 2,
-        }
+        self as u8
     }
 }
 
@@ -101,14 +96,9 @@ impl Rule {
 
     /// The number by which a terminal knows it.
     pub(crate) fn code(self) -> u8
-        ensures value { result ≡ rule_code self }
-        ensures two_digits { result < 100 }
+        ensures { IsCode result (rule_code self) }
     {
-        match self {
-            Rule::Plain => 24,
-            Rule::Under => 4,
-            Rule::Over => 53,
-        }
+        self as u8
     }
 }
 
@@ -143,8 +133,7 @@ impl Pen {
 
     /// The number by which a terminal knows whether characters are slanted.
     pub(crate) fn slant_code(self) -> u8
-        ensures value { result ≡ slant_code self.is_italic }
-        ensures two_digits { result < 100 }
+        ensures { IsCode result (slant_code self.is_italic) }
     {
         if self.is_italic { 3 } else { 23 }
     }
