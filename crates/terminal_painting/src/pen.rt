@@ -71,13 +71,6 @@ impl Weight {
             Weight::Regular
         }
     }
-
-    /// The number by which a terminal knows it.
-    pub(crate) fn code(self) -> u8
-        ensures { IsCode result (weight_code self) }
-    {
-        self as u8
-    }
 }
 
 impl Rule {
@@ -92,13 +85,6 @@ impl Rule {
         } else {
             Rule::Plain
         }
-    }
-
-    /// The number by which a terminal knows it.
-    pub(crate) fn code(self) -> u8
-        ensures { IsCode result (rule_code self) }
-    {
-        self as u8
     }
 }
 
@@ -131,22 +117,27 @@ impl Pen {
         }
     }
 
-    /// The number by which a terminal knows whether characters are slanted.
-    pub(crate) fn slant_code(self) -> u8
-        ensures { IsCode result (slant_code self.is_italic) }
+    /// The numbers by which a terminal knows its weight, whether it slants characters, and its rule.
+    pub(crate) fn style_codes(self) -> (u8, u8, u8)
+        ensures weight { IsCode result.0 (weight_code self.weight) }
+        ensures slant { IsCode result.1 (slant_code self.is_italic) }
+        ensures rule { IsCode result.2 (rule_code self.rule) }
     {
-        if self.is_italic { 3 } else { 23 }
+        let slant = if self.is_italic { 3 } else { 23 };
+        (self.weight as u8, slant, self.rule as u8)
     }
 
     /// Whether another pen draws the same.
     pub fn is_same(self, other: Pen) -> bool
         ensures { result ≡ same_pen self other }
     {
+        let (weight, slant, rule) = self.style_codes();
+        let (other_weight, other_slant, other_rule) = other.style_codes();
         self.ink == other.ink
             && self.paper == other.paper
-            && self.weight.code() == other.weight.code()
-            && self.slant_code() == other.slant_code()
-            && self.rule.code() == other.rule.code()
+            && weight == other_weight
+            && slant == other_slant
+            && rule == other_rule
     }
 }
 
