@@ -4,8 +4,10 @@
 //! them a call that says that its reader or its writer failed has to say so truly.
 #![tactic(auto)]
 
+mod counted;
 mod reader;
 mod writer;
 
-pub use reader::{CountedReader, InputFault, ScriptReader};
-pub use writer::{AnswerWriter, CountedWriter, OutputFault};
+pub use counted::{Counted, InputFault, OutputFault};
+pub use reader::{CountedReader, ScriptReader};
+pub use writer::{AnswerWriter, CountedWriter};

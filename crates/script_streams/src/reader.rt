@@ -4,12 +4,8 @@ ghost use Rattle.std.specs.Io.{ReadsAtMost};
 ghost use Rattle.std.specs.Io.KnownBytes.{ReadConsumes};
 ghost use Rattle.script_streams.specs.Counting.{CountsFault};
 
-use ghost_traces::Count;
+use crate::counted::{Counted, InputFault};
 use std::io::Read;
-
-/// A read that failed.
-#[derive(Clone, Copy, Debug, PartialEq, Eq)]
-pub struct InputFault;
 
 /// Gives the bytes of a script, in pieces of any size.
 pub trait ScriptReader {
@@ -34,37 +30,17 @@ pub trait ScriptReader {
 }
 
 /// A reader whose reads are counted.
-#[derive(Drop)]
-pub struct CountedReader<R: Read> {
-    reader: R,
-    given: Count,
-    failed: Count,
-}
+pub type CountedReader<R> = Counted<R>;
 
-impl<R: Read> CountedReader<R> {
-    /// A reader over this one, of which no read is counted yet.
-    pub fn new(reader: R) -> Self
-        ensures remaining { ⟦<Self as ScriptReader>⟧.remaining result ≡ R.remaining reader }
-        ensures reads { ⟦<Self as ScriptReader>⟧.reads result ≡ 0 }
-        ensures failures { ⟦<Self as ScriptReader>⟧.failures result ≡ 0 }
-    {
-        CountedReader {
-            reader,
-            given: Count::new(),
-            failed: Count::new(),
-        }
-    }
-}
-
-impl<R: Read> ScriptReader for CountedReader<R> {
-    ghost remaining = { λ r. R.remaining r.reader };
+impl<R: Read> ScriptReader for Counted<R> {
+    ghost remaining = { λ r. R.remaining r.stream };
 
     ghost reads = { λ r. r.given };
 
     ghost failures = { λ r. r.failed };
 
     fn read_some(&mut self, buffer: &mut [u8]) -> Result<usize, InputFault> {
-        match self.reader.read(buffer) {
+        match self.stream.read(buffer) {
             Ok(0) => Ok(0),
             Ok(count) => {
                 self.given.rise();

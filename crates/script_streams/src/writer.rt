@@ -4,12 +4,8 @@ ghost use Rattle.std.specs.Io.{WritesAtMost};
 ghost use Rattle.std.specs.Io.KnownBytes.{Keeps, WriteAppends};
 ghost use Rattle.script_streams.specs.Counting.{CountsFault};
 
-use ghost_traces::Count;
+use crate::counted::{Counted, OutputFault};
 use std::io::Write;
-
-/// The output took no more.
-#[derive(Clone, Copy, Debug, PartialEq, Eq)]
-pub struct OutputFault;
 
 /// Takes the answers to a script.
 pub trait AnswerWriter {
@@ -34,48 +30,33 @@ pub trait AnswerWriter {
 }
 
 /// A writer whose failures are counted.
-#[derive(Drop)]
-pub struct CountedWriter<W: Write> {
-    writer: W,
-    failed: Count,
-}
+pub type CountedWriter<W> = Counted<W>;
 
-impl<W: Write> CountedWriter<W> {
-    /// A writer over this one, of which no failure is counted yet.
-    pub fn new(writer: W) -> Self
-        ensures contents { ⟦<Self as AnswerWriter>⟧.contents result ≡ W.contents writer }
-        ensures failures { ⟦<Self as AnswerWriter>⟧.failures result ≡ 0 }
-    {
-        CountedWriter {
-            writer,
-            failed: Count::new(),
-        }
-    }
-
+impl<W: Write> Counted<W> {
     /// Counts a call that failed.
     fn fault(&mut self) -> OutputFault
         ensures counted { self.new.failed ≡ self.old.failed + 1 }
-        ensures same { self.new.writer ≡ self.old.writer }
+        ensures same { self.new.stream ≡ self.old.stream }
     {
         self.failed.rise();
         OutputFault
     }
 }
 
-impl<W: Write> AnswerWriter for CountedWriter<W> {
-    ghost contents = { λ w. W.contents w.writer };
+impl<W: Write> AnswerWriter for Counted<W> {
+    ghost contents = { λ w. W.contents w.stream };
 
     ghost failures = { λ w. w.failed };
 
     fn write_some(&mut self, bytes: &[u8]) -> Result<usize, OutputFault> {
-        match self.writer.write(bytes) {
+        match self.stream.write(bytes) {
             Ok(0) | Err(_) => Err(self.fault()),
             Ok(taken) => Ok(taken),
         }
     }
 
     fn flush(&mut self) -> Result<(), OutputFault> {
-        match self.writer.flush() {
+        match self.stream.flush() {
             Ok(()) => Ok(()),
             Err(_) => Err(self.fault()),
         }

@@ -1,5 +1,5 @@
 -- How a cell of the screen is drawn on a terminal of 256 colours.
-use Rattle.std.specs.Prelude.{ℕ, ℤ, pos, negsuc, Bool, false, ◌&&◌, ◌||◌, ◌==◌, nat_lt, if◌then◌else◌, List, [], ◌∷◌}
+use Rattle.std.specs.Prelude.{◌≡◌, ◌<◌, ℕ, ℤ, pos, negsuc, Bool, false, ◌&&◌, ◌||◌, ◌==◌, nat_lt, if◌then◌else◌, List, [], ◌∷◌}
 use Rattle.std.specs.Prelude.{slice_get, unwrap_or}
 use Rattle.viewer_tracks.specs.declared.display.TheConstants.{SYSTEM_LEFT}
 use Rattle.screen_pictures.specs.declared.cell.Cell.{Cell}
@@ -92,6 +92,10 @@ abbrev pub rule_code : Rule → ℕ
 rule_code Plain = 24
 rule_code Under = 4
 rule_code Over = 53
+
+-- a number is this code, which has at most two digits
+abbrev pub IsCode : ℕ → ℕ → Type 0
+IsCode number code = (number ≡ code) × (number < 100)
 
 abbrev pub same_pen : Pen → Pen → Bool
 same_pen a b =

@@ -70,12 +70,13 @@ fn put_pen(bytes: &mut Bytes, pen: Pen)
     requires { array_vec_len bytes.old ≡ 0 }
     ensures { bytes.new.items ≡ spelled (Operation.Take pen) }
 {
+    let (weight, slant, rule) = pen.style_codes();
     put(bytes, b"\x1b[0;");
-    put_two_digits(bytes, pen.weight.code());
+    put_two_digits(bytes, weight);
     put(bytes, b";");
-    put_two_digits(bytes, pen.slant_code());
+    put_two_digits(bytes, slant);
     put(bytes, b";");
-    put_two_digits(bytes, pen.rule.code());
+    put_two_digits(bytes, rule);
     put(bytes, b";38;5;");
     put_three_digits(bytes, pen.ink);
     put(bytes, b";48;5;");

@@ -1,6 +1,6 @@
 //! How a cell looks on a terminal: ink, paper and style.
-ghost use Rattle.std.specs.Prelude.{◌≡◌, ◌<◌};
-ghost use Rattle.terminal_painting.specs.Pen.{ink_of, is_slanted, marked_ink, paper_of, pen_of, plain, rule_of};
+ghost use Rattle.std.specs.Prelude.{◌≡◌};
+ghost use Rattle.terminal_painting.specs.Pen.{IsCode, ink_of, is_slanted, marked_ink, paper_of, pen_of, plain, rule_of};
 ghost use Rattle.terminal_painting.specs.Pen.{rule_code, same_pen, slant_code, weight_code, weight_of};
 
 use screen_pictures::{Cell, Mark};
@@ -27,23 +27,23 @@ const INKS: [u8; 16] = [
     231, 196, 46, 21, 201, 226, 51, 124, 28, 18, 39, 30, 245, 250, 254, 16,
 ];
 
-/// How heavy the strokes of a character are.
+/// How heavy the strokes of a character are, by the numbers of a terminal.
 #[derive(Clone, Copy, Debug, PartialEq, Eq)]
 pub enum Weight {
-    Regular,
-    Bold,
-    Faint,
+    Regular = 22,
+    Bold = 1,
+    Faint = 2,
 }
 
-/// The line that is drawn along a character.
+/// The line that is drawn along a character, by the numbers of a terminal.
 #[derive(Clone, Copy, Debug, PartialEq, Eq)]
 pub enum Rule {
     /// There is none.
-    Plain,
+    Plain = 24,
     /// A line under the character.
-    Under,
+    Under = 4,
     /// A line over it.
-    Over,
+    Over = 53,
 }
 
 /// What a terminal draws with.
@@ -71,18 +71,6 @@ impl Weight {
             Weight::Regular
         }
     }
-
-    /// The number by which a terminal knows it.
-    pub(crate) fn code(self) -> u8
-        ensures value { result ≡ weight_code self }
-        ensures two_digits { result < 100 }
-    {
-        match self {
-            Weight::Regular => 22,
-            Weight::Bold => 1,
-            Weight::Faint => 2,
-        }
-    }
 }
 
 impl Rule {
@@ -96,18 +84,6 @@ impl Rule {
             Rule::Over
         } else {
             Rule::Plain
-        }
-    }
-
-    /// The number by which a terminal knows it.
-    pub(crate) fn code(self) -> u8
-        ensures value { result ≡ rule_code self }
-        ensures two_digits { result < 100 }
-    {
-        match self {
-            Rule::Plain => 24,
-            Rule::Under => 4,
-            Rule::Over => 53,
         }
     }
 }
@@ -141,23 +117,27 @@ impl Pen {
         }
     }
 
-    /// The number by which a terminal knows whether characters are slanted.
-    pub(crate) fn slant_code(self) -> u8
-        ensures value { result ≡ slant_code self.is_italic }
-        ensures two_digits { result < 100 }
+    /// The numbers by which a terminal knows its weight, whether it slants characters, and its rule.
+    pub(crate) fn style_codes(self) -> (u8, u8, u8)
+        ensures weight { IsCode result.0 (weight_code self.weight) }
+        ensures slant { IsCode result.1 (slant_code self.is_italic) }
+        ensures rule { IsCode result.2 (rule_code self.rule) }
     {
-        if self.is_italic { 3 } else { 23 }
+        let slant = if self.is_italic { 3 } else { 23 };
+        (self.weight as u8, slant, self.rule as u8)
     }
 
     /// Whether another pen draws the same.
     pub fn is_same(self, other: Pen) -> bool
         ensures { result ≡ same_pen self other }
     {
+        let (weight, slant, rule) = self.style_codes();
+        let (other_weight, other_slant, other_rule) = other.style_codes();
         self.ink == other.ink
             && self.paper == other.paper
-            && self.weight.code() == other.weight.code()
-            && self.slant_code() == other.slant_code()
-            && self.rule.code() == other.rule.code()
+            && weight == other_weight
+            && slant == other_slant
+            && rule == other_rule
     }
 }
 
