@@ -3,14 +3,19 @@ use Rattle.std.specs.Prelude.{◌≡◌, ◌<◌, ℕ, List, Result, IfOk}
 use Rattle.char_file.specs.declared.source.CharSource.{Ghosts}
 use Rattle.desktop_definitions.specs.Desktop.{Desktop, KeptDesktop}
 use Rattle.desktop_definitions.specs.Viewers.{rows_of}
-use Rattle.desk_core.specs.Words.{CountsFault, OnlyReads, IsOnTop, seen, IsOver}
+use Rattle.desk_core.specs.Words.{CountsFault, OnlyReads, IsOnTop, seen, IsOver, IsPosition}
 
--- a row of the main frame of a viewer in a track that is shown, counted from the frame's top, of a desktop over these
--- characters
+-- A row of the main frame of a viewer in a track that is shown, counted from the frame's top, of a desktop over these
+-- characters.
 pub record IsRow (characters : List ℕ) (d : KeptDesktop) (v row : ℕ) : Type 0 where
   pub over : IsOver characters d
   pub placed : IsOnTop v d.columns
   pub within : row < rows_of d v
+
+-- A position of the main text of a viewer in such a track, of a desktop over these characters.
+pub record IsPlace (characters : List ℕ) (d : KeptDesktop) (v p : ℕ) : Type 0 where
+  pub over : IsOver characters d
+  pub at : IsPosition d v p
 
 module _ {S : Type 0} (s : Ghosts S) where
   -- What is told is what is said of the desktop as it is seen among the characters of an honest source.
