@@ -51,3 +51,10 @@ module _ {S : Type 0} (s : Ghosts S) where
     pub answered : IfOk result (Settles row old new before after)
     pub unread : calm → IfOk result (SettlesUnread row before after)
     pub uses : Uses result old new
+
+  -- The same of a row over these characters that reads none and adds these bytes.
+  pub record DoesBringing (bytes : List ℕ) (row : List ℕ → Desktop → Result Desktop ℕ) (result : Result Reply Stop)
+      (old new : S) (before after : KeptDesktop) : Type 0 where
+    pub answered : IfOk result (Settles (row (s.characters old)) old new before after)
+    pub unread : IfOk result (SettlesBringing bytes (λ all. row all (seen all before)) before after)
+    pub uses : Uses result old new

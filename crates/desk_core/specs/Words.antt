@@ -25,3 +25,5 @@ pub use Rattle.desk_core.specs.Kept.{kept}
 pub use Rattle.desk_core.specs.Stops.{IsStop}
 pub use Rattle.desk_core.specs.Positions.{IsPosition, IsOpenAt, CanGo}
 pub use Rattle.desk_core.specs.Row.{Settles, SettlesUnread, SettlesBringing, Uses, Does, DoesUnread}
+pub use Rattle.desk_core.specs.Row.{DoesBringing}
+pub use Rattle.desk_core.specs.Reads.{Tells, TellsAs}

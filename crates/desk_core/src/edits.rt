@@ -6,7 +6,7 @@ ghost use Rattle.desktop_laws.specs.RowLaws.{has_space};
 ghost use Rattle.desk_core.specs.Words.{stretch, newest, kept_main, CanGo, run, no_caret, FailsAs, OnlyReads, flat};
 ghost use Rattle.desk_core.specs.Words.{most_written, most_held, numbered, viewer_or_none, seen, seen_text};
 ghost use Rattle.desk_core.specs.Words.{IsKeptWhole, IsBuilt, IsOver, IsChanged, kept, IsPosition, IsStop, needs};
-ghost use Rattle.desk_core.specs.Words.{IsOpenAt, Settles, SettlesUnread, Uses};
+ghost use Rattle.desk_core.specs.Words.{IsOpenAt, DoesUnread};
 
 use crate::desk::Desk;
 use crate::stop::{NoMemory, StepResult, Stop};
@@ -195,13 +195,9 @@ impl Desk {
     /// caret.
     pub fn put_buffer<S: CharSource>(&mut self, deleted: bool, source: &mut S) -> StepResult
         requires over { IsOver (S.characters source.old) (kept self.old) }
-        ensures answered { IfOk result (Settles S.CharSource (λ d. needs d.caret no_caret λ c.
-            Ok (put_at_caret d (if deleted then d.deleted else d.copied) c))
-            source.old source.new (kept self.old) (kept self.new)) }
-        ensures unread { is_none (kept self.old).caret ≡ true → IfOk result (SettlesUnread (λ d.
-            needs d.caret no_caret λ c. Ok (put_at_caret d (if deleted then d.deleted else d.copied) c))
-            (kept self.old) (kept self.new)) }
-        ensures uses { Uses S.CharSource result source.old source.new }
+        ensures { DoesUnread S.CharSource (is_none (kept self.old).caret ≡ true) (λ d. needs d.caret no_caret λ c.
+            Ok (put_at_caret d (if deleted then d.deleted else d.copied) c)) result
+            source.old source.new (kept self.old) (kept self.new) }
     {
         let Some(caret) = self.caret_place() else {
             return Ok(Reply::No(codes::NO_CARET));

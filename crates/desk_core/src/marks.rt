@@ -1,10 +1,10 @@
 //! What is marked: the marker, the caret, selections.
-ghost use Rattle.std.specs.Prelude.{◌≡◌, ◌&&◌, IfOk, Ok};
+ghost use Rattle.std.specs.Prelude.{◌≡◌, ◌&&◌, Ok, ⊤};
 ghost use Rattle.desktop_definitions.specs.Step.{marked};
 ghost use Rattle.desktop_definitions.specs.Limits.{outside};
 ghost use Rattle.desktop_definitions.specs.Viewers.{with_caret};
 ghost use Rattle.desktop_definitions.specs.Gesture.{is_on_display, is_some_stretch, drawn_in};
-ghost use Rattle.desk_core.specs.Words.{IsOver, kept, IsPosition, Settles, SettlesUnread, Uses, Does, unless};
+ghost use Rattle.desk_core.specs.Words.{IsOver, kept, IsPosition, Does, DoesUnread, unless};
 
 use crate::desk::Desk;
 use crate::stop::StepResult;
@@ -39,12 +39,8 @@ impl Desk {
     /// Sets the marker to a cell. Refused where that is outside the display.
     pub fn mark<S: CharSource>(&mut self, x: u8, y: u8, source: &mut S) -> StepResult
         requires over { IsOver (S.characters source.old) (kept self.old) }
-        ensures answered { IfOk result (Settles S.CharSource (λ d.
-            unless (is_on_display x y) outside (Ok (marked d x y)))
-            source.old source.new (kept self.old) (kept self.new)) }
-        ensures unread { IfOk result (SettlesUnread (λ d. unless (is_on_display x y) outside (Ok (marked d x y)))
-            (kept self.old) (kept self.new)) }
-        ensures uses { Uses S.CharSource result source.old source.new }
+        ensures { DoesUnread S.CharSource ⊤ (λ d. unless (is_on_display x y) outside (Ok (marked d x y))) result
+            source.old source.new (kept self.old) (kept self.new) }
     {
         if !is_on_display(x, y) {
             return Ok(Reply::No(codes::OUTSIDE));

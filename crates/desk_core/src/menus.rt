@@ -1,9 +1,8 @@
 //! What the mouse does in a menu: viewers move and change their height.
-ghost use Rattle.std.specs.Prelude.{◌≡◌, ◌<◌, ◌+◌, IfOk, Ok};
+ghost use Rattle.std.specs.Prelude.{◌≡◌, ◌<◌, ◌+◌, Ok, ⊤};
 ghost use Rattle.desktop_definitions.specs.Viewers.{opened_at};
 ghost use Rattle.desktop_definitions.specs.Gesture.{resized, carried};
-ghost use Rattle.desk_core.specs.Words.{IsOnTop, IsPlaced, dropped, IsOver, kept, Settles, SettlesUnread, Uses, ROWS};
-ghost use Rattle.desk_core.specs.Words.{COLUMNS};
+ghost use Rattle.desk_core.specs.Words.{IsOnTop, IsPlaced, dropped, IsOver, kept, DoesUnread, ROWS, COLUMNS};
 
 use crate::desk::Desk;
 use crate::stop::StepResult;
@@ -17,10 +16,8 @@ impl Desk {
         requires placed { IsOnTop id (kept self.old).columns }
         requires row { y < ROWS }
         requires over { IsOver (S.characters source.old) (kept self.old) }
-        ensures answered { IfOk result (Settles S.CharSource (λ d. Ok (resized d id y))
-            source.old source.new (kept self.old) (kept self.new)) }
-        ensures unread { IfOk result (SettlesUnread (λ d. Ok (resized d id y)) (kept self.old) (kept self.new)) }
-        ensures uses { Uses S.CharSource result source.old source.new }
+        ensures { DoesUnread S.CharSource ⊤ (λ d. Ok (resized d id y)) result
+            source.old source.new (kept self.old) (kept self.new) }
     {
         edits_place_viewers();
         self.tracks.change(ViewerId(id), y + 1);
@@ -34,10 +31,8 @@ impl Desk {
         requires column { x < COLUMNS }
         requires row { y < ROWS }
         requires over { IsOver (S.characters source.old) (kept self.old) }
-        ensures answered { IfOk result (Settles S.CharSource (λ d. Ok (carried d id x y))
-            source.old source.new (kept self.old) (kept self.new)) }
-        ensures unread { IfOk result (SettlesUnread (λ d. Ok (carried d id x y)) (kept self.old) (kept self.new)) }
-        ensures uses { Uses S.CharSource result source.old source.new }
+        ensures { DoesUnread S.CharSource ⊤ (λ d. Ok (carried d id x y)) result
+            source.old source.new (kept self.old) (kept self.new) }
     {
         edits_keep_columns();
         edits_place_viewers();

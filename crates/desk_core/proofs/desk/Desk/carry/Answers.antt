@@ -1,5 +1,5 @@
 use Rattle.std.specs.Prelude.{⊤}
-use Rattle.std.proofs.Common.{◌≡◌, ◌+◌, ℕ, Some, sym, ap, subst, ◌∙◌}
+use Rattle.std.proofs.Common.{rules, ◌≡◌, ◌+◌, ℕ, Some, sym, ap, subst, ◌∙◌}
 use Rattle.viewer_tracks.specs.Columns.{Columns, IsColumns, times_placed, times_meant, after_close}
 use Rattle.desktop_definitions.specs.Viewers.{opened_at}
 use Rattle.desktop_definitions.specs.Opening.{dropped}
@@ -20,41 +20,41 @@ open_at-requires-clause-fresh g c =
     ≡ times_placed c.args.id d.columns) (sym c.close.ensures.closed)
     (c.edits_place_viewers.ensures.closed d.columns c.args.id c.args.id hold c.requires.placed))
 
-pub returns-clause-answered : goal.returns-clause-answered
+pub returns : goal.returns
 unfolding carried
-returns-clause-answered g c =
-    let d = kept c.args.self.now in
-    let v = c.args.id in
-    let closed = after_close d.columns v in
-    let closed_hold = subst IsColumns c.close.ensures.closed c.close.ensures.sound in
-    let hold = over_columns _ d c.requires.over in
-    let left = λ (w : ℕ). c.edits_place_viewers.ensures.closed d.columns v w hold c.requires.placed in
-    answered_there (c.open_at.ensures
-    ∙ ap (λ (columns : Columns). dropped (opened_at (record d { columns = columns }) v (c.args.x, c.args.y + 1)))
-    c.close.ensures.closed)
-    (carried_answered _ _ d c.requires.over v c.args.x c.args.y c.requires.placed (record {
-      hold = c.edits_keep_columns.ensures.opened closed v c.args.x (c.args.y + 1) closed_hold
-          (closed_fresh d.columns closed v hold (left v));
-      places = λ w.
-          c.edits_place_viewers.ensures.opened closed v c.args.x (c.args.y + 1) w closed_hold ∙ left w;
-    }))
-
-pub returns-clause-unread : goal.returns-clause-unread
-unfolding carried
-returns-clause-unread g c = λ all long.
-    let d = kept c.args.self.now in
-    let v = c.args.id in
-    let closed = after_close d.columns v in
-    let closed_hold = subst IsColumns c.close.ensures.closed c.close.ensures.sound in
-    let over = over_all c.requires.over all long in
-    let hold = over_columns all d over in
-    let left = λ (w : ℕ). c.edits_place_viewers.ensures.closed d.columns v w hold c.requires.placed in
-    (answered_there (c.open_at.ensures
-    ∙ ap (λ (columns : Columns). dropped (opened_at (record d { columns = columns }) v (c.args.x, c.args.y + 1)))
-    c.close.ensures.closed)
-    (carried_answered ⊤ all d over v c.args.x c.args.y c.requires.placed (record {
-      hold = c.edits_keep_columns.ensures.opened closed v c.args.x (c.args.y + 1) closed_hold
-          (closed_fresh d.columns closed v hold (left v));
-      places = λ w.
-          c.edits_place_viewers.ensures.opened closed v c.args.x (c.args.y + 1) w closed_hold ∙ left w;
-    }))).exact tt
+returns g c = record {
+  answered =
+      let d = kept c.args.self.now in
+      let v = c.args.id in
+      let closed = after_close d.columns v in
+      let closed_hold = subst IsColumns c.close.ensures.closed c.close.ensures.sound in
+      let hold = over_columns _ d c.requires.over in
+      let left = λ (w : ℕ). c.edits_place_viewers.ensures.closed d.columns v w hold c.requires.placed in
+      answered_there (c.open_at.ensures
+      ∙ ap (λ (columns : Columns). dropped (opened_at (record d { columns = columns }) v (c.args.x, c.args.y + 1)))
+      c.close.ensures.closed)
+      (carried_answered _ _ d c.requires.over v c.args.x c.args.y c.requires.placed (record {
+        hold = c.edits_keep_columns.ensures.opened closed v c.args.x (c.args.y + 1) closed_hold
+            (closed_fresh d.columns closed v hold (left v));
+        places = λ w.
+            c.edits_place_viewers.ensures.opened closed v c.args.x (c.args.y + 1) w closed_hold ∙ left w;
+      }));
+  unread = λ calm all long.
+      let d = kept c.args.self.now in
+      let v = c.args.id in
+      let closed = after_close d.columns v in
+      let closed_hold = subst IsColumns c.close.ensures.closed c.close.ensures.sound in
+      let over = over_all c.requires.over all long in
+      let hold = over_columns all d over in
+      let left = λ (w : ℕ). c.edits_place_viewers.ensures.closed d.columns v w hold c.requires.placed in
+      (answered_there (c.open_at.ensures
+      ∙ ap (λ (columns : Columns). dropped (opened_at (record d { columns = columns }) v (c.args.x, c.args.y + 1)))
+      c.close.ensures.closed)
+      (carried_answered ⊤ all d over v c.args.x c.args.y c.requires.placed (record {
+        hold = c.edits_keep_columns.ensures.opened closed v c.args.x (c.args.y + 1) closed_hold
+            (closed_fresh d.columns closed v hold (left v));
+        places = λ w.
+            c.edits_place_viewers.ensures.opened closed v c.args.x (c.args.y + 1) w closed_hold ∙ left w;
+      }))).exact tt;
+  uses = search (rules, g.met.S.CharSource.ground_self, g.met.S.CharSource.ground_through);
+}

@@ -1,4 +1,4 @@
-use Rattle.std.proofs.Common.{◌++◌, ◌∙◌, List, ap, sym}
+use Rattle.std.proofs.Common.{rules, ◌++◌, ◌∙◌, List, ap, sym}
 use Rattle.piece_ring.specs.declared.piece.Piece.{Piece}
 use Rattle.piece_ring.specs.Flat.{flat}
 use Rattle.desktop_definitions.specs.Seen.{seen, seen_text}
@@ -9,20 +9,29 @@ use Rattle.desk_core.proofs.StretchLemmas.{refused_row, buffer_goes}
 use Rattle.desk_core.proofs.UnreadLemmas.{refusal_is}
 use Rattle.desk_core.proofs.desk.Desk.put_buffer.Goals as goal
 
-pub returns-in_default-clause-answered : goal.returns-in_default-clause-answered
-returns-in_default-clause-answered g c =
-    refused_row c.requires.over known_no_caret
-    (put_none _ (kept c.args.self.now) _ (sym c.caret_place.ensures.is ∙ c.in_default.is))
+pub returns-in_default : goal.returns-in_default
+returns-in_default g c = record {
+  answered =
+      refused_row c.requires.over known_no_caret
+      (put_none _ (kept c.args.self.now) _ (sym c.caret_place.ensures.is ∙ c.in_default.is));
+  unread = λ calm all long.
+      refusal_is (put_none all (kept c.args.self.now) _ (sym c.caret_place.ensures.is ∙ c.in_default.is));
+  uses = search (rules, g.met.S.CharSource.ground_self, g.met.S.CharSource.ground_through);
+}
 
-pub returns-then-not-fits_more-clause-answered : goal.returns-then-not-fits_more-clause-answered
-returns-then-not-fits_more-clause-answered g c =
-    let old = g.S.CharSource.characters c.args.source.now in
-    let d = kept c.args.self.now in
-    put_full _ old d c.buffer-buffer.result.now _ c.requires.over
-    (ap (seen_text old) c.buffer-buffer.ensures ∙ buffer_seen old d c.args.deleted) c.in-Some.caret
-    (sym c.in-Some.ensures.is) c.in-Some.ensures.stands.placed
-    (ap (λ n. has_space (seen old d) 0 n 0) (sym c.len.ensures)
-    ∙ sym (c.fits_more.ensures old) ∙ c.if-not-fits_more.true)
+pub returns-then-not-fits_more : goal.returns-then-not-fits_more
+returns-then-not-fits_more g c = record {
+  answered =
+      let old = g.S.CharSource.characters c.args.source.now in
+      let d = kept c.args.self.now in
+      put_full _ old d c.buffer-buffer.result.now _ c.requires.over
+      (ap (seen_text old) c.buffer-buffer.ensures ∙ buffer_seen old d c.args.deleted) c.in-Some.caret
+      (sym c.in-Some.ensures.is) c.in-Some.ensures.stands.placed
+      (ap (λ n. has_space (seen old d) 0 n 0) (sym c.len.ensures)
+      ∙ sym (c.fits_more.ensures old) ∙ c.if-not-fits_more.true);
+  unread = search (rules, g.met.S.CharSource.ground_self, g.met.S.CharSource.ground_through);
+  uses = search (rules, g.met.S.CharSource.ground_self, g.met.S.CharSource.ground_through);
+}
 
 pub put_at_caret-requires-clause-at : goal.put_at_caret-requires-clause-at
 put_at_caret-requires-clause-at g c = record {
@@ -36,20 +45,20 @@ put_at_caret-requires-clause-goes g c =
     ∙ ap (λ (l : List Piece). flat l ++ flat c.buffer-buffer.result.now) c.in_ok-copy.ensures
     ∙ ap flat c.buffer-buffer.ensures)
 
-pub returns-clause-answered : goal.returns-clause-answered
-returns-clause-answered g c =
-    let old = g.S.CharSource.characters c.args.source.now in
-    let d = kept c.args.self.now in
-    let reads = c.in_ok-put_at_caret.ensures.reads in
-    put_answered _ old d c.buffer-buffer.result.now _ c.requires.over
-    (ap (seen_text old) c.buffer-buffer.ensures ∙ buffer_seen old d c.args.deleted) c.in-Some.caret
-    (sym c.in-Some.ensures.is) _ _ c.copy_to.new.other reads.as_long reads.same
-    (c.in_ok-copy_to.ensures.added
-    ∙ ap (λ (l : List Piece). flat l ++ flat c.buffer-buffer.result.now) c.in_ok-copy.ensures)
-    c.in_ok-put_at_caret.ensures.changed
-    (λ all. ap (λ n. has_space (seen all d) 0 n 0) (sym c.len.ensures)
-    ∙ sym (c.fits_more.ensures all) ∙ c.if-not-fits_more.false)
-
-pub returns-in_default-clause-unread : goal.returns-in_default-clause-unread
-returns-in_default-clause-unread g c h = λ all long.
-    refusal_is (put_none all (kept c.args.self.now) _ (sym c.caret_place.ensures.is ∙ c.in_default.is))
+pub returns : goal.returns
+returns g c = record {
+  answered =
+      let old = g.S.CharSource.characters c.args.source.now in
+      let d = kept c.args.self.now in
+      let reads = c.in_ok-put_at_caret.ensures.reads in
+      put_answered _ old d c.buffer-buffer.result.now _ c.requires.over
+      (ap (seen_text old) c.buffer-buffer.ensures ∙ buffer_seen old d c.args.deleted) c.in-Some.caret
+      (sym c.in-Some.ensures.is) _ _ c.copy_to.new.other reads.as_long reads.same
+      (c.in_ok-copy_to.ensures.added
+      ∙ ap (λ (l : List Piece). flat l ++ flat c.buffer-buffer.result.now) c.in_ok-copy.ensures)
+      c.in_ok-put_at_caret.ensures.changed
+      (λ all. ap (λ n. has_space (seen all d) 0 n 0) (sym c.len.ensures)
+      ∙ sym (c.fits_more.ensures all) ∙ c.if-not-fits_more.false);
+  unread = search (rules, g.met.S.CharSource.ground_self, g.met.S.CharSource.ground_through);
+  uses = search (rules, g.met.S.CharSource.ground_self, g.met.S.CharSource.ground_through);
+}
