@@ -1,10 +1,10 @@
 //! What the mouse does in a scroll bar.
-ghost use Rattle.std.specs.Prelude.{◌≡◌, ◌==◌, ◌*◌, ◌/◌, ◌<◌, ◌≤◌, false, if◌then◌else◌, Some, None, IfOk, IfSome, Ok};
+ghost use Rattle.std.specs.Prelude.{◌≡◌, ◌==◌, ◌*◌, ◌/◌, ◌<◌, ◌≤◌, false, if◌then◌else◌, Some, None, IfOk, IfSome, Ok, ⊤};
 ghost use Rattle.std.specs.Option.{option_map, unwrap_or};
 ghost use Rattle.desktop_definitions.specs.Viewers.{with_org};
 ghost use Rattle.desktop_definitions.specs.Gesture.{scrolled_to_row, scrolled_to_share};
 ghost use Rattle.desk_core.specs.Mouse.{start_of_row, start_of_share};
-ghost use Rattle.desk_core.specs.Words.{IsOnTop, IsOver, kept, IsPosition, Settles, SettlesUnread, Uses};
+ghost use Rattle.desk_core.specs.Words.{IsOnTop, IsOver, kept, IsPosition, Does, DoesUnread};
 ghost use Rattle.desk_input.specs.Reads.{IsRow, Tells};
 
 use crate::places::{Read, position_in, text_width};
@@ -80,9 +80,8 @@ fn begin_at(desk: &mut Desk, id: u16, org: u32)
 /// The line in that row of a viewer comes first, where there is one.
 pub fn scroll_row<S: CharSource>(desk: &mut Desk, id: u16, row: u8, source: &mut S) -> StepResult
     requires at { IsRow (S.characters source.old) (kept desk.old) id row }
-    ensures answered { IfOk result (Settles S.CharSource (λ d. Ok (scrolled_to_row d id row))
-        source.old source.new (kept desk.old) (kept desk.new)) }
-    ensures uses { Uses S.CharSource result source.old source.new }
+    ensures { Does S.CharSource (λ d. Ok (scrolled_to_row d id row)) result
+        source.old source.new (kept desk.old) (kept desk.new) }
 {
     let Some(start) = start_of_row(desk, id, row, source)? else {
         return Ok(Reply::Done);
@@ -94,9 +93,8 @@ pub fn scroll_row<S: CharSource>(desk: &mut Desk, id: u16, row: u8, source: &mut
 /// The line comes first that stands as far down in the text as the row in the frame.
 pub fn scroll_share<S: CharSource>(desk: &mut Desk, id: u16, row: u8, source: &mut S) -> StepResult
     requires at { IsRow (S.characters source.old) (kept desk.old) id row }
-    ensures answered { IfOk result (Settles S.CharSource (λ d. Ok (scrolled_to_share d id row))
-        source.old source.new (kept desk.old) (kept desk.new)) }
-    ensures uses { Uses S.CharSource result source.old source.new }
+    ensures { Does S.CharSource (λ d. Ok (scrolled_to_share d id row)) result
+        source.old source.new (kept desk.old) (kept desk.new) }
 {
     let start = start_of_share(desk, id, row, source)?;
     begin_at(desk, id, start);
@@ -107,10 +105,8 @@ pub fn scroll_share<S: CharSource>(desk: &mut Desk, id: u16, row: u8, source: &m
 pub fn scroll_top<S: CharSource>(desk: &mut Desk, id: u16, source: &mut S) -> StepResult
     requires placed { IsOnTop id (kept desk.old).columns }
     requires over { IsOver (S.characters source.old) (kept desk.old) }
-    ensures answered { IfOk result (Settles S.CharSource (λ d. Ok (with_org d id 0))
-        source.old source.new (kept desk.old) (kept desk.new)) }
-    ensures unread { IfOk result (SettlesUnread (λ d. Ok (with_org d id 0)) (kept desk.old) (kept desk.new)) }
-    ensures uses { Uses S.CharSource result source.old source.new }
+    ensures { DoesUnread S.CharSource ⊤ (λ d. Ok (with_org d id 0)) result
+        source.old source.new (kept desk.old) (kept desk.new) }
 {
     begin_at(desk, id, 0);
     Ok(Reply::Done)

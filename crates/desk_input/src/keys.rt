@@ -1,9 +1,9 @@
 //! What typing and the keys do.
-ghost use Rattle.std.specs.Prelude.{◌≡◌, ◌+◌, ◌<◌, IfOk, is_none, true};
+ghost use Rattle.std.specs.Prelude.{◌≡◌, ◌+◌, ◌<◌, is_none, true, ⊤};
 ghost use Rattle.event_bytes.specs.declared.keys.Key.TheVariants.{Back, Copy, Cut, Escape};
 ghost use Rattle.desktop_definitions.specs.Keys.{typed, pressed};
 ghost use Rattle.desktop_definitions.specs.Unread.{key_needs_no_byte};
-ghost use Rattle.desk_core.specs.Words.{newest, IsOver, kept, Settles, SettlesUnread, Uses};
+ghost use Rattle.desk_core.specs.Words.{newest, IsOver, kept, DoesUnread};
 
 use char_file::CharSource;
 use desk_core::desk::Desk;
@@ -16,11 +16,8 @@ use event_bytes::{Key, TypedBytes};
 /// caret.
 pub fn type_bytes<S: CharSource>(desk: &mut Desk, bytes: &TypedBytes, source: &mut S) -> StepResult
     requires { IsOver (S.characters source.old) (kept desk.old) }
-    ensures answered { IfOk result (Settles S.CharSource (λ d. typed d bytes.now)
-        source.old source.new (kept desk.old) (kept desk.new)) }
-    ensures unread { is_none (kept desk.old).caret ≡ true
-        → IfOk result (SettlesUnread (λ d. typed d bytes.now) (kept desk.old) (kept desk.new)) }
-    ensures uses { Uses S.CharSource result source.old source.new }
+    ensures { DoesUnread S.CharSource (is_none (kept desk.old).caret ≡ true) (λ d. typed d bytes.now) result
+        source.old source.new (kept desk.old) (kept desk.new) }
 {
     let Some(caret) = desk.caret_place() else {
         return Ok(Reply::No(codes::NO_CARET));
@@ -40,11 +37,8 @@ pub fn type_bytes<S: CharSource>(desk: &mut Desk, bytes: &TypedBytes, source: &m
 #[tactic(auto, unfolding(desktop_definitions::specs::Unread::key_needs_no_byte))]
 pub fn press<S: CharSource>(desk: &mut Desk, key: Key, source: &mut S) -> StepResult
     requires { IsOver (S.characters source.old) (kept desk.old) }
-    ensures answered { IfOk result (Settles S.CharSource (λ d. pressed d key)
-        source.old source.new (kept desk.old) (kept desk.new)) }
-    ensures unread { key_needs_no_byte (kept desk.old) key ≡ true
-        → IfOk result (SettlesUnread (λ d. pressed d key) (kept desk.old) (kept desk.new)) }
-    ensures uses { Uses S.CharSource result source.old source.new }
+    ensures { DoesUnread S.CharSource (key_needs_no_byte (kept desk.old) key ≡ true) (λ d. pressed d key) result
+        source.old source.new (kept desk.old) (kept desk.new) }
 {
     match key {
         Key::Back => take_back(desk, source),
@@ -58,11 +52,8 @@ pub fn press<S: CharSource>(desk: &mut Desk, key: Key, source: &mut S) -> StepRe
 /// The character before the caret is taken out, where there is one. Refused without a caret.
 fn take_back<S: CharSource>(desk: &mut Desk, source: &mut S) -> StepResult
     requires { IsOver (S.characters source.old) (kept desk.old) }
-    ensures answered { IfOk result (Settles S.CharSource (λ d. pressed d Back)
-        source.old source.new (kept desk.old) (kept desk.new)) }
-    ensures unread { is_none (kept desk.old).caret ≡ true
-        → IfOk result (SettlesUnread (λ d. pressed d Back) (kept desk.old) (kept desk.new)) }
-    ensures uses { Uses S.CharSource result source.old source.new }
+    ensures { DoesUnread S.CharSource (is_none (kept desk.old).caret ≡ true) (λ d. pressed d Back) result
+        source.old source.new (kept desk.old) (kept desk.new) }
 {
     let Some(caret) = desk.caret_place() else {
         return Ok(Reply::No(codes::NO_CARET));
@@ -81,10 +72,7 @@ fn take_back<S: CharSource>(desk: &mut Desk, source: &mut S) -> StepResult
 /// The newest selection goes into the copied buffer. Refused without a selection.
 fn copy<S: CharSource>(desk: &mut Desk, source: &mut S) -> StepResult
     requires { IsOver (S.characters source.old) (kept desk.old) }
-    ensures answered { IfOk result (Settles S.CharSource (λ d. pressed d Copy)
-        source.old source.new (kept desk.old) (kept desk.new)) }
-    ensures unread { IfOk result (SettlesUnread (λ d. pressed d Copy) (kept desk.old) (kept desk.new)) }
-    ensures uses { Uses S.CharSource result source.old source.new }
+    ensures { DoesUnread S.CharSource ⊤ (λ d. pressed d Copy) result source.old source.new (kept desk.old) (kept desk.new) }
 {
     let Some(selection) = desk.selection() else {
         return Ok(Reply::No(codes::NO_SELECTION));
@@ -101,11 +89,8 @@ fn copy<S: CharSource>(desk: &mut Desk, source: &mut S) -> StepResult
 /// a selection.
 fn cut<S: CharSource>(desk: &mut Desk, source: &mut S) -> StepResult
     requires { IsOver (S.characters source.old) (kept desk.old) }
-    ensures answered { IfOk result (Settles S.CharSource (λ d. pressed d Cut)
-        source.old source.new (kept desk.old) (kept desk.new)) }
-    ensures unread { is_none (newest (kept desk.old)) ≡ true
-        → IfOk result (SettlesUnread (λ d. pressed d Cut) (kept desk.old) (kept desk.new)) }
-    ensures uses { Uses S.CharSource result source.old source.new }
+    ensures { DoesUnread S.CharSource (is_none (newest (kept desk.old)) ≡ true) (λ d. pressed d Cut) result
+        source.old source.new (kept desk.old) (kept desk.new) }
 {
     let Some(selection) = desk.selection() else {
         return Ok(Reply::No(codes::NO_SELECTION));
@@ -118,10 +103,7 @@ fn cut<S: CharSource>(desk: &mut Desk, source: &mut S) -> StepResult
 /// Caret, selections and marker go.
 fn escape<S: CharSource>(desk: &mut Desk, source: &mut S) -> StepResult
     requires { IsOver (S.characters source.old) (kept desk.old) }
-    ensures answered { IfOk result (Settles S.CharSource (λ d. pressed d Escape)
-        source.old source.new (kept desk.old) (kept desk.new)) }
-    ensures unread { IfOk result (SettlesUnread (λ d. pressed d Escape) (kept desk.old) (kept desk.new)) }
-    ensures uses { Uses S.CharSource result source.old source.new }
+    ensures { DoesUnread S.CharSource ⊤ (λ d. pressed d Escape) result source.old source.new (kept desk.old) (kept desk.new) }
 {
     desk.caret = None;
     desk.selections.clear();

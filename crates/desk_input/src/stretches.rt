@@ -1,8 +1,9 @@
 //! What the mouse does with stretches of texts.
-ghost use Rattle.std.specs.Prelude.{◌≡◌, ◌≤◌, length, IfOk, is_none, true};
+ghost use Rattle.std.specs.Prelude.{◌≡◌, ◌≤◌, length, is_none, true};
 ghost use Rattle.text_core.specs.Attributes.{look_at};
 ghost use Rattle.desktop_definitions.specs.Gesture.{copied_to, looks_taken, taken_out, sent_to_caret};
-ghost use Rattle.desk_core.specs.Words.{flat, newest, IsOver, kept_main, kept, IsPosition, Settles, SettlesUnread, Uses};
+ghost use Rattle.desk_core.specs.Words.{flat, newest, kept_main, kept, Does, DoesUnread};
+ghost use Rattle.desk_input.specs.Reads.{IsPlace};
 
 use char_file::CharSource;
 use desk_core::desk::Desk;
@@ -11,16 +12,15 @@ use desk_core::viewers::select;
 use desktop_definitions::{Caret, Reply, Selection, codes};
 use piece_ring::{DEFAULT_LOOK, Look};
 
+/// The selector of a whole look: its font, its colour and its vertical offset.
+const WHOLE_LOOK: u8 = 7;
+
 /// A copy of the newest selection is put in at `pos` in a viewer, and the caret after it, where it is shown.
 /// Refused without a selection.
 pub fn copy_to<S: CharSource>(desk: &mut Desk, id: u16, pos: u32, source: &mut S) -> StepResult
-    requires at { IsPosition (kept desk.old) id pos }
-    requires over { IsOver (S.characters source.old) (kept desk.old) }
-    ensures answered { IfOk result (Settles S.CharSource (λ d. copied_to d id pos)
-        source.old source.new (kept desk.old) (kept desk.new)) }
-    ensures unread { is_none (newest (kept desk.old)) ≡ true
-        → IfOk result (SettlesUnread (λ d. copied_to d id pos) (kept desk.old) (kept desk.new)) }
-    ensures uses { Uses S.CharSource result source.old source.new }
+    requires { IsPlace (S.characters source.old) (kept desk.old) id pos }
+    ensures { DoesUnread S.CharSource (is_none (newest (kept desk.old)) ≡ true) (λ d. copied_to d id pos) result
+        source.old source.new (kept desk.old) (kept desk.new) }
 {
     let Some(selection) = desk.selection() else {
         return Ok(Reply::No(codes::NO_SELECTION));
@@ -37,19 +37,15 @@ pub fn copy_to<S: CharSource>(desk: &mut Desk, id: u16, pos: u32, source: &mut S
 /// The newest selection gets the look at `pos` in a viewer, where the caret then stands. Refused without a
 /// selection.
 pub fn take_looks<S: CharSource>(desk: &mut Desk, id: u16, pos: u32, source: &mut S) -> StepResult
-    requires at { IsPosition (kept desk.old) id pos }
-    requires over { IsOver (S.characters source.old) (kept desk.old) }
-    ensures answered { IfOk result (Settles S.CharSource (λ d. looks_taken d id pos)
-        source.old source.new (kept desk.old) (kept desk.new)) }
-    ensures unread { is_none (newest (kept desk.old)) ≡ true
-        → IfOk result (SettlesUnread (λ d. looks_taken d id pos) (kept desk.old) (kept desk.new)) }
-    ensures uses { Uses S.CharSource result source.old source.new }
+    requires { IsPlace (S.characters source.old) (kept desk.old) id pos }
+    ensures { DoesUnread S.CharSource (is_none (newest (kept desk.old)) ≡ true) (λ d. looks_taken d id pos) result
+        source.old source.new (kept desk.old) (kept desk.new) }
 {
+    let look = look_at(desk, id, pos);
     let Some(selection) = desk.selection() else {
         return Ok(Reply::No(codes::NO_SELECTION));
     };
-    let look = look_at(desk, id, pos);
-    desk.set_looks(selection, 7, look)?;
+    desk.set_looks(selection, WHOLE_LOOK, look)?;
     desk.caret = Some(Caret {
         viewer: id,
         position: pos,
@@ -60,11 +56,8 @@ pub fn take_looks<S: CharSource>(desk: &mut Desk, id: u16, pos: u32, source: &mu
 /// A stretch goes into the deleted buffer, and the caret to where it was, which is shown. Refused where it is
 /// empty.
 pub fn take_out<S: CharSource>(desk: &mut Desk, drawn: Selection, source: &mut S) -> StepResult
-    requires at { IsPosition (kept desk.old) drawn.viewer drawn.end }
-    requires over { IsOver (S.characters source.old) (kept desk.old) }
-    ensures answered { IfOk result (Settles S.CharSource (λ d. taken_out d drawn)
-        source.old source.new (kept desk.old) (kept desk.new)) }
-    ensures uses { Uses S.CharSource result source.old source.new }
+    requires { IsPlace (S.characters source.old) (kept desk.old) drawn.viewer drawn.end }
+    ensures { Does S.CharSource (λ d. taken_out d drawn) result source.old source.new (kept desk.old) (kept desk.new) }
 {
     if drawn.beg >= drawn.end {
         return Ok(Reply::No(codes::NO_SELECTION));
@@ -76,11 +69,8 @@ pub fn take_out<S: CharSource>(desk: &mut Desk, drawn: Selection, source: &mut S
 
 /// A stretch is selected, and a copy of it put in at the caret. Refused where it is empty, or without a caret.
 pub fn send_to_caret<S: CharSource>(desk: &mut Desk, drawn: Selection, source: &mut S) -> StepResult
-    requires at { IsPosition (kept desk.old) drawn.viewer drawn.end }
-    requires over { IsOver (S.characters source.old) (kept desk.old) }
-    ensures answered { IfOk result (Settles S.CharSource (λ d. sent_to_caret d drawn)
-        source.old source.new (kept desk.old) (kept desk.new)) }
-    ensures uses { Uses S.CharSource result source.old source.new }
+    requires { IsPlace (S.characters source.old) (kept desk.old) drawn.viewer drawn.end }
+    ensures { Does S.CharSource (λ d. sent_to_caret d drawn) result source.old source.new (kept desk.old) (kept desk.new) }
 {
     if drawn.beg >= drawn.end {
         return Ok(Reply::No(codes::NO_SELECTION));

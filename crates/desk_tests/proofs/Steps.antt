@@ -23,6 +23,7 @@ use Rattle.desktop_definitions.specs.Opening.{opening, opening_on, dropped}
 use Rattle.desktop_definitions.specs.Gesture.{region_at, resized, carried, text_position, scrolled_to_row}
 use Rattle.desktop_definitions.specs.Gesture.{scrolled_to_share, drawn_in, copied_to, looks_taken, taken_out}
 use Rattle.desktop_definitions.specs.Gesture.{sent_to_caret, tool_opened, menu_position, pointed}
+use Rattle.desktop_definitions.specs.Gesture.{done_in_filler, done_in_menu, done_in_bar, done_at, done_with}
 use Rattle.desktop_definitions.specs.Step.{filed, marked, settled, raw, step_in, step}
 use Rattle.desktop_definitions.specs.Log.{logged, all_logged}
 use Rattle.desktop_definitions.specs.Call.{value_of, name_of, names_of, number_of as number_called}
@@ -46,19 +47,19 @@ steps = pair_steps ++ shared_steps ++ scrolled_steps ++ wide_steps ++ call_steps
 -- each step gives what is wanted
 pub steps_are_done : map replied steps ≡ map wanted steps
 unfolding region_at resized carried text_position scrolled_to_row scrolled_to_share drawn_in copied_to looks_taken
-    taken_out sent_to_caret tool_opened pointed opening opening_on dropped opened_at after_change insertion deletion
-    looks_set showing filed marked settled raw step_in step file_of held typed escaped pressed viewer_at opened
-    replaced changed closed track_of after_open after_close columns_changed called menu_position word_begin called_at
-    commands command_named is_name_byte is_letter is_digit logged all_logged value_of name_of number_called names_of
-    file_opened document_opened log_opened put_away brought_back viewer_copied log_cleared directory_logged
-    files_deleted stored look_set selection_set searched commanded names_on value names form symbol is_blank is_inside
-    numeral digits free_row empty_desktop collected
+    taken_out sent_to_caret tool_opened pointed done_in_filler done_in_menu done_in_bar done_at done_with opening
+    opening_on dropped opened_at after_change insertion deletion looks_set showing filed marked settled raw step_in
+    step file_of held typed escaped pressed viewer_at opened replaced changed closed track_of after_open after_close
+    columns_changed called menu_position word_begin called_at commands command_named is_name_byte is_letter is_digit
+    logged all_logged value_of name_of number_called names_of file_opened document_opened log_opened put_away
+    brought_back viewer_copied log_cleared directory_logged files_deleted stored look_set selection_set searched
+    commanded names_on value names form symbol is_blank is_inside numeral digits free_row empty_desktop collected
 steps_are_done = refl
 
 -- the first version of the table has no word for what gives characters up
 pub first_has_no_collect : map (replied_in first_version) collections ≡ map not_called collections
-unfolding region_at text_position pointed settled raw step_in called word_begin called_at commands command_named
-    is_name_byte is_letter is_digit viewer_at track_of
+unfolding region_at text_position pointed done_in_filler done_in_menu done_in_bar done_at done_with settled raw
+    step_in called word_begin called_at commands command_named is_name_byte is_letter is_digit viewer_at track_of
 first_has_no_collect = refl
 
 -- the screens have these rows

@@ -145,23 +145,49 @@ tool_opened d x y =
 abbrev pub stretch_drawn : Desktop → ℕ → ℕ → ℕ → ℕ → ℕ → Selection
 stretch_drawn d v x0 y0 x1 y1 = drawn d v (text_position d v x0 y0) (text_position d v x1 y1)
 
--- what the keys do in a region, by the version of the table of commands; what isn't named here changes nothing
+-- what the keys do in each region, in a version of the table of commands where a word may be called; what isn't named
+-- here changes nothing
+
+unfoldable pub done_in_filler : Desktop → Keys → ℕ → ℕ → Result Desktop ℕ
+done_in_filler d Middle x y = tool_opened d x y
+done_in_filler d keys x y = Ok d
+
+unfoldable pub done_in_menu : ℕ → Desktop → Keys → ℕ → ℕ → ℕ → Result Desktop ℕ
+done_in_menu version d Left v x y = Ok (resized d v y)
+done_in_menu version d LeftMiddle v x y = Ok (carried d v x y)
+done_in_menu version d Middle v x y = called version d v true (menu_position d v x)
+done_in_menu version d keys v x y = Ok d
+
+unfoldable pub done_in_bar : Desktop → Keys → ℕ → ℕ → Result Desktop ℕ
+done_in_bar d Left v row = Ok (scrolled_to_row d v row)
+done_in_bar d Middle v row = Ok (scrolled_to_share d v row)
+done_in_bar d Right v row = Ok (with_org d v 0)
+done_in_bar d keys v row = Ok d
+
+-- at a position of a text
+unfoldable pub done_at : ℕ → Desktop → Keys → ℕ → ℕ → Result Desktop ℕ
+done_at version d Left v p = Ok (with_caret d v p)
+done_at version d LeftMiddle v p = copied_to d v p
+done_at version d LeftRight v p = looks_taken d v p
+done_at version d Middle v p = called version d v false p
+done_at version d keys v p = Ok d
+
+-- with a stretch of it that was drawn
+unfoldable pub done_with : Desktop → Keys → Selection → Result Desktop ℕ
+done_with d Right s = Ok (drawn_in d s)
+done_with d RightLeft s = taken_out d s
+done_with d RightMiddle s = sent_to_caret d s
+done_with d keys s = Ok d
+
+-- which cells say where it is done: in a text the right button draws, and the other keys mean the cell where they went up
 unfoldable pub pointed : ℕ → Desktop → Region → Keys → ℕ → ℕ → ℕ → ℕ → Result Desktop ℕ
-pointed version d Filler Middle x0 y0 x1 y1 = tool_opened d x0 y0
-pointed version d (Menu v) Left x0 y0 x1 y1 = Ok (resized d v y1)
-pointed version d (Menu v) LeftMiddle x0 y0 x1 y1 = Ok (carried d v x1 y1)
-pointed version d (Menu v) Middle x0 y0 x1 y1 = called version d v true (menu_position d v x1)
-pointed version d (Bar v) Left x0 y0 x1 y1 = Ok (scrolled_to_row d v (frame_row d v y0))
-pointed version d (Bar v) Middle x0 y0 x1 y1 = Ok (scrolled_to_share d v (frame_row d v y0))
-pointed version d (Bar v) Right x0 y0 x1 y1 = Ok (with_org d v 0)
-pointed version d (Body v) Left x0 y0 x1 y1 = Ok (with_caret d v (text_position d v x1 y1))
-pointed version d (Body v) LeftMiddle x0 y0 x1 y1 = copied_to d v (text_position d v x1 y1)
-pointed version d (Body v) LeftRight x0 y0 x1 y1 = looks_taken d v (text_position d v x1 y1)
-pointed version d (Body v) Middle x0 y0 x1 y1 = called version d v false (text_position d v x1 y1)
-pointed version d (Body v) Right x0 y0 x1 y1 = Ok (drawn_in d (stretch_drawn d v x0 y0 x1 y1))
-pointed version d (Body v) RightLeft x0 y0 x1 y1 = taken_out d (stretch_drawn d v x0 y0 x1 y1)
-pointed version d (Body v) RightMiddle x0 y0 x1 y1 = sent_to_caret d (stretch_drawn d v x0 y0 x1 y1)
-pointed version d region keys x0 y0 x1 y1 = Ok d
+pointed version d Filler keys x0 y0 x1 y1 = done_in_filler d keys x0 y0
+pointed version d (Menu v) keys x0 y0 x1 y1 = done_in_menu version d keys v x1 y1
+pointed version d (Bar v) keys x0 y0 x1 y1 = done_in_bar d keys v (frame_row d v y0)
+pointed version d (Body v) Right x0 y0 x1 y1 = done_with d Right (stretch_drawn d v x0 y0 x1 y1)
+pointed version d (Body v) RightLeft x0 y0 x1 y1 = done_with d RightLeft (stretch_drawn d v x0 y0 x1 y1)
+pointed version d (Body v) RightMiddle x0 y0 x1 y1 = done_with d RightMiddle (stretch_drawn d v x0 y0 x1 y1)
+pointed version d (Body v) keys x0 y0 x1 y1 = done_at version d keys v (text_position d v x1 y1)
 
 -- The viewer of a region stands in a track that is shown; where row y is one of its main frame, it has such rows.
 abbrev pub IsRegionOf : {T : Type 0} → DesktopOf T → ℕ → Region → Type 0

@@ -90,6 +90,7 @@ use Rattle.desktop_definitions.specs.Gesture.{is_on_display, region_at, part_of,
 use Rattle.desktop_definitions.specs.Gesture.{menu_position, resized, carried, scrolled_to_row, scrolled_to_share}
 use Rattle.desktop_definitions.specs.Gesture.{is_some_stretch, drawn_in, copied_to, looks_taken, taken_out}
 use Rattle.desktop_definitions.specs.Gesture.{sent_to_caret, tool_opened, stretch_drawn, pointed, IsRegionOf}
+use Rattle.desktop_definitions.specs.Gesture.{done_in_filler, done_in_menu, done_in_bar, done_at, done_with}
 use Rattle.text_core.specs.Attributes.{look_at}
 use Rattle.desktop_definitions.specs.declared.reply.Reply.{Reply}
 use Rattle.desktop_definitions.specs.declared.reply.Reply.TheVariants.{Done, No}
@@ -736,7 +737,7 @@ module _ (d : Desktop) (shaped : IsShaped d) where
 
   pointed_shaped : (version : ℕ) (region : Region) (keys : Keys) (x0 y0 x1 y1 : ℕ) → IsRegionOf d y0 region
       → IfOk (pointed version d region keys x0 y0 x1 y1) IsShaped
-  unfolding pointed
+  unfolding pointed done_in_filler done_in_menu done_in_bar done_at done_with
   pointed_shaped version Filler Middle x0 y0 x1 y1 is = tool_opened_shaped x0 y0
   pointed_shaped version Filler Left x0 y0 x1 y1 is = shaped
   pointed_shaped version Filler LeftMiddle x0 y0 x1 y1 is = shaped

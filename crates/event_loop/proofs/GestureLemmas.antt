@@ -3,6 +3,8 @@ use Rattle.std.specs.Prelude.{◌≡◌, ◌<◌, ◌&&◌, ◌||◌, not, ℕ, 
 use Rattle.std.specs.Prelude.{Result, Ok, IfOk}
 use Rattle.std.proofs.lemmas.Result.{IfOk-weaker}
 use Rattle.std.proofs.Common.{refl, sym, ap, subst, ◌∙◌}
+use Rattle.char_file.specs.declared.source.CharSource.{Ghosts}
+use Rattle.event_bytes.specs.declared.event.Event.TheVariants.{Point}
 use Rattle.event_bytes.specs.declared.keys.Keys.{Keys}
 use Rattle.event_bytes.specs.declared.keys.Keys.TheVariants.{Left, LeftMiddle, LeftRight, Middle, Right, RightLeft}
 use Rattle.event_bytes.specs.declared.keys.Keys.TheVariants.{RightMiddle}
@@ -12,21 +14,23 @@ use Rattle.desktop_definitions.specs.declared.region.Region.TheVariants.{Filler,
 use Rattle.desktop_definitions.specs.declared.viewer.Selection.{Selection}
 use Rattle.desktop_definitions.specs.Limits.{outside}
 use Rattle.desktop_definitions.specs.Needs.{unless}
-use Rattle.desktop_definitions.specs.Unread.{gesture_needs_no_byte, gesture_brings, grown}
-use Rattle.desk_core.specs.Row.{SettlesUnread, SettlesBringing}
+use Rattle.desktop_definitions.specs.Unread.{gesture_needs_no_byte, gesture_brings, grown, needs_no_byte, brought}
+use Rattle.desk_core.specs.Row.{Settles, SettlesUnread, SettlesBringing, Uses, DoesUnread}
 use Rattle.desktop_definitions.specs.Desktop.{Desktop, KeptDesktop}
 use Rattle.desktop_definitions.specs.Seen.{seen}
-use Rattle.desktop_definitions.specs.Step.{settled}
+use Rattle.desktop_definitions.specs.Step.{settled, raw}
 use Rattle.desktop_definitions.specs.Outcome.{IsAnswered}
-use Rattle.desktop_definitions.specs.Gesture.{region_at, frame_row, pointed, scrolled_to_row, scrolled_to_share}
-use Rattle.desktop_definitions.specs.Gesture.{is_on_display}
+use Rattle.desktop_definitions.specs.Gesture.{is_on_display, region_at, pointed}
 use Rattle.viewer_tracks.specs.declared.display.TheConstants.{COLUMNS, ROWS}
-use Rattle.desk_core.specs.Mouse.{done_in_filler, done_in_menu, done_in_bar, done_at, done_with}
+use Rattle.desktop_definitions.specs.Gesture.{done_in_filler, done_in_menu, done_in_bar, done_at, done_with}
 use Rattle.desktop_definitions.specs.Viewers.{newest}
 use Rattle.desktop_laws.specs.KeyLaws.{copied_to_none, looks_taken_none}
 use Rattle.desk_core.specs.declared.stop.Stop.{Stop}
 use Rattle.desk_core.proofs.MarkLemmas.{both_inside}
 use Rattle.desk_core.proofs.PositionLemmas.{region_seen}
+use Rattle.desk_core.proofs.UnreadLemmas.{brings_none}
+use Rattle.event_loop.specs.Doing.{DoesEvent}
+use Rattle.event_loop.proofs.UnreadEvents.{bringing_event}
 
 -- ---- where both cells are on the display
 
@@ -74,26 +78,7 @@ with_rest d RightLeft s one two three = absurd (two refl)
 with_rest d RightMiddle s one two three = absurd (three refl)
 with_rest d keys s one two three = refl
 
--- ---- each region
-
-pub pointed_filler : (version : ℕ) (d : Desktop) (keys : Keys) (x0 y0 x1 y1 : ℕ)
-    → done_in_filler d keys x0 y0 ≡ pointed version d Filler keys x0 y0 x1 y1
-unfolding pointed done_in_filler
-pointed_filler version d Middle x0 y0 x1 y1 = refl
-pointed_filler version d keys x0 y0 x1 y1 = refl
-
-pub pointed_menu : (version : ℕ) (d : Desktop) (keys : Keys) (v x0 y0 x1 y1 : ℕ)
-    → done_in_menu version d keys v x1 y1 ≡ pointed version d (Menu v) keys x0 y0 x1 y1
-unfolding pointed done_in_menu
-pointed_menu version d Middle v x0 y0 x1 y1 = refl
-pointed_menu version d keys v x0 y0 x1 y1 = refl
-
-pub pointed_bar : (version : ℕ) (d : Desktop) (keys : Keys) (v row x0 y0 x1 y1 : ℕ) → row ≡ frame_row d v y0
-    → done_in_bar d keys v row ≡ pointed version d (Bar v) keys x0 y0 x1 y1
-unfolding pointed done_in_bar
-pointed_bar version d Left v row x0 y0 x1 y1 is = ap (λ r. Ok (scrolled_to_row d v r)) is
-pointed_bar version d Middle v row x0 y0 x1 y1 is = ap (λ r. Ok (scrolled_to_share d v r)) is
-pointed_bar version d keys v row x0 y0 x1 y1 is = refl
+-- ---- the region of the first cell
 
 -- what is done where both cells are on the display, and the first is in that region
 pub pointed_there : (version : ℕ) (H : Type 0) (old new : List ℕ) (d after : KeptDesktop) (keys : Keys)
@@ -116,7 +101,7 @@ pub pointed_rest : (version : ℕ) (d : Desktop) (keys : Keys) (v x0 y0 x1 y1 : 
     → ¬ (keys ≡ LeftMiddle)
     → ¬ (keys ≡ LeftRight) → ¬ (keys ≡ Right) → ¬ (keys ≡ RightLeft) → ¬ (keys ≡ RightMiddle) → ¬ (keys ≡ Middle)
     → pointed version d (Body v) keys x0 y0 x1 y1 ≡ Ok d
-unfolding pointed
+unfolding pointed done_at
 pointed_rest version d Left v x0 y0 x1 y1 a b c e f h i = absurd (a refl)
 pointed_rest version d LeftMiddle v x0 y0 x1 y1 a b c e f h i = absurd (b refl)
 pointed_rest version d LeftRight v x0 y0 x1 y1 a b c e f h i = absurd (c refl)
@@ -187,3 +172,31 @@ pub unread_anywhere : (version : ℕ) (d after : KeptDesktop) (keys : Keys) (v p
 unread_anywhere version d after keys v p place result none settles =
     IfOk-weaker result (SettlesUnread (λ x. done_at version x keys v p) d after) _ (λ reply is all long.
     is all long ∙ ap (settled (seen all d)) (done_anywhere version all d keys v p (place (seen all d)) none)) settles
+
+-- ---- events
+
+module _ {S : Type 0} (s : Ghosts S) {old new : S} {d after : KeptDesktop} {result : Result Reply Stop} (version : ℕ)
+    {keys : Keys} {x0 y0 x1 y1 : ℕ} (inside : (is_on_display x0 y0 && is_on_display x1 y1) ≡ true) {region : Region}
+    (here : region ≡ region_at d x0 y0) (row : Desktop → Result Desktop ℕ)
+    (is : (all : List ℕ) → row (seen all d) ≡ pointed version (seen all d) region keys x0 y0 x1 y1) where
+  -- a gesture is done by a call that does what is said of it in the region where the keys went down
+  pub does_there : IfOk result (Settles s row old new d after)
+      → (gesture_needs_no_byte d region keys ≡ true
+      → IfOk result (SettlesBringing (gesture_brings region keys) (λ all. row (seen all d)) d after))
+      → Uses s result old new → DoesEvent s version (Point keys x0 y0 x1 y1) result old new d after
+  unfolding raw needs_no_byte brought
+  does_there answered unread uses = record {
+    answered = pointed_there version (s.honest old) (s.characters old) (s.characters new) d after keys x0 y0 x1 y1 result
+        inside here (is (s.characters old)) answered;
+    unread = bringing_event version d after (Point keys x0 y0 x1 y1) _ result refl
+        (λ h. unread_there version d after keys x0 y0 x1 y1 result row inside here h is unread);
+    uses = uses;
+  }
+
+  -- where it brings no characters
+  pub does_pointed : [] ≡ gesture_brings region keys
+      → DoesUnread s (gesture_needs_no_byte d region keys ≡ true) row result old new d after
+      → DoesEvent s version (Point keys x0 y0 x1 y1) result old new d after
+  does_pointed none does = does_there does.answered (λ h.
+      subst (λ (bytes : List ℕ). IfOk result (SettlesBringing bytes (λ all. row (seen all d)) d after)) none
+      (brings_none row d after result (does.unread h))) does.uses

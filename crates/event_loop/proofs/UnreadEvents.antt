@@ -1,6 +1,7 @@
--- What an event owes that reads no character.
+-- What an event owes, and one that reads no character.
 use Rattle.std.specs.Prelude.{◌≡◌, ℕ, true, List, [], Result, Ok, Err, IfOk}
 use Rattle.std.proofs.Common.{sym, ap, ◌∙◌}
+use Rattle.char_file.specs.declared.source.CharSource.{Ghosts}
 use Rattle.event_bytes.specs.declared.event.Event.{Event}
 use Rattle.event_bytes.specs.declared.event.Event.TheVariants.{File}
 use Rattle.desktop_definitions.specs.declared.reply.Reply.{Reply}
@@ -10,8 +11,9 @@ use Rattle.desktop_definitions.specs.Seen.{seen}
 use Rattle.desktop_definitions.specs.Step.{raw, step_in}
 use Rattle.desktop_definitions.specs.Unread.{needs_no_byte, brought, grown, StepsUnread}
 use Rattle.desk_core.specs.declared.stop.Stop.{Stop}
-use Rattle.desk_core.specs.Row.{SettlesUnread, SettlesBringing}
+use Rattle.desk_core.specs.Row.{SettlesUnread, SettlesBringing, DoesUnread}
 use Rattle.desk_core.proofs.UnreadLemmas.{brings_none}
+use Rattle.event_loop.specs.Doing.{DoesEvent}
 
 -- one whose row brings these characters
 pub bringing_event : (version : ℕ) (d after : KeptDesktop) (event : Event) (bytes : List ℕ) (result : Result Reply Stop)
@@ -33,9 +35,19 @@ unread_event version d after event result is settles =
     bringing_event version d after event [] result is
     (λ h. brings_none (λ (x : Desktop). raw version x event) d after result (settles h))
 
--- a file is put in every version alike
-pub file_unread : (version : ℕ) (d after : KeptDesktop) (name bytes : List ℕ) (result : Result Reply Stop)
-    → IfOk result (StepsUnread newest_version d after (File name bytes))
-    → IfOk result (StepsUnread version d after (File name bytes))
-unfolding StepsUnread step_in raw
-file_unread version d after name bytes result so = so
+module _ {S : Type 0} (s : Ghosts S) {old new : S} {d after : KeptDesktop} {result : Result Reply Stop} where
+  -- an event is done by a call that does what is said of it, where it brings no characters
+  pub does_event : {calm : Type 0} (version : ℕ) (event : Event) → (needs_no_byte d event ≡ true → calm)
+      → [] ≡ brought d event → DoesUnread s calm (λ x. raw version x event) result old new d after
+      → DoesEvent s version event result old new d after
+  does_event version event where_calm is does = record {
+    answered = does.answered;
+    unread = unread_event version d after event result is (λ h. does.unread (where_calm h));
+    uses = does.uses;
+  }
+
+  -- a file is put in every version alike
+  pub does_file : (version : ℕ) (name bytes : List ℕ) → DoesEvent s newest_version (File name bytes) result old new d after
+      → DoesEvent s version (File name bytes) result old new d after
+  unfolding StepsUnread step_in raw
+  does_file version name bytes does = record { answered = does.answered; unread = does.unread; uses = does.uses }

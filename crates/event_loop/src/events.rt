@@ -1,12 +1,12 @@
 //! What each kind of event does.
-ghost use Rattle.std.specs.Prelude.{◌≡◌, ◌+◌, ◌<◌, ◌≤◌, ◌^◌, ℕ, List, length, IsTrue, IfOk};
+ghost use Rattle.std.specs.Prelude.{◌≡◌, ◌+◌, ◌<◌, ◌≤◌, ◌^◌, ℕ, List, length, IsTrue};
 ghost use Rattle.event_bytes.specs.declared.event.Event.TheVariants.{File};
 ghost use Rattle.command_table.specs.Versions.{version_number, newest_version};
-ghost use Rattle.desktop_definitions.specs.Step.{raw, fits, filed};
-ghost use Rattle.desktop_definitions.specs.Unread.{StepsUnread};
-ghost use Rattle.desk_core.specs.Words.{Text as AText, most_written, seen, IsKeptWhole, IsOver, kept, Settles, Uses};
+ghost use Rattle.desktop_definitions.specs.Step.{fits, filed};
+ghost use Rattle.desk_core.specs.Words.{Text as AText, most_written, seen, IsKeptWhole, IsOver, kept};
+ghost use Rattle.event_loop.specs.Doing.{DoesEvent};
 
-use crate::gestures::point;
+use crate::gestures::{Gesture, point};
 use char_file::CharSource;
 use command_table::Version;
 use desk_core::desk::Desk;
@@ -28,10 +28,8 @@ pub fn act<S: CharSource>(
     source: &mut S,
 ) -> StepResult
     requires { IsOver (S.characters source.old) (kept desk.old) }
-    ensures answered { IfOk result (Settles S.CharSource (λ d. raw (version_number version) d event.now)
-        source.old source.new (kept desk.old) (kept desk.new)) }
-    ensures unread { IfOk result (StepsUnread (version_number version) (kept desk.old) (kept desk.new) event.now) }
-    ensures uses { Uses S.CharSource result source.old source.new }
+    ensures { DoesEvent S.CharSource (version_number version) event.now result
+        source.old source.new (kept desk.old) (kept desk.new) }
 {
     match event {
         Event::Typed(bytes) => type_bytes(desk, bytes, source),
@@ -43,7 +41,14 @@ pub fn act<S: CharSource>(
             y0,
             x1,
             y1,
-        } => point(desk, version, *keys, (*x0, *y0), (*x1, *y1), source),
+        } => {
+            let gesture = Gesture {
+                keys: *keys,
+                from: (*x0, *y0),
+                to: (*x1, *y1),
+            };
+            point(desk, version, gesture, source)
+        }
         Event::File { name, bytes } => put_file(desk, name, bytes, source),
     }
 }
@@ -56,11 +61,8 @@ fn put_file<S: CharSource>(
     source: &mut S,
 ) -> StepResult
     requires { IsOver (S.characters source.old) (kept desk.old) }
-    ensures answered { IfOk result (Settles S.CharSource (λ d. raw newest_version d (File name.now bytes.now))
-        source.old source.new (kept desk.old) (kept desk.new)) }
-    ensures unread { IfOk result (StepsUnread newest_version (kept desk.old) (kept desk.new)
-        (File name.now bytes.now)) }
-    ensures uses { Uses S.CharSource result source.old source.new }
+    ensures { DoesEvent S.CharSource newest_version (File name.now bytes.now) result
+        source.old source.new (kept desk.old) (kept desk.new) }
 {
     let bytes = bytes.as_bytes();
     if !has_room(&desk.files, name) {

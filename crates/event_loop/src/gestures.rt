@@ -1,17 +1,17 @@
 //! What the mouse does, by the region in which its keys went down. A gesture that isn't in the table is done and
 //! changes nothing.
-ghost use Rattle.std.specs.Prelude.{◌≡◌, ◌<◌, ◌≤◌, ◌&&◌, ◌||◌, not, true, false, IfOk};
+ghost use Rattle.std.specs.Prelude.{◌≡◌, ◌<◌, true, IfOk};
+ghost use Rattle.event_bytes.specs.declared.event.Event.TheVariants.{Point};
 ghost use Rattle.desktop_definitions.specs.declared.region.Region.TheVariants.{Filler, Menu, Bar, Body};
-ghost use Rattle.desktop_definitions.specs.Limits.{outside};
-ghost use Rattle.desktop_definitions.specs.Gesture.{is_on_display, region_at, menu_position, text_position};
-ghost use Rattle.desktop_definitions.specs.Gesture.{stretch_drawn, pointed};
+ghost use Rattle.desktop_definitions.specs.Gesture.{menu_position, text_position, stretch_drawn, pointed};
+ghost use Rattle.desktop_definitions.specs.Gesture.{done_in_filler, done_in_menu, done_in_bar, done_at, done_with};
 ghost use Rattle.desktop_definitions.specs.Commands.{called};
 ghost use Rattle.desktop_definitions.specs.Unread.{gesture_needs_no_byte, gesture_brings};
-ghost use Rattle.desk_core.specs.Mouse.{done_in_filler, done_in_menu, done_in_bar, done_at, done_with};
-ghost use Rattle.desk_core.specs.Words.{COLUMNS, ROWS, IsOnTop, unless, seen, IsOver, kept, IsPosition, Settles, Uses};
-ghost use Rattle.desk_core.specs.Words.{SettlesUnread, SettlesBringing};
+ghost use Rattle.desk_core.specs.Words.{COLUMNS, ROWS, IsOnTop, seen, IsOver, kept, Settles, Uses};
+ghost use Rattle.desk_core.specs.Words.{SettlesBringing, Does, DoesUnread};
 ghost use Rattle.desk_commands.specs.Words.{version_number};
-ghost use Rattle.desk_input.specs.Reads.{IsRow};
+ghost use Rattle.desk_input.specs.Reads.{IsRow, IsPlace};
+ghost use Rattle.event_loop.specs.Doing.{DoesEvent};
 
 use char_file::CharSource;
 use command_table::Version;
@@ -26,30 +26,31 @@ use desk_input::stretches::{copy_to, send_to_caret, take_looks, take_out};
 use desktop_definitions::{Region, Reply, Selection, codes};
 use event_bytes::Keys;
 
-/// The keys went down at the cell `from`, as column and row, and up at `to`. Refused where one of them is outside
-/// the display. The version is that of the table of commands, of which one may be called.
+/// The keys that were pressed, which went down at the cell `from`, as column and row, and up at `to`.
+#[derive(Clone, Copy)]
+pub struct Gesture {
+    /// The keys.
+    pub keys: Keys,
+    /// The cell where they went down.
+    pub from: (u8, u8),
+    /// The cell where they went up.
+    pub to: (u8, u8),
+}
+
+/// Does what a gesture means. Refused where one of its cells is outside the display. The version is that of the table
+/// of commands, of which one may be called.
 pub fn point<S: CharSource>(
     desk: &mut Desk,
     version: Version,
-    keys: Keys,
-    from: (u8, u8),
-    to: (u8, u8),
+    gesture: Gesture,
     source: &mut S,
 ) -> StepResult
     requires over { IsOver (S.characters source.old) (kept desk.old) }
-    ensures answered { IfOk result (Settles S.CharSource (λ d.
-        unless (is_on_display from.0 from.1 && is_on_display to.0 to.1) outside
-        (pointed (version_number version) d (region_at d from.0 from.1) keys from.0 from.1 to.0 to.1))
-        source.old source.new (kept desk.old) (kept desk.new)) }
-    ensures unread { (not (is_on_display from.0 from.1 && is_on_display to.0 to.1)
-        || gesture_needs_no_byte (kept desk.old) (region_at (kept desk.old) from.0 from.1) keys) ≡ true
-        → IfOk result (SettlesBringing (gesture_brings (region_at (kept desk.old) from.0 from.1) keys) (λ all.
-        let d = seen all (kept desk.old) in
-        unless (is_on_display from.0 from.1 && is_on_display to.0 to.1) outside
-        (pointed (version_number version) d (region_at d from.0 from.1) keys from.0 from.1 to.0 to.1))
-        (kept desk.old) (kept desk.new)) }
-    ensures uses { Uses S.CharSource result source.old source.new }
+    ensures { DoesEvent S.CharSource (version_number version)
+        (Point gesture.keys gesture.from.0 gesture.from.1 gesture.to.0 gesture.to.1) result
+        source.old source.new (kept desk.old) (kept desk.new) }
 {
+    let Gesture { keys, from, to } = gesture;
     if !are_on_display(from, to) {
         return Ok(Reply::No(codes::OUTSIDE));
     }
@@ -60,12 +61,12 @@ pub fn point<S: CharSource>(
             let row = frame_row(desk, id, from.1);
             point_bar(desk, keys, id, row, source)
         }
-        Region::Body(id) => point_text(desk, version, keys, id, from, to, source),
+        Region::Body(id) => point_text(desk, version, id, gesture, source),
     }
 }
 
 /// In a filler, at a cell.
-#[tactic(auto, unfolding(desk_core::specs::Mouse::done_in_filler, desktop_definitions::specs::Unread::gesture_brings))]
+#[tactic(auto, unfolding(desktop_definitions::specs::Gesture::done_in_filler, desktop_definitions::specs::Unread::gesture_brings))]
 fn point_filler<S: CharSource>(
     desk: &mut Desk,
     keys: Keys,
@@ -87,7 +88,7 @@ fn point_filler<S: CharSource>(
 }
 
 /// In the menu of a viewer; the keys went up at a cell.
-#[tactic(auto, unfolding(desk_core::specs::Mouse::done_in_menu, desktop_definitions::specs::Unread::gesture_needs_no_byte))]
+#[tactic(auto, unfolding(desktop_definitions::specs::Gesture::done_in_menu, desktop_definitions::specs::Unread::gesture_needs_no_byte))]
 fn point_menu<S: CharSource>(
     desk: &mut Desk,
     version: Version,
@@ -96,16 +97,12 @@ fn point_menu<S: CharSource>(
     cell: (u8, u8),
     source: &mut S,
 ) -> StepResult
+    requires placed { IsOnTop id (kept desk.old).columns }
     requires over { IsOver (S.characters source.old) (kept desk.old) }
     requires cell { (cell.0 < COLUMNS) × (cell.1 < ROWS) }
-    requires placed { IsOnTop id (kept desk.old).columns }
-    ensures answered { IfOk result
-        (Settles S.CharSource (λ d. done_in_menu (version_number version) d keys id cell.0 cell.1)
-        source.old source.new (kept desk.old) (kept desk.new)) }
-    ensures unread { gesture_needs_no_byte (kept desk.old) (Menu id) keys ≡ true
-        → IfOk result (SettlesUnread (λ d. done_in_menu (version_number version) d keys id cell.0 cell.1)
-        (kept desk.old) (kept desk.new)) }
-    ensures uses { Uses S.CharSource result source.old source.new }
+    ensures { DoesUnread S.CharSource (gesture_needs_no_byte (kept desk.old) (Menu id) keys ≡ true)
+        (λ d. done_in_menu (version_number version) d keys id cell.0 cell.1) result
+        source.old source.new (kept desk.old) (kept desk.new) }
 {
     match keys {
         Keys::Left => desk.resize(id, cell.1, source),
@@ -123,19 +120,17 @@ fn call_in_menu<S: CharSource>(
     x: u8,
     source: &mut S,
 ) -> StepResult
-    requires over { IsOver (S.characters source.old) (kept desk.old) }
     requires placed { IsOnTop id (kept desk.old).columns }
-    ensures answered { IfOk result (Settles S.CharSource
-        (λ d. called (version_number version) d id true (menu_position d id x))
-        source.old source.new (kept desk.old) (kept desk.new)) }
-    ensures uses { Uses S.CharSource result source.old source.new }
+    requires over { IsOver (S.characters source.old) (kept desk.old) }
+    ensures { Does S.CharSource (λ d. called (version_number version) d id true (menu_position d id x)) result
+        source.old source.new (kept desk.old) (kept desk.new) }
 {
     let pos = menu_position(desk, id, x, source)?;
     call(desk, version, id, true, pos, source)
 }
 
 /// In the scroll bar of a viewer, at a row of its main frame.
-#[tactic(auto, unfolding(desk_core::specs::Mouse::done_in_bar, desktop_definitions::specs::Unread::gesture_needs_no_byte))]
+#[tactic(auto, unfolding(desktop_definitions::specs::Gesture::done_in_bar, desktop_definitions::specs::Unread::gesture_needs_no_byte))]
 fn point_bar<S: CharSource>(
     desk: &mut Desk,
     keys: Keys,
@@ -144,12 +139,8 @@ fn point_bar<S: CharSource>(
     source: &mut S,
 ) -> StepResult
     requires at { IsRow (S.characters source.old) (kept desk.old) id row }
-    ensures answered { IfOk result (Settles S.CharSource (λ d. done_in_bar d keys id row)
-        source.old source.new (kept desk.old) (kept desk.new)) }
-    ensures unread { gesture_needs_no_byte (kept desk.old) (Bar id) keys ≡ true
-        → IfOk result (SettlesUnread (λ d. done_in_bar d keys id row)
-        (kept desk.old) (kept desk.new)) }
-    ensures uses { Uses S.CharSource result source.old source.new }
+    ensures { DoesUnread S.CharSource (gesture_needs_no_byte (kept desk.old) (Bar id) keys ≡ true)
+        (λ d. done_in_bar d keys id row) result source.old source.new (kept desk.old) (kept desk.new) }
 {
     match keys {
         Keys::Left => scroll_row(desk, id, row, source),
@@ -164,26 +155,20 @@ fn point_bar<S: CharSource>(
 fn point_text<S: CharSource>(
     desk: &mut Desk,
     version: Version,
-    keys: Keys,
     id: u16,
-    from: (u8, u8),
-    to: (u8, u8),
+    gesture: Gesture,
     source: &mut S,
 ) -> StepResult
     requires at { IsRow (S.characters source.old) (kept desk.old) id 0 }
-    ensures answered { IfOk result (Settles S.CharSource
-        (λ d. pointed (version_number version) d (Body id) keys from.0 from.1 to.0 to.1)
-        source.old source.new (kept desk.old) (kept desk.new)) }
-    ensures unread { gesture_needs_no_byte (kept desk.old) (Body id) keys ≡ true → IfOk result (SettlesUnread
-        (λ d. pointed (version_number version) d (Body id) keys from.0 from.1 to.0 to.1)
-        (kept desk.old) (kept desk.new)) }
-    ensures uses { Uses S.CharSource result source.old source.new }
+    ensures { DoesUnread S.CharSource (gesture_needs_no_byte (kept desk.old) (Body id) gesture.keys ≡ true)
+        (λ d. pointed (version_number version) d (Body id) gesture.keys gesture.from.0 gesture.from.1 gesture.to.0 gesture.to.1)
+        result source.old source.new (kept desk.old) (kept desk.new) }
 {
-    match keys {
+    match gesture.keys {
         Keys::Left | Keys::LeftMiddle | Keys::LeftRight | Keys::Middle => point_cell(
-            desk, version, keys, id, to, source,
+            desk, version, gesture.keys, id, gesture.to, source,
         ),
-        Keys::Right | Keys::RightLeft | Keys::RightMiddle => draw(desk, keys, id, from, to, source),
+        Keys::Right | Keys::RightLeft | Keys::RightMiddle => draw(desk, id, gesture, source),
         _ => Ok(Reply::Done),
     }
 }
@@ -198,20 +183,16 @@ fn point_cell<S: CharSource>(
     source: &mut S,
 ) -> StepResult
     requires at { IsRow (S.characters source.old) (kept desk.old) id 0 }
-    ensures answered { IfOk result (Settles S.CharSource
-        (λ d. done_at (version_number version) d keys id (text_position d id cell.0 cell.1))
-        source.old source.new (kept desk.old) (kept desk.new)) }
-    ensures unread { gesture_needs_no_byte (kept desk.old) (Body id) keys ≡ true → IfOk result (SettlesUnread
-        (λ d. done_at (version_number version) d keys id (text_position d id cell.0 cell.1))
-        (kept desk.old) (kept desk.new)) }
-    ensures uses { Uses S.CharSource result source.old source.new }
+    ensures { DoesUnread S.CharSource (gesture_needs_no_byte (kept desk.old) (Body id) keys ≡ true)
+        (λ d. done_at (version_number version) d keys id (text_position d id cell.0 cell.1)) result
+        source.old source.new (kept desk.old) (kept desk.new) }
 {
     let pos = text_position(desk, id, cell.0, cell.1, source)?;
     point_position(desk, version, keys, id, pos, source)
 }
 
 /// At a position of a viewer's main text.
-#[tactic(auto, unfolding(desk_core::specs::Mouse::done_at, desktop_definitions::specs::Unread::gesture_needs_no_byte))]
+#[tactic(auto, unfolding(desktop_definitions::specs::Gesture::done_at, desktop_definitions::specs::Unread::gesture_needs_no_byte))]
 fn point_position<S: CharSource>(
     desk: &mut Desk,
     version: Version,
@@ -220,13 +201,10 @@ fn point_position<S: CharSource>(
     pos: u32,
     source: &mut S,
 ) -> StepResult
-    requires over { IsOver (S.characters source.old) (kept desk.old) }
-    requires at { IsPosition (kept desk.old) id pos }
-    ensures answered { IfOk result (Settles S.CharSource (λ d. done_at (version_number version) d keys id pos)
-        source.old source.new (kept desk.old) (kept desk.new)) }
-    ensures unread { gesture_needs_no_byte (kept desk.old) (Body id) keys ≡ true → IfOk result (SettlesUnread
-        (λ d. done_at (version_number version) d keys id pos) (kept desk.old) (kept desk.new)) }
-    ensures uses { Uses S.CharSource result source.old source.new }
+    requires { IsPlace (S.characters source.old) (kept desk.old) id pos }
+    ensures { DoesUnread S.CharSource (gesture_needs_no_byte (kept desk.old) (Body id) keys ≡ true)
+        (λ d. done_at (version_number version) d keys id pos) result
+        source.old source.new (kept desk.old) (kept desk.new) }
 {
     match keys {
         Keys::Left => desk.set_caret(id, pos, source),
@@ -238,18 +216,15 @@ fn point_position<S: CharSource>(
 }
 
 /// With a stretch of a viewer's main text.
-#[tactic(auto, unfolding(desk_core::specs::Mouse::done_with))]
+#[tactic(auto, unfolding(desktop_definitions::specs::Gesture::done_with))]
 fn point_stretch<S: CharSource>(
     desk: &mut Desk,
     keys: Keys,
     drawn: Selection,
     source: &mut S,
 ) -> StepResult
-    requires over { IsOver (S.characters source.old) (kept desk.old) }
-    requires at { IsPosition (kept desk.old) drawn.viewer drawn.end }
-    ensures answered { IfOk result (Settles S.CharSource (λ d. done_with d keys drawn)
-        source.old source.new (kept desk.old) (kept desk.new)) }
-    ensures uses { Uses S.CharSource result source.old source.new }
+    requires { IsPlace (S.characters source.old) (kept desk.old) drawn.viewer drawn.end }
+    ensures { Does S.CharSource (λ d. done_with d keys drawn) result source.old source.new (kept desk.old) (kept desk.new) }
 {
     match keys {
         Keys::Right => desk.select(drawn, source),
@@ -260,20 +235,12 @@ fn point_stretch<S: CharSource>(
 }
 
 /// With the stretch that was drawn between two cells of a viewer.
-fn draw<S: CharSource>(
-    desk: &mut Desk,
-    keys: Keys,
-    id: u16,
-    from: (u8, u8),
-    to: (u8, u8),
-    source: &mut S,
-) -> StepResult
+fn draw<S: CharSource>(desk: &mut Desk, id: u16, gesture: Gesture, source: &mut S) -> StepResult
     requires at { IsRow (S.characters source.old) (kept desk.old) id 0 }
-    ensures answered { IfOk result (Settles S.CharSource (λ d.
-        done_with d keys (stretch_drawn d id from.0 from.1 to.0 to.1))
-        source.old source.new (kept desk.old) (kept desk.new)) }
-    ensures uses { Uses S.CharSource result source.old source.new }
+    ensures { Does S.CharSource (λ d.
+        done_with d gesture.keys (stretch_drawn d id gesture.from.0 gesture.from.1 gesture.to.0 gesture.to.1)) result
+        source.old source.new (kept desk.old) (kept desk.new) }
 {
-    let drawn = stretch_drawn(desk, id, from, to, source)?;
-    point_stretch(desk, keys, drawn, source)
+    let drawn = stretch_drawn(desk, id, gesture.from, gesture.to, source)?;
+    point_stretch(desk, gesture.keys, drawn, source)
 }

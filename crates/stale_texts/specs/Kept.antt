@@ -40,6 +40,7 @@ use Rattle.desktop_definitions.specs.Change.{bytes_of, in_look, caret_shown, put
 use Rattle.desktop_definitions.specs.Changed.{texts_shown}
 use Rattle.desktop_definitions.specs.Keys.{typed, pressed, without_character_before, with_copied, escaped}
 use Rattle.desktop_definitions.specs.Opening.{dropped}
+use Rattle.desktop_definitions.specs.Gesture.{done_in_filler, done_in_menu, done_in_bar, done_at, done_with}
 use Rattle.desktop_definitions.specs.Gesture.{is_on_display, region_at, pointed, resized, scrolled_to_row}
 use Rattle.desktop_definitions.specs.Gesture.{scrolled_to_share, copied_to, looks_taken, taken_out, sent_to_caret}
 use Rattle.desktop_definitions.specs.Gesture.{drawn_in, is_some_stretch}
@@ -269,7 +270,7 @@ module _ (version n : ℕ) (d : Desktop) where
   pointed_leaves : (region : Region) (keys : Keys) (x0 y0 x1 y1 : ℕ)
       → is_stale (stale_by_gesture d.viewers d.caret (newest d) region keys) n ≡ false
       → LeavesIn n d (pointed version d region keys x0 y0 x1 y1)
-  unfolding pointed stale_by_gesture resized
+  unfolding pointed done_in_filler done_in_menu done_in_bar done_at done_with stale_by_gesture resized
   pointed_leaves Filler Left x0 y0 x1 y1 apart = leaves_all n d
   pointed_leaves Filler LeftMiddle x0 y0 x1 y1 apart = leaves_all n d
   pointed_leaves Filler LeftRight x0 y0 x1 y1 apart = leaves_all n d

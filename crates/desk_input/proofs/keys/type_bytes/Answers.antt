@@ -1,4 +1,4 @@
-use Rattle.std.proofs.Common.{◌≡◌, ◌∙◌, ◌+◌, [], List, ℕ, length, ap, sym, subst, length-append, arith}
+use Rattle.std.proofs.Common.{rules, ◌≡◌, ◌∙◌, ◌+◌, [], List, ℕ, length, ap, sym, subst, length-append, arith}
 use Rattle.piece_ring.specs.Flat.{flat}
 use Rattle.piece_ring.specs.Lengths.{length-run}
 use Rattle.piece_ring.specs.Offsets.{AreWithin, run-AreWithin}
@@ -15,24 +15,24 @@ use Rattle.desk_core.specs.Kept.{kept}
 use Rattle.desktop_definitions.specs.Looks.{AreLooks}
 use Rattle.desktop_laws.specs.LookedLaws.{run_looks, kept_look}
 use Rattle.desk_core.proofs.StretchLemmas.{refused_row}
-use Rattle.desk_core.proofs.UnreadLemmas.{refusal_is}
+use Rattle.desk_input.proofs.StillLemmas.{does_unread}
 use Rattle.desk_input.proofs.keys.type_bytes.Goals as goal
 
-pub returns-in_default-clause-answered : goal.returns-in_default-clause-answered
+pub returns-in_default : goal.returns-in_default
 unfolding seen
-returns-in_default-clause-answered g c =
-    refused_row c.requires known_no_caret (typed_none _ (sym c.caret_place.ensures.is ∙ c.in_default.is) _)
+returns-in_default g c =
+    does_unread g.S.CharSource g.met.S.CharSource.ground_self _ _ (kept c.args.desk.now) _ _ c.requires
+    (λ H all over. refused_row over known_no_caret (typed_none _ (sym c.caret_place.ensures.is ∙ c.in_default.is) _))
 
-pub returns-then-not-fits_more-clause-answered : goal.returns-then-not-fits_more-clause-answered
-returns-then-not-fits_more-clause-answered g c =
-    let old = g.S.CharSource.characters c.args.source.now in
+pub returns-then-not-fits_more : goal.returns-then-not-fits_more
+returns-then-not-fits_more g c =
     let d = kept c.args.desk.now in
-    subst (λ (b : List ℕ). IsAnswered (g.S.CharSource.honest c.args.source.now) old
-    old d d
-    (settled (seen old d) (typed (seen old d) b)) (No full)) c.as_bytes-bytes.ensures.value
-    (typed_full _ old d c.requires c.in-Some.caret (sym c.in-Some.ensures.is)
+    does_unread g.S.CharSource g.met.S.CharSource.ground_self _ _ d _ _ c.requires
+    (λ H all over. subst (λ (b : List ℕ). IsAnswered H all all d d
+    (settled (seen all d) (typed (seen all d) b)) (No full)) c.as_bytes-bytes.ensures.value
+    (typed_full H all d over c.in-Some.caret (sym c.in-Some.ensures.is)
     c.in-Some.ensures.stands.placed c.as_bytes-bytes.result.now
-    (sym (c.fits_more.ensures old) ∙ c.if-not-fits_more.true))
+    (sym (c.fits_more.ensures all) ∙ c.if-not-fits_more.true)))
 
 pub buffer_of_run-requires-clause-offsets : goal.buffer_of_run-requires-clause-offsets
 unfolding seen
@@ -85,24 +85,23 @@ overflow_add-desk g c =
     let low = space_written _ _ _ 0 (sym (c.fits_more.ensures []) ∙ c.if-not-fits_more.false) in
     omega (arith, low, c.in_ok-put_at_caret.ensures.changed.rest.written)
 
-pub returns-clause-answered : goal.returns-clause-answered
-returns-clause-answered g c =
-    let old = g.S.CharSource.characters c.args.source.now in
-    let d = kept c.args.desk.now in
-    let reads = c.in_ok-put_at_caret.ensures.reads in
-    let premise = c.in_ok-append.ensures.keeps.premise in
-    subst (λ (b : List ℕ). IsAnswered (g.S.CharSource.honest c.args.source.now) old
-    (g.S.CharSource.characters c.put_at_caret.new.source) d
-    (more_written (kept c.put_at_caret.new.self) (length c.as_bytes-bytes.result.now))
-    (settled (seen old d) (typed (seen old d) b)) Done) c.as_bytes-bytes.ensures.value
-    (typed_answered _ old c.as_bytes-bytes.result.now (g.S.CharSource.characters c.append.new.self)
-    (g.S.CharSource.characters c.put_at_caret.new.source) d (kept c.put_at_caret.new.self) c.requires
-    c.in_ok-append.ensures.added reads.as_long (λ h. reads.same (premise.1 h)) c.in-Some.caret
-    (sym c.in-Some.ensures.is) c.in_ok-buffer.buffer c.in_ok-buffer.ensures
-    (changed_under (λ h. premise.1 h) c.in_ok-put_at_caret.ensures.changed)
-    (λ all. sym (c.fits_more.ensures all) ∙ c.if-not-fits_more.false))
-
-pub returns-in_default-clause-unread : goal.returns-in_default-clause-unread
-unfolding seen
-returns-in_default-clause-unread g c h = λ all long.
-    refusal_is (typed_none _ (sym c.caret_place.ensures.is ∙ c.in_default.is) _)
+pub returns : goal.returns
+returns g c = record {
+  answered =
+      let old = g.S.CharSource.characters c.args.source.now in
+      let d = kept c.args.desk.now in
+      let reads = c.in_ok-put_at_caret.ensures.reads in
+      let premise = c.in_ok-append.ensures.keeps.premise in
+      subst (λ (b : List ℕ). IsAnswered (g.S.CharSource.honest c.args.source.now) old
+      (g.S.CharSource.characters c.put_at_caret.new.source) d
+      (more_written (kept c.put_at_caret.new.self) (length c.as_bytes-bytes.result.now))
+      (settled (seen old d) (typed (seen old d) b)) Done) c.as_bytes-bytes.ensures.value
+      (typed_answered _ old c.as_bytes-bytes.result.now (g.S.CharSource.characters c.append.new.self)
+      (g.S.CharSource.characters c.put_at_caret.new.source) d (kept c.put_at_caret.new.self) c.requires
+      c.in_ok-append.ensures.added reads.as_long (λ h. reads.same (premise.1 h)) c.in-Some.caret
+      (sym c.in-Some.ensures.is) c.in_ok-buffer.buffer c.in_ok-buffer.ensures
+      (changed_under (λ h. premise.1 h) c.in_ok-put_at_caret.ensures.changed)
+      (λ all. sym (c.fits_more.ensures all) ∙ c.if-not-fits_more.false));
+  unread = search (rules, g.met.S.CharSource.ground_self, g.met.S.CharSource.ground_through);
+  uses = search (rules, g.met.S.CharSource.ground_self, g.met.S.CharSource.ground_through);
+}

@@ -1,4 +1,4 @@
-use Rattle.std.proofs.Common.{◌∙◌, sym, subst}
+use Rattle.std.proofs.Common.{rules, ◌∙◌, sym, subst}
 use Rattle.piece_ring.specs.Flat.{flat}
 use Rattle.viewer_tracks.specs.Columns.{Columns, IsOnTop}
 use Rattle.desktop_definitions.specs.Looks.{IsLook}
@@ -10,14 +10,14 @@ use Rattle.desktop_laws.specs.LookedLaws.{look_at_looks, kept_text_looks}
 use Rattle.desktop_laws.specs.KeyLaws.{looks_taken_none, looks_taken_answered}
 use Rattle.desk_core.specs.Kept.{kept}
 use Rattle.desk_core.proofs.StretchLemmas.{refused_row}
-use Rattle.desk_core.proofs.UnreadLemmas.{refusal_is}
+use Rattle.desk_input.proofs.StillLemmas.{does_unread}
 use Rattle.desk_input.proofs.stretches.take_looks.Goals as goal
 
-pub returns-in_default-clause-answered : goal.returns-in_default-clause-answered
+pub returns-in_default : goal.returns-in_default
 unfolding seen
-returns-in_default-clause-answered g c =
-    refused_row c.requires.over known_no_selection
-    (looks_taken_none _ (sym c.selection.ensures.is ∙ c.in_default.is) _ _)
+returns-in_default g c =
+    does_unread g.S.CharSource g.met.S.CharSource.ground_self _ _ (kept c.args.desk.now) _ _ c.requires.over
+    (λ H all over. refused_row over known_no_selection (looks_taken_none _ (sym c.selection.ensures.is ∙ c.in_default.is) _ _))
 
 pub set_looks-requires-clause-look : goal.set_looks-requires-clause-look
 set_looks-requires-clause-look g c =
@@ -25,16 +25,15 @@ set_looks-requires-clause-look g c =
     subst IsLook (sym c.look_at-look.ensures) (look_at_looks c.args.pos (flat (kept_main d c.args.id))
     (kept_text_looks _ d (over_built _ d c.requires.over) (viewer_or_none d.viewers c.args.id).main))
 
-pub returns-clause-answered : goal.returns-clause-answered
-returns-clause-answered g c =
-    let stands = c.in-Some.ensures in
-    let set = c.in_ok-set_looks.ensures in
-    looks_taken_answered _ _ _ _ c.requires.over _ stands.some stands.stands.place _ _ _ c.look_at-look.ensures
-    (set.changed _ (over_built _ (kept c.args.desk.now) c.requires.over))
-    (subst (λ (columns : Columns). IsOnTop c.args.id columns) (sym set.columns) c.requires.at.placed)
-    c.requires.at.place (sym stands.is)
-
-pub returns-in_default-clause-unread : goal.returns-in_default-clause-unread
-unfolding seen
-returns-in_default-clause-unread g c h = λ all long.
-    refusal_is (looks_taken_none _ (sym c.selection.ensures.is ∙ c.in_default.is) _ _)
+pub returns : goal.returns
+returns g c = record {
+  answered =
+      let stands = c.in-Some.ensures in
+      let set = c.in_ok-set_looks.ensures in
+      looks_taken_answered _ _ _ _ c.requires.over _ stands.some stands.stands.place _ _ _ c.look_at-look.ensures
+      (set.changed _ (over_built _ (kept c.args.desk.now) c.requires.over))
+      (subst (λ (columns : Columns). IsOnTop c.args.id columns) (sym set.columns) c.requires.at.placed)
+      c.requires.at.place (sym stands.is);
+  unread = search (rules, g.met.S.CharSource.ground_self, g.met.S.CharSource.ground_through);
+  uses = search (rules, g.met.S.CharSource.ground_self, g.met.S.CharSource.ground_through);
+}

@@ -5,7 +5,8 @@ use Rattle.desktop_definitions.specs.declared.reply.Reply.TheVariants.{Done}
 use Rattle.piece_ring.specs.Look.{default_look}
 use Rattle.desktop_definitions.specs.Limits.{full, too_many_files}
 use Rattle.desktop_definitions.specs.Seen.{seen}
-use Rattle.desktop_definitions.specs.Step.{step, step_in}
+use Rattle.desktop_definitions.specs.Step.{step, step_in, raw}
+use Rattle.desktop_definitions.specs.Sound.{IsOver}
 use Rattle.desktop_definitions.specs.Change.{plain}
 use Rattle.desktop_laws.specs.StepLaws.{file_no_room, file_full}
 use Rattle.desktop_definitions.specs.Outcome.{IsAnswered}
@@ -15,70 +16,52 @@ use Rattle.desk_core.specs.Kept.{kept}
 use Rattle.desk_core.proofs.UnreadLemmas.{over_all}
 use Rattle.event_loop.proofs.events.put_file.Goals as goal
 
-pub returns-then-not-has_room-clause-answered : goal.returns-then-not-has_room-clause-answered
-unfolding seen step step_in
-returns-then-not-has_room-clause-answered g c =
-    let old = g.S.CharSource.characters c.args.source.now in
+pub returns-then-not-has_room : goal.returns-then-not-has_room
+unfolding seen brought StepsUnread step step_in raw
+returns-then-not-has_room g c =
     let d = kept c.args.desk.now in
-    refused _ old d _ too_many_files c.requires (search rules)
-    (λ h. file_no_room (seen old d) c.args.name.now c.args.bytes.now (c.requires.whole.sound old).shown
-    (sym (c.has_room.ensures old) ∙ c.if-not-has_room.true))
+    let none = λ (all : List ℕ). file_no_room (seen all d) c.args.name.now c.args.bytes.now (c.requires.whole.sound all).shown
+    (sym (c.has_room.ensures all) ∙ c.if-not-has_room.true) in
+    record {
+      answered = refused _ _ d _ too_many_files c.requires (search rules) (λ h. none _);
+      unread = λ h all long. none all;
+      uses = search (rules, g.met.S.CharSource.ground_self, g.met.S.CharSource.ground_through);
+    }
 
-pub returns-then-not-file_fits-clause-answered : goal.returns-then-not-file_fits-clause-answered
-unfolding seen step step_in
-returns-then-not-file_fits-clause-answered g c =
-    let old = g.S.CharSource.characters c.args.source.now in
+pub returns-then-not-file_fits : goal.returns-then-not-file_fits
+unfolding seen brought StepsUnread step step_in raw
+returns-then-not-file_fits g c =
     let d = kept c.args.desk.now in
     let bytes = c.args.bytes.now in
-    refused _ old d _ full c.requires (search rules)
-    (λ h. file_full (seen old d) c.args.name.now bytes (c.requires.whole.sound old).shown
-    (sym (c.has_room.ensures old) ∙ c.if-not-has_room.false)
-    (sym (c.file_fits.ensures.fits old (plain bytes)
-    (length_in_look default_look bytes ∙ ap length (sym c.as_bytes-bytes.ensures.value))) ∙ c.if-not-file_fits.true))
-
-pub returns-clause-answered : goal.returns-clause-answered
-unfolding seen step step_in
-returns-clause-answered g c =
-    let old = g.S.CharSource.characters c.args.source.now in
-    let new = g.S.CharSource.characters c.append.new.self in
-    let d = kept c.args.desk.now in
-    let bytes = c.as_bytes-bytes.result.now in
-    let name = c.args.name.now in
-    subst (λ (b : List ℕ). IsAnswered (g.S.CharSource.honest c.args.source.now) old new d
-    (record d { files = c.put.new.files.entries; written = c.args.desk.now.written + length bytes })
-    (step (seen old d) (File name b)) Done) c.as_bytes-bytes.ensures.value
-    (file_answered _ old bytes new d name c.in_ok-text.text c.put.new.files.entries c.requires c.in_ok-put.ensures.valid
-    c.in_ok-append.ensures.added c.in_ok-text.ensures c.in_ok-put.ensures.put
-    (λ characters text long. sym (c.file_fits.ensures.fits characters text long) ∙ c.if-not-file_fits.false)
-    (λ characters. sym (c.has_room.ensures characters) ∙ c.if-not-has_room.false))
-
-pub returns-then-not-has_room-clause-unread : goal.returns-then-not-has_room-clause-unread
-unfolding seen brought StepsUnread step
-returns-then-not-has_room-clause-unread g c = λ h all long.
-    let d = kept c.args.desk.now in
-    file_no_room (seen all d) c.args.name.now c.args.bytes.now (c.requires.whole.sound all).shown
-    (sym (c.has_room.ensures all) ∙ c.if-not-has_room.true)
-
-pub returns-then-not-file_fits-clause-unread : goal.returns-then-not-file_fits-clause-unread
-unfolding seen brought StepsUnread step
-returns-then-not-file_fits-clause-unread g c = λ h all long.
-    let d = kept c.args.desk.now in
-    let bytes = c.args.bytes.now in
-    file_full (seen all d) c.args.name.now bytes (c.requires.whole.sound all).shown
+    let none = λ (all : List ℕ). file_full (seen all d) c.args.name.now bytes (c.requires.whole.sound all).shown
     (sym (c.has_room.ensures all) ∙ c.if-not-has_room.false)
     (sym (c.file_fits.ensures.fits all (plain bytes)
-    (length_in_look default_look bytes ∙ ap length (sym c.as_bytes-bytes.ensures.value))) ∙ c.if-not-file_fits.true)
+    (length_in_look default_look bytes ∙ ap length (sym c.as_bytes-bytes.ensures.value))) ∙ c.if-not-file_fits.true) in
+    record {
+      answered = refused _ _ d _ full c.requires (search rules) (λ h. none _);
+      unread = λ h all long. none all;
+      uses = search (rules, g.met.S.CharSource.ground_self, g.met.S.CharSource.ground_through);
+    }
 
-pub returns-clause-unread : goal.returns-clause-unread
-unfolding seen brought StepsUnread step
-returns-clause-unread g c = λ h all long.
+pub returns : goal.returns
+unfolding seen brought StepsUnread step step_in raw
+returns g c =
     let d = kept c.args.desk.now in
     let bytes = c.as_bytes-bytes.result.now in
     let name = c.args.name.now in
+    let value = c.as_bytes-bytes.ensures.value in
     let after = record d { files = c.put.new.files.entries; written = c.args.desk.now.written + length bytes } in
-    let answered = file_answered ⊤ all bytes (all ++ bytes) d name c.in_ok-text.text c.put.new.files.entries
-    (over_all c.requires all long) c.in_ok-put.ensures.valid refl c.in_ok-text.ensures c.in_ok-put.ensures.put
+    let old = g.S.CharSource.characters c.args.source.now in
+    let new = g.S.CharSource.characters c.append.new.self in
+    let done = λ (H : Type 0) (all now : List ℕ) (over : IsOver all d) (added : now ≡ all ++ bytes).
+    file_answered H all bytes now d name c.in_ok-text.text c.put.new.files.entries over c.in_ok-put.ensures.valid
+    added c.in_ok-text.ensures c.in_ok-put.ensures.put
     (λ characters text long. sym (c.file_fits.ensures.fits characters text long) ∙ c.if-not-file_fits.false)
     (λ characters. sym (c.has_room.ensures characters) ∙ c.if-not-has_room.false) in
-    subst (λ (b : List ℕ). (seen (all ++ b) after, Done) ≡ step (seen all d) (File name b))
-    c.as_bytes-bytes.ensures.value (answered.exact tt)
+    record {
+      answered = subst (λ (b : List ℕ). IsAnswered (g.S.CharSource.honest c.args.source.now) old new d after
+          (step (seen old d) (File name b)) Done) value (done _ old new c.requires c.in_ok-append.ensures.added);
+      unread = λ h all long. subst (λ (b : List ℕ). (seen (all ++ b) after, Done) ≡ step (seen all d) (File name b)) value
+          ((done ⊤ all (all ++ bytes) (over_all c.requires all long) refl).exact tt);
+      uses = search (rules, g.met.S.CharSource.ground_self, g.met.S.CharSource.ground_through);
+    }

@@ -4,20 +4,17 @@ use Rattle.desktop_definitions.specs.Desktop.{Desktop}
 use Rattle.desktop_definitions.specs.Gesture.{menu_position}
 use Rattle.desktop_definitions.specs.Commands.{called}
 use Rattle.desk_core.specs.Kept.{kept}
-use Rattle.desk_commands.proofs.ReadFirst.{over_after, settles_after, uses_after}
+use Rattle.desk_commands.proofs.ReadFirst.{over_after}
+use Rattle.event_loop.proofs.ReadThen.{does_after}
 use Rattle.event_loop.proofs.gestures.call_in_menu.Goals as goal
 
 pub call-requires-clause-over : goal.call-requires-clause-over
 call-requires-clause-over g c =
     over_after g.S.CharSource _ _ (kept c.args.desk.now) c.in_ok-pos.ensures.told.reads c.requires.over
 
-pub returns-clause-answered : goal.returns-clause-answered
-returns-clause-answered g c =
-    settles_after g.S.CharSource (λ (x : Desktop) (p : ℕ). called (version_number c.args.version) x c.args.id true p)
-    (λ x. menu_position x c.args.id c.args.x) c.in_ok-pos.pos _ _ c.call.new.source (kept c.args.desk.now)
-    (kept c.call.new.desk) c.call.result c.in_ok-pos.ensures.told.reads c.in_ok-pos.ensures.told.exact c.call.ensures.answered
-
-pub returns-clause-uses : goal.returns-clause-uses
-returns-clause-uses g c =
-    uses_after g.S.CharSource g.met.S.CharSource.ground_through _ _ _ c.call.result c.in_ok-pos.ensures.told.reads
-    c.in_ok-pos.ensures.told.cause c.call.ensures.uses
+pub returns : goal.returns
+returns g c =
+    let told = c.in_ok-pos.ensures.told in
+    does_after g.S.CharSource g.met.S.CharSource.ground_through
+    (λ (x : Desktop) (p : ℕ). called (version_number c.args.version) x c.args.id true p)
+    (λ x. menu_position x c.args.id c.args.x) told.reads told.cause told.exact c.call.ensures

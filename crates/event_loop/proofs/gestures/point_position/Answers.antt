@@ -1,17 +1,12 @@
-use Rattle.std.specs.Prelude.{⊤}
+use Rattle.desk_core.specs.Kept.{kept}
 use Rattle.desk_core.proofs.ArmLemmas.{rest_done}
-use Rattle.desk_core.proofs.UnreadLemmas.{over_all}
+use Rattle.desk_input.proofs.StillLemmas.{does_unread}
 use Rattle.event_loop.proofs.GestureLemmas.{at_rest}
 use Rattle.event_loop.proofs.gestures.point_position.Goals as goal
 
-pub returns-in_default-clause-answered : goal.returns-in_default-clause-answered
-returns-in_default-clause-answered g c =
+pub returns-in_default : goal.returns-in_default
+returns-in_default g c =
     let other = c.in_default in
-    rest_done c.requires.over (at_rest _ _ _ _ _ other.not-Left other.not-LeftMiddle other.not-LeftRight
-    other.not-Middle)
-
-pub returns-in_default-clause-unread : goal.returns-in_default-clause-unread
-returns-in_default-clause-unread g c h = λ all long.
-    let other = c.in_default in
-    (rest_done {H = ⊤} (over_all c.requires.over all long) (at_rest _ _ _ _ _ other.not-Left other.not-LeftMiddle
-    other.not-LeftRight other.not-Middle)).exact tt
+    does_unread g.S.CharSource g.met.S.CharSource.ground_self _ _ (kept c.args.desk.now) _ _ c.requires.over
+    (λ H all over. rest_done over (at_rest _ _ _ _ _ other.not-Left other.not-LeftMiddle other.not-LeftRight
+    other.not-Middle))

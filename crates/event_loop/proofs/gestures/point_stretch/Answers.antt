@@ -1,8 +1,11 @@
+use Rattle.desk_core.specs.Kept.{kept}
 use Rattle.desk_core.proofs.ArmLemmas.{rest_done}
+use Rattle.desk_input.proofs.StillLemmas.{does_still}
 use Rattle.event_loop.proofs.GestureLemmas.{with_rest}
 use Rattle.event_loop.proofs.gestures.point_stretch.Goals as goal
 
-pub returns-in_default-clause-answered : goal.returns-in_default-clause-answered
-returns-in_default-clause-answered g c =
+pub returns-in_default : goal.returns-in_default
+returns-in_default g c =
     let other = c.in_default in
-    rest_done c.requires.over (with_rest _ _ _ other.not-Right other.not-RightLeft other.not-RightMiddle)
+    does_still g.S.CharSource g.met.S.CharSource.ground_self _ _ (kept c.args.desk.now) _ _ c.requires.over
+    (λ H all over. rest_done over (with_rest _ _ _ other.not-Right other.not-RightLeft other.not-RightMiddle))
