@@ -74,7 +74,7 @@ fn put_pieces<S: CharSource>(
             len: piece.len,
             look: piece.look,
         };
-        buffer.add(alloc, moved)?;
+        buffer.add(moved)?;
     }
     Ok(buffer)
 }
@@ -115,7 +115,7 @@ fn put_text<S: CharSource>(
 {
     let mut buffer = put_pieces(alloc, pieces_of(text), made, source)?;
     let mut new = Text::new(alloc)?;
-    new.append(alloc, &mut buffer)?;
+    new.append(&mut buffer)?;
     Ok(new)
 }
 

@@ -196,7 +196,7 @@ fn counted_pieces<S: ByteSource, H: Holder>(
     for _ in 0..count {
         let piece = piece_from(source, written, left)?;
         left -= piece.len;
-        pieces.put(alloc, piece)?;
+        pieces.put(piece)?;
     }
     *room = left;
     Ok(pieces)

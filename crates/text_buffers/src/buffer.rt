@@ -47,6 +47,11 @@ impl Buffer {
         self.ring.pieces()
     }
 
+    /// Where it has its memory.
+    pub fn alloc(&self) -> Global {
+        self.ring.alloc()
+    }
+
     /// A cursor before the character at `pos`, or at the end.
     pub fn cursor(&self, pos: u32) -> Cursor<'_>
         requires { pos ≤ length (flat self.now) }
@@ -58,13 +63,13 @@ impl Buffer {
     }
 
     /// Adds its characters to another buffer, at the end, and keeps them. If memory is refused the other buffer stays.
-    pub fn copy_to(&self, alloc: Global, other: &mut Buffer) -> Result<(), NoMemory>
+    pub fn copy_to(&self, other: &mut Buffer) -> Result<(), NoMemory>
         requires fits { length (flat other.old) + length (flat self.now) < 2 ^ 32 }
         ensures added { OnOk result (flat other.new ≡ flat other.old ++ flat self.now) }
         ensures refused { OnErr result (flat other.new ≡ flat other.old) }
     {
-        let copy = self.ring.copy(alloc, 0, self.ring.len())?;
-        other.append(alloc, copy)
+        let copy = self.ring.copy(0, self.ring.len())?;
+        other.append(copy)
     }
 
     /// Lets all characters go. It takes no memory.
@@ -75,34 +80,34 @@ impl Buffer {
     }
 
     /// Adds a piece at the end. If memory is refused the buffer stays.
-    pub fn add(&mut self, alloc: Global, piece: Piece) -> Result<(), NoMemory>
+    pub fn add(&mut self, piece: Piece) -> Result<(), NoMemory>
         requires whole { IsWhole piece }
         requires fits { length (flat self.old) + piece.len < 2 ^ 32 }
         ensures added { OnOk result (flat self.new ≡ flat self.old ++ characters_of piece) }
         ensures refused { OnErr result (flat self.new ≡ flat self.old) }
     {
-        self.ring.add(alloc, piece)
+        self.ring.add(piece)
     }
 
     /// Puts a piece at the end as it is, also where it could be one with the piece before it. If memory is refused the
     /// pieces stay.
-    pub fn push(&mut self, alloc: Global, piece: Piece) -> Result<(), NoMemory>
+    pub fn push(&mut self, piece: Piece) -> Result<(), NoMemory>
         requires whole { IsWhole piece }
         requires fits { length (flat self.old) + piece.len < 2 ^ 32 }
         ensures pieces { OnOk result (self.new ≡ self.old ++ piece ∷ []) }
         ensures refused { OnErr result (self.new ≡ self.old) }
     {
-        self.ring.push(alloc, piece)
+        self.ring.push(piece)
     }
 
     /// For layers that own rings: hands all characters out as a ring, and leaves none. If memory is
     /// refused the buffer stays.
-    pub fn take(&mut self, alloc: Global) -> Result<Ring, NoMemory>
+    pub fn take(&mut self) -> Result<Ring, NoMemory>
         ensures taken { IfOk result (λ r. flat r.pieces ≡ flat self.old) }
         ensures left { OnOk result (flat self.new ≡ []) }
         ensures refused { OnErr result (flat self.new ≡ flat self.old) }
     {
-        let none = Ring::new(alloc)?;
+        let none = Ring::new(self.ring.alloc())?;
         Ok(replace(&mut self.ring, none))
     }
 
@@ -116,13 +121,13 @@ impl Buffer {
 
     /// For layers that own rings: adds the ring's characters at the end. If memory is refused the buffer stays, and the
     /// ring is gone.
-    pub fn append(&mut self, alloc: Global, ring: Ring) -> Result<(), NoMemory>
+    pub fn append(&mut self, ring: Ring) -> Result<(), NoMemory>
         requires fits { length (flat self.old) + length (flat ring.pieces) < 2 ^ 32 }
         ensures added { OnOk result (flat self.new ≡ flat self.old ++ flat ring.pieces) }
         ensures refused { OnErr result (flat self.new ≡ flat self.old) }
     {
         let end = self.ring.len();
-        match self.ring.splice(alloc, end, ring) {
+        match self.ring.splice(end, ring) {
             Ok(()) => Ok(()),
             Err((refused, _ring)) => Err(refused),
         }
