@@ -3,17 +3,15 @@ use Rattle.std.proofs.Common.{◌≡◌, ◌⊎◌, inl, inr, ◌<◌, ℕ, Resu
 use Rattle.std.specs.Prelude.{⊤, OnOk, IfOk, IfErr, IsErrOf}
 use Rattle.std.proofs.lemmas.Result.{IfErr-weaker, IfErr-at_err, IfOk-at_ok}
 use Rattle.sector_disk.specs.declared.disk.Disk.{Ghosts}
-use Rattle.sector_disk.specs.Faults.{FailsAs}
 use Rattle.event_bytes.specs.declared.event.Event.{Event}
 use Rattle.desktop_definitions.specs.declared.reply.Reply.{Reply}
 use Rattle.store_layout.specs.declared.layout.TheConstants.{JOURNAL_EVENTS, LAYOUT}
 use Rattle.desk_slots.specs.declared.error.Error.{Error}
 use Rattle.desk_slots.specs.declared.error.Error.TheVariants.{NoMemory, Fault, MustReopen, Worn}
-use Rattle.desk_slots.specs.Device.{IsSameDevice, StaysWithin}
 use Rattle.desk_slots.specs.Errors.{OfCheckpoint, OfLook, OfPost}
 use Rattle.desk_journal.specs.Checkpointing.{IsCheckpointed, IsRenewed, LeavesDesktop}
 use Rattle.desk_journal.specs.Migrating.{ChecksFirst}
-use Rattle.desk_journal.specs.Posting.{HasRoom, IsAcknowledged, IsBroken, IsLast, IsPosted, IsStarved, IsUnusable}
+use Rattle.desk_journal.specs.Posting.{Behaves, HasRoom, IsAcknowledged, IsBroken, IsLast, IsPosted, IsStarved}
 use Rattle.desk_journal.specs.Posting.{LeavesEither, Needs, TurnsAway}
 use Rattle.desk_journal.specs.View.{StoreView}
 
@@ -47,28 +45,22 @@ new_room d old new renewed = (omega (arith, renewed.events), renewed.layout)
 -- what a checkpoint says clause by clause is all that it promises
 pub checkpoints : {D : Type 0} (d : Ghosts D) (answer : Result ⊤ Error) (old new : StoreView D)
     → LeavesDesktop d old new → OnOk answer (IsRenewed d old new) → (IsErrOf answer Fault → IsBroken new)
-    → TurnsAway (IsErrOf answer Worn) (IsLast old) old new → IsUnusable answer old new
-    → FailsAs Fault OfCheckpoint answer (d.failures old.disk) (d.failures new.disk)
-    → IsSameDevice d old.disk new.disk → StaysWithin d old.disk new.disk → IsCheckpointed d answer old new
-checkpoints d answer old new any_moment ok fault worn reopen faults device within = record {
+    → TurnsAway (IsErrOf answer Worn) (IsLast old) old new → Behaves d OfCheckpoint answer old new
+    → IsCheckpointed d answer old new
+checkpoints d answer old new any_moment ok fault worn behaves = record {
   any_moment = any_moment;
   ok = ok;
   fault = fault;
   worn = worn;
-  reopen = reopen;
-  faults = faults;
-  device = device;
-  within = within;
+  behaves = behaves;
 }
 
 module _ {D : Type 0} (d : Ghosts D) (event : Event) (answer : Result Reply Error) where
   -- what the rest of a post says is what a post to a store with room says
   pub put_posts : (mid new : StoreView D) → HasRoom mid → LeavesEither d event mid new
       → IfOk answer (λ reply. IsAcknowledged d event reply mid new) → (IsErrOf answer NoMemory → IsStarved d mid new)
-      → (IsErrOf answer Fault → IsBroken new) → IsUnusable answer mid new
-      → FailsAs Fault OfLook answer (d.failures mid.disk) (d.failures new.disk) → IsSameDevice d mid.disk new.disk
-      → StaysWithin d mid.disk new.disk → IsPosted d event answer mid new
-  put_posts mid new room any_moment ok memory fault reopen faults device within = record {
+      → (IsErrOf answer Fault → IsBroken new) → Behaves d OfLook answer mid new → IsPosted d event answer mid new
+  put_posts mid new room any_moment ok memory fault behaves = record {
     any_moment = any_moment;
     ok = ok;
     memory = memory;
@@ -78,18 +70,20 @@ module _ {D : Type 0} (d : Ghosts D) (event : Event) (answer : Result Reply Erro
       always = λ both. absurd (no_need mid room both.1);
       unchanged = λ is. absurd (never is);
     };
-    reopen = reopen;
-    faults = record {
-      rose = faults.rose;
-      calm = faults.calm;
-      errors = IfErr-weaker answer OfLook OfPost widened faults.errors;
+    behaves = record {
+      reopen = behaves.reopen;
+      faults = record {
+        rose = behaves.faults.rose;
+        calm = behaves.faults.calm;
+        errors = IfErr-weaker answer OfLook OfPost widened behaves.faults.errors;
+      };
+      device = behaves.device;
+      within = behaves.within;
     };
-    device = device;
-    within = within;
   }
     where
       never : IsErrOf answer Worn → ⊥
-      never is = not_worn (IfErr-at_err OfLook is faults.errors)
+      never is = not_worn (IfErr-at_err OfLook is behaves.faults.errors)
 
   -- the checkpoint is done, and the rest of the post follows
   pub done_first : (old mid new : StoreView D) {outcome : Result ⊤ Error} {unit : ⊤} → outcome ≡ Ok unit

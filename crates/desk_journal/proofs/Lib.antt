@@ -1,4 +1,5 @@
 pub mod Due
 pub mod Storing
 pub mod Passing
+pub mod Prefixes
 mod Between

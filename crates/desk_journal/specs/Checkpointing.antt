@@ -2,14 +2,12 @@
 use Rattle.std.specs.Prelude.{◌≡◌, ◌+◌, Result, OnOk, IsErrOf, false}
 use Rattle.sector_disk.specs.declared.disk.Disk.{Ghosts}
 use Rattle.sector_disk.specs.Trail.{LeavesOnly}
-use Rattle.sector_disk.specs.Faults.{FailsAs}
 use Rattle.store_layout.specs.declared.layout.TheConstants.{LAYOUT}
 use Rattle.store_layout.specs.Meaning.{Means}
 use Rattle.desk_slots.specs.declared.error.Error.{Error}
 use Rattle.desk_slots.specs.declared.error.Error.TheVariants.{Fault, Worn}
-use Rattle.desk_slots.specs.Device.{IsSameDevice, StaysWithin}
 use Rattle.desk_slots.specs.Errors.{OfCheckpoint}
-use Rattle.desk_journal.specs.Posting.{TurnsAway, IsBroken, IsLast, IsUnusable}
+use Rattle.desk_journal.specs.Posting.{TurnsAway, IsBroken, IsLast, Behaves}
 use Rattle.desk_journal.specs.View.{StoreView, IsDurable}
 
 module _ {D : Type 0} (d : Ghosts D) where
@@ -35,7 +33,4 @@ module _ {D : Type 0} (d : Ghosts D) where
     pub ok : OnOk answer (IsRenewed old new)
     pub fault : IsErrOf answer Fault → IsBroken new
     pub worn : TurnsAway (IsErrOf answer Worn) (IsLast old) old new
-    pub reopen : IsUnusable answer old new
-    pub faults : FailsAs Fault OfCheckpoint answer (d.failures old.disk) (d.failures new.disk)
-    pub device : IsSameDevice d old.disk new.disk
-    pub within : StaysWithin d old.disk new.disk
+    pub behaves : Behaves d OfCheckpoint answer old new

@@ -7,3 +7,4 @@ pub mod Posting
 pub mod Checkpointing
 pub mod Looking
 pub mod Migrating
+pub mod Prefixes

@@ -49,6 +49,15 @@ abbrev pub IsUnusable : {D T : Type 0} → Result T Error → StoreView D → St
 IsUnusable answer old new = TurnsAway (IsErrOf answer MustReopen) (old.must_reopen ≡ true) old new
 
 module _ {D : Type 0} (d : Ghosts D) where
+  -- A call that may write, whatever it returns: MustReopen changes nothing, Fault comes exactly where a failure was
+  -- counted, each error is one of the call's, and the device stays what it was past the sectors of a store.
+  pub record Behaves {T : Type 0} (OfCall : Error → Type 0) (answer : Result T Error) (old new : StoreView D)
+      : Type 0 where
+    pub reopen : IsUnusable answer old new
+    pub faults : FailsAs Fault OfCall answer (d.failures old.disk) (d.failures new.disk)
+    pub device : IsSameDevice d old.disk new.disk
+    pub within : StaysWithin d old.disk new.disk
+
   -- at every moment of the call a crash leaves the desktop from before it or the one after the event
   abbrev pub LeavesEither : Event → StoreView D → StoreView D → Type 0
   LeavesEither event old new = old.must_reopen ≡ false → d.honest old.disk
@@ -86,7 +95,4 @@ module _ {D : Type 0} (d : Ghosts D) where
     pub memory : IsErrOf answer NoMemory → IsStarved old new
     pub fault : IsErrOf answer Fault → IsBroken new
     pub worn : IsWorn answer old new
-    pub reopen : IsUnusable answer old new
-    pub faults : FailsAs Fault OfPost answer (d.failures old.disk) (d.failures new.disk)
-    pub device : IsSameDevice d old.disk new.disk
-    pub within : StaysWithin d old.disk new.disk
+    pub behaves : Behaves OfPost answer old new

@@ -5,7 +5,7 @@
 ghost use Rattle.std.specs.Prelude.{◌≡◌, ◌<◌, ◌≤◌, ◌↔◌, true, false, Ok, Err, None, IfOk, IfErr, OnOk, IsErrOf};
 ghost use Rattle.std.specs.Prelude.{option_map, IsTrue};
 ghost use Rattle.desktop_definitions.specs.Desktop.{empty_desktop, file_of};
-ghost use Rattle.desk_slots.specs.Device.{IsOnlyRead, IsSameDevice, StaysWithin, disk_after, outcome};
+ghost use Rattle.desk_slots.specs.Device.{IsOnlyRead, StaysWithin, disk_after, outcome};
 ghost use Rattle.desk_slots.specs.Errors.{OfFormat, OfOpen, OfPost, OfLook, OfCheckpoint};
 ghost use Rattle.desk_journal.specs.Looking.{OnlyLooks};
 ghost use Rattle.store_layout.specs.Meaning.{Shows};
@@ -13,7 +13,7 @@ ghost use Rattle.store_layout.specs.declared.layout.TheConstants.{FIRST_LAYOUT};
 ghost use Rattle.desk_journal.specs.Checkpointing.{LeavesDesktop, IsRenewed};
 ghost use Rattle.desk_journal.specs.Opening.{IsOpened, IsNoStore};
 ghost use Rattle.desk_journal.specs.Posting.{LeavesEither, IsAcknowledged, IsStarved, IsBroken, IsLast, IsWorn};
-ghost use Rattle.desk_journal.specs.Posting.{HasRoom, IsUnusable, Needs, TurnsAway};
+ghost use Rattle.desk_journal.specs.Posting.{Behaves, HasRoom, Needs, TurnsAway};
 ghost use Rattle.desk_journal.specs.Migrating.{ChecksFirst};
 ghost use Rattle.command_table.specs.Versions.{version_number};
 ghost use Rattle.desk_journal.specs.View.{IsDurable};
@@ -174,10 +174,7 @@ impl<D: Disk> Store<D> {
         ensures memory { IsErrOf result Error.NoMemory → IsStarved D.Disk self.old self.new }
         ensures fault { IsErrOf result Error.Fault → IsBroken self.new }
         ensures worn { IsWorn result self.old self.new }
-        ensures reopen { IsUnusable result self.old self.new }
-        ensures faults { FailsAs Error.Fault OfPost result (D.failures self.old.disk) (D.failures self.new.disk) }
-        ensures device { IsSameDevice D.Disk self.old.disk self.new.disk }
-        ensures within { StaysWithin D.Disk self.old.disk self.new.disk }
+        ensures behaves { Behaves D.Disk OfPost result self.old self.new }
         ensures first { self.old.must_reopen ≡ false → Needs self.old
             → ChecksFirst D.Disk event.now result self.old self.new }
     {
@@ -202,10 +199,7 @@ impl<D: Disk> Store<D> {
         ensures ok { IfOk result (λ reply. IsAcknowledged D.Disk event.now reply self.old self.new) }
         ensures memory { IsErrOf result Error.NoMemory → IsStarved D.Disk self.old self.new }
         ensures fault { IsErrOf result Error.Fault → IsBroken self.new }
-        ensures reopen { IsUnusable result self.old self.new }
-        ensures faults { FailsAs Error.Fault OfLook result (D.failures self.old.disk) (D.failures self.new.disk) }
-        ensures device { IsSameDevice D.Disk self.old.disk self.new.disk }
-        ensures within { StaysWithin D.Disk self.old.disk self.new.disk }
+        ensures behaves { Behaves D.Disk OfLook result self.old self.new }
     {
         if self.must_reopen {
             return Err(Error::MustReopen);
@@ -233,10 +227,7 @@ impl<D: Disk> Store<D> {
         ensures ok { OnOk result (IsRenewed D.Disk self.old self.new) }
         ensures fault { IsErrOf result Error.Fault → IsBroken self.new }
         ensures worn { TurnsAway (IsErrOf result Error.Worn) (IsLast self.old) self.old self.new }
-        ensures reopen { IsUnusable result self.old self.new }
-        ensures faults { FailsAs Error.Fault OfCheckpoint result (D.failures self.old.disk) (D.failures self.new.disk) }
-        ensures device { IsSameDevice D.Disk self.old.disk self.new.disk }
-        ensures within { StaysWithin D.Disk self.old.disk self.new.disk }
+        ensures behaves { Behaves D.Disk OfCheckpoint result self.old self.new }
     {
         if self.must_reopen {
             return Err(Error::MustReopen);

@@ -65,12 +65,5 @@ fn sit<D: Disk + Drop>(rt: &HostRuntime, rows: u16, store: Store<D>, greeting: S
 {
     let mut store = store;
     let mut keyboard = DeskKeyboard::new(rt, StandardInput::new(rt.stdin()));
-    serve(
-        rt.alloc(),
-        &mut keyboard,
-        &mut rt.stdout(),
-        &mut store,
-        rows,
-        greeting,
-    )
+    serve(&mut keyboard, &mut rt.stdout(), &mut store, rows, greeting)
 }

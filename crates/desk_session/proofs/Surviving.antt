@@ -2,8 +2,6 @@
 use Rattle.std.proofs.Common.{◌≡◌, ◌≤◌, ◌+◌, ℕ, Bool, true, false, List, [], ◌∷◌, ◌++◌, length, take, inl, inr}
 use Rattle.std.proofs.Common.{refl, sym, ◌∙◌, ap, subst, arith, length-append, append_assoc, append-nil}
 use Rattle.std.specs.Prelude.{if◌then◌else◌, Option, Some, None}
-use Rattle.std.proofs.lemmas.List.{take-append-le}
-use Rattle.std.proofs.Math.Seq.{take-length, take-append-add}
 use Rattle.sector_disk.specs.declared.disk.Disk.{Ghosts}
 use Rattle.sector_disk.specs.Trail.{Content, now, Leaves, LeavesOnly}
 use Rattle.sector_disk.proofs.Touching.{weakened, chained, at_last}
@@ -14,8 +12,11 @@ use Rattle.store_layout.specs.Meaning.{Means, MeansEither}
 use Rattle.desk_journal.specs.Device.{IsSameDevice}
 use Rattle.desk_journal.specs.Errors.{Error, NoMemory, Fault as DiskFault}
 use Rattle.desk_journal.specs.Session.{Session, is_worn}
+use Rattle.desk_journal.specs.Prefixes.{MeansPrefix}
 use Rattle.desk_journal.specs.View.{StoreView, IsDurable}
 use Rattle.desk_journal.proofs.Passing.{at_start, shows_means}
+use Rattle.desk_journal.proofs.Prefixes.{steps_both, whole_prefix, no_prefix, fewer_acknowledged, prefix_of_more}
+use Rattle.desk_journal.proofs.Prefixes.{prefix_behind}
 use Rattle.terminal_presses.specs.declared.action.Action.{Action}
 use Rattle.terminal_presses.specs.declared.action.Action.TheVariants as action
 use Rattle.terminal_presses.specs.declared.press.Press.{Press}
@@ -30,15 +31,11 @@ use Rattle.desk_session.specs.Serving.{TurnState, IsLookedAt, Turns, IsRun, Brok
 use Rattle.desk_session.specs.Serving.{none as no_turn, one_more as one_more_turn}
 use Rattle.desk_session.specs.Serving.{left, closed, unheard, unseen, faulty, starved, faulty_press, starved_press}
 use Rattle.desk_session.specs.Serving.{stopped, too_long}
-use Rattle.desk_session.specs.Surviving.{MeansPrefix, Survives, GoesBy, SurvivesEnd}
+use Rattle.desk_session.specs.Surviving.{Survives, GoesBy, SurvivesEnd}
 use Rattle.desk_session.specs.Surviving.{FramesSurvive, TurnsSurvive, EndsSurvive}
 use Rattle.desk_session.proofs.Turning.{same_device}
 
 -- ---- the events of presses
-
-steps_both : (d : Desktop) (some more : List Event) → steps d (some ++ more) ≡ steps (steps d some) more
-steps_both d [] more = refl
-steps_both d (event ∷ some) more = steps_both (step d event).0 some more
 
 accepted_more : (presses : List Press) (press : Press) (d : Desk)
     → accepted (presses ++ press ∷ []) d ≡ accepted presses d ++ accepted_of press (after_presses presses d)
@@ -78,62 +75,6 @@ few_accepted press d =
     let a : Action = (handled d.sitting.sight press d.sitting.hand).1 in
     none_or d.sitting.leaves (if is_worn d.session then [] else posts a d)
     (none_or (is_worn d.session) (posts a d) (few_posts a d))
-
--- ---- what an image means
-
--- all of the events are there, and none that was begun
-whole_prefix : (size : ℕ) (desktop : Desktop) (events begun : List Event) (c : Content)
-    → Means size (steps desktop events) c → MeansPrefix size desktop events (events ++ begun) c
-whole_prefix size desktop events begun c means = record {
-  count = length events;
-  none_lost = omega arith;
-  within = omega (arith, length-append events begun);
-  means = subst (λ es. Means size (steps desktop es) c)
-      (sym (take-append-le (length events) events begun (omega arith) ∙ take-length events)) means;
-}
-
--- none of them is there
-no_prefix : (size : ℕ) (desktop : Desktop) (events : List Event) (c : Content) → Means size desktop c
-    → MeansPrefix size desktop [] events c
-no_prefix size desktop events c means = record {
-  count = 0;
-  none_lost = omega arith;
-  within = omega arith;
-  means = means;
-}
-
--- fewer events count as acknowledged
-fewer_acknowledged : (size : ℕ) (desktop : Desktop) (acknowledged events : List Event) (c : Content)
-    → MeansPrefix size desktop acknowledged events c → MeansPrefix size desktop [] events c
-fewer_acknowledged size desktop acknowledged events c p = record {
-  count = p.count;
-  none_lost = omega arith;
-  within = p.within;
-  means = p.means;
-}
-
--- more events follow
-prefix_of_more : (size : ℕ) (desktop : Desktop) (acknowledged events more : List Event) (c : Content)
-    → MeansPrefix size desktop acknowledged events c → MeansPrefix size desktop acknowledged (events ++ more) c
-prefix_of_more size desktop acknowledged events more c p = record {
-  count = p.count;
-  none_lost = p.none_lost;
-  within = omega (arith, length-append events more, p.within);
-  means = subst (λ es. Means size (steps desktop es) c) (sym (take-append-le p.count events more p.within)) p.means;
-}
-
--- events went before
-prefix_behind : (size : ℕ) (desktop : Desktop) (first acknowledged events : List Event) (c : Content)
-    → MeansPrefix size (steps desktop first) acknowledged events c
-    → MeansPrefix size desktop (first ++ acknowledged) (first ++ events) c
-prefix_behind size desktop first acknowledged events c p = record {
-  count = length first + p.count;
-  none_lost = omega (arith, length-append first acknowledged, p.none_lost);
-  within = omega (arith, length-append first events, p.within);
-  means = subst (λ e. Means size e c)
-      (sym (steps_both desktop first (take p.count events))
-      ∙ ap (steps desktop) (sym (take-append-add first events p.count))) p.means;
-}
 
 module _ {D : Type 0} (d : Ghosts D) where
   -- ---- one after another

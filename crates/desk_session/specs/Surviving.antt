@@ -1,26 +1,18 @@
 -- What a crash leaves of a sitting: the desktop that was shown, after the first of the events accepted since then. `d`
 -- is what is known of a disk.
-use Rattle.std.specs.Prelude.{◌≡◌, ◌≢◌, ◌≤◌, ℕ, List, [], ◌++◌, length, take}
+use Rattle.std.specs.Prelude.{◌≡◌, ◌≢◌, ◌≤◌, ℕ, List, [], ◌++◌, length}
 use Rattle.sector_disk.specs.declared.disk.Disk.{Ghosts}
-use Rattle.sector_disk.specs.Trail.{Content, now, Leaves, LeavesOnly}
+use Rattle.sector_disk.specs.Trail.{now, Leaves, LeavesOnly}
 use Rattle.event_bytes.specs.declared.event.Event.{Event}
-use Rattle.desktop_definitions.specs.Desktop.{Desktop}
 use Rattle.desktop_definitions.specs.Step.{steps}
 use Rattle.store_layout.specs.Meaning.{Means}
 use Rattle.desk_journal.specs.Device.{IsSameDevice}
+use Rattle.desk_journal.specs.Prefixes.{MeansPrefix}
 use Rattle.desk_journal.specs.View.{StoreView, IsDurable}
 use Rattle.terminal_presses.specs.declared.press.Heard.{Heard}
 use Rattle.desk_session.specs.declared.ending.Ending.{Ending}
 use Rattle.desk_session.specs.declared.ending.Ending.TheVariants.{Fault, Memory}
 use Rattle.desk_session.specs.Serving.{TurnState, IsHeard, IsRun, Ends}
-
--- The content means the desktop after some of these events, the first of them and none left out, and among them every
--- event that was acknowledged.
-pub record MeansPrefix (size : ℕ) (desktop : Desktop) (acknowledged events : List Event) (c : Content) : Type 0 where
-  pub count : ℕ
-  pub none_lost : length acknowledged ≤ count
-  pub within : count ≤ length events
-  pub means : Means size (steps desktop (take count events)) c
 
 module _ {D : Type 0} (d : Ghosts D) where
   -- Between two moments of a store a crash leaves the desktop of the first, after a prefix of the events that were

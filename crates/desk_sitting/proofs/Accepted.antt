@@ -11,6 +11,7 @@ use Rattle.desktop_definitions.specs.Shown.{shown_screen}
 use Rattle.desktop_definitions.specs.Step.{step, steps}
 use Rattle.store_layout.specs.Bits.{true_or_false}
 use Rattle.desk_journal.specs.Session.{Session, is_due, is_worn, renewed, stepped, taken}
+use Rattle.desk_journal.proofs.Prefixes.{steps_both}
 use Rattle.terminal_presses.specs.declared.press.Press.{Press}
 use Rattle.terminal_presses.specs.declared.action.Action.{Action}
 use Rattle.terminal_presses.specs.declared.action.Action.TheVariants as action
@@ -19,10 +20,6 @@ use Rattle.desk_sitting.specs.declared.sitting.Sitting.{Sitting}
 use Rattle.desk_sitting.specs.Aims.{aimed}
 use Rattle.desk_sitting.specs.Sittings.{Desk, acted, clicked, posted, after_press, click_at, posts}
 use Rattle.desk_sitting.specs.Sittings.{accepted, accepted_of, PressesAreSteps}
-
-steps_both : (d : Desktop) (some more : List Event) → steps d (some ++ more) ≡ steps (steps d some) more
-steps_both d [] more = refl
-steps_both d (event ∷ some) more = steps_both (step d event).0 some more
 
 -- ---- one event
 

@@ -13,7 +13,6 @@ use desktop_definitions::Reply;
 use event_bytes::{Event, Keys};
 use screen_cells::Screen;
 use sector_disk::Disk;
-use std::alloc::Global;
 use terminal_presses::{Action, Arrow, Hand, HostName, Press, Sight};
 
 /// What a sitting knows beside the store: the hand, the rows in sight, the line below, and what is to be done when the
@@ -120,12 +119,7 @@ impl Sitting {
     ///
     /// Errors: `NoMemory`, where memory runs out, and an event of the press is on the disk in no image; `Fault`, where
     /// the disk fails, and it may be there or not.
-    pub(crate) fn press<D: Disk>(
-        &mut self,
-        alloc: Global,
-        press: Press,
-        store: &mut Store<D>,
-    ) -> Result<(), Error>
+    pub(crate) fn press<D: Disk>(&mut self, press: Press, store: &mut Store<D>) -> Result<(), Error>
         requires { store.old.must_reopen ≡ false }
         ensures { Takes D.Disk (after_press press (desk_of self.old store.old)) result self.new store.old store.new }
     {
@@ -133,16 +127,11 @@ impl Sitting {
             return Ok(());
         }
         let action = self.hand.take(self.sight, press);
-        self.act(alloc, action, store)
+        self.act(action, store)
     }
 
     /// Does what a press comes to.
-    fn act<D: Disk>(
-        &mut self,
-        alloc: Global,
-        action: Action,
-        store: &mut Store<D>,
-    ) -> Result<(), Error>
+    fn act<D: Disk>(&mut self, action: Action, store: &mut Store<D>) -> Result<(), Error>
         requires { store.old.must_reopen ≡ false }
         ensures { Takes D.Disk (acted action (desk_of self.old store.old)) result self.new store.old store.new }
     {

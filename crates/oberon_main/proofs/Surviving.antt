@@ -1,10 +1,8 @@
 -- What a crash leaves of lines that are served, one after another, in events.
 use Rattle.std.proofs.Common.{◌≡◌, inl, inr, ℕ, ◌+◌, ◌≤◌, Bool, true, false, List, [], ◌∷◌, ◌++◌, length, take}
-use Rattle.std.proofs.Common.{refl, sym, ◌∙◌, ap, subst, arith, length-append, append_assoc}
+use Rattle.std.proofs.Common.{refl, sym, ◌∙◌, ap, subst, arith, append_assoc, append-nil}
 use Rattle.std.specs.Prelude.{if◌then◌else◌}
 use Rattle.std.proofs.lemmas.Bool.{cond-true, cond-false}
-use Rattle.std.proofs.lemmas.List.{take-append-le}
-use Rattle.std.proofs.Math.Seq.{take-length, take-append-add}
 use Rattle.sector_disk.specs.declared.disk.Disk.{Ghosts}
 use Rattle.sector_disk.specs.Trail.{Content, now, Leaves, LeavesOnly}
 use Rattle.sector_disk.proofs.Touching.{weakened, chained, at_last}
@@ -17,23 +15,22 @@ use Rattle.store_layout.specs.declared.layout.TheConstants.{JOURNAL_EVENTS}
 use Rattle.desk_journal.specs.Checkpointing.{LeavesDesktop}
 use Rattle.desk_journal.specs.Device.{IsOnlyRead, IsSameDevice}
 use Rattle.desk_journal.specs.Posting.{LeavesEither, Needs, TurnsAway, IsLast}
+use Rattle.desk_journal.specs.Prefixes.{MeansPrefix}
 use Rattle.desk_journal.specs.View.{StoreView, IsDurable}
 use Rattle.desk_journal.proofs.Passing.{at_start, shows_means}
+use Rattle.desk_journal.proofs.Prefixes.{steps_both, whole_prefix, no_prefix, fewer_acknowledged, prefix_of_more}
+use Rattle.desk_journal.proofs.Prefixes.{prefix_behind}
 use Rattle.script_lines.specs.declared.request.Request.{Request}
 use Rattle.script_lines.specs.declared.request.Request.TheVariants.{Post, Checkpoint, Show, Listing, Display, Malformed}
 use Rattle.script_lines.specs.Request.{request_of}
 use Rattle.desk_journal.specs.Session.{Session, is_due, is_last, is_worn, renewed, stepped}
 use Rattle.oberon_main.specs.Answers.{after, after_all}
 use Rattle.desk_journal.specs.Session.{session_of}
-use Rattle.oberon_main.specs.Surviving.{posted, accepted, LinesAreSteps, MeansPrefix, KeepsAnswered, Withstands, Spares}
+use Rattle.oberon_main.specs.Surviving.{posted, accepted, LinesAreSteps, MeansLines, KeepsAnswered, Withstands, Spares}
 use Rattle.oberon_main.specs.ByLines.{Lasts, LeavesLine, Serves}
 use Rattle.oberon_main.proofs.Sessions.{worn_parts}
 
 -- ---- the events of lines
-
-steps_both : (d : Desktop) (some more : List Event) → steps d (some ++ more) ≡ steps (steps d some) more
-steps_both d [] more = refl
-steps_both d (event ∷ some) more = steps_both (step d event).0 some more
 
 -- whether or not a checkpoint comes first, an event that is accepted is one step
 pub stepped_once : (s : Session) (event : Event) → is_worn s ≡ false
@@ -98,74 +95,30 @@ accepted_both s (line ∷ lines) more =
 -- ---- what an image means
 
 -- all the events of the lines are there
-whole_prefix : (size : ℕ) (s : Session) (lines : List (List ℕ)) (c : Content)
-    → Means size (after_all s lines).desktop c → MeansPrefix size s lines lines c
-whole_prefix size s lines c means = record {
-  count = length (accepted s lines);
-  none_lost = omega arith;
-  within = omega arith;
-  means = subst (λ d. Means size d c)
-      (lines_steps s lines ∙ ap (steps s.desktop) (sym (take-length (accepted s lines)))) means;
-}
-
--- no event is there
-no_prefix : (size : ℕ) (s : Session) (lines : List (List ℕ)) (c : Content)
-    → Means size s.desktop c → MeansPrefix size s [] lines c
-no_prefix size s lines c means = record {
-  count = 0;
-  none_lost = omega arith;
-  within = omega arith;
-  means = means;
-}
-
--- fewer lines count as answered
-fewer_answered : (size : ℕ) (s : Session) (answered lines : List (List ℕ)) (c : Content)
-    → MeansPrefix size s answered lines c → MeansPrefix size s [] lines c
-fewer_answered size s answered lines c p = record {
-  count = p.count;
-  none_lost = omega arith;
-  within = p.within;
-  means = p.means;
-}
+all_lines : (size : ℕ) (s : Session) (lines : List (List ℕ)) (c : Content)
+    → Means size (after_all s lines).desktop c → MeansLines size s lines lines c
+all_lines size s lines c means =
+    subst (λ es. MeansPrefix size s.desktop (accepted s lines) es c) (append-nil (accepted s lines))
+    (whole_prefix size s.desktop (accepted s lines) [] c (subst (λ d. Means size d c) (lines_steps s lines) means))
 
 -- more lines follow
-prefix_of_more : (size : ℕ) (s : Session) (answered lines more : List (List ℕ)) (c : Content)
-    → MeansPrefix size s answered lines c → MeansPrefix size s answered (lines ++ more) c
-prefix_of_more size s answered lines more c p =
-    let later = accepted (after_all s lines) more in
-    let both : accepted s (lines ++ more) ≡ accepted s lines ++ later = accepted_both s lines more in
-    let long : length (accepted s (lines ++ more)) ≡ length (accepted s lines) + length later = ap length both
-    ∙ length-append (accepted s lines) later in
-    record {
-      count = p.count;
-      none_lost = p.none_lost;
-      within = omega (arith, long, p.within);
-      means = subst (λ es. Means size (steps s.desktop es) c)
-          (sym (ap (take p.count) both ∙ take-append-le p.count (accepted s lines) later p.within)) p.means;
-    }
+more_follow : (size : ℕ) (s : Session) (answered lines more : List (List ℕ)) (c : Content)
+    → MeansLines size s answered lines c → MeansLines size s answered (lines ++ more) c
+more_follow size s answered lines more c p =
+    subst (λ es. MeansPrefix size s.desktop (accepted s answered) es c) (sym (accepted_both s lines more))
+    (prefix_of_more size s.desktop (accepted s answered) (accepted s lines) (accepted (after_all s lines) more) c p)
 
 -- lines went before
-prefix_behind : (size : ℕ) (s : Session) (lines answered more : List (List ℕ)) (c : Content)
-    → MeansPrefix size (after_all s lines) answered more c → MeansPrefix size s (lines ++ answered) (lines ++ more) c
-prefix_behind size s lines answered more c p =
-    let first = accepted s lines in
-    let later = accepted (after_all s lines) more in
-    let both : accepted s (lines ++ more) ≡ first ++ later = accepted_both s lines more in
-    let long : length (accepted s (lines ++ more)) ≡ length first + length later = ap length both
-    ∙ length-append first later in
-    let told : length (accepted s (lines ++ answered)) ≡ length first
-    + length (accepted (after_all s lines) answered) = ap length (accepted_both s lines answered)
-    ∙ length-append first (accepted (after_all s lines) answered) in
-    record {
-      count = length first + p.count;
-      none_lost = omega (arith, told, p.none_lost);
-      within = omega (arith, long, p.within);
-      means = subst (λ d. Means size d c)
-          (ap (λ d. steps d (take p.count later)) (lines_steps s lines)
-          ∙ sym (steps_both s.desktop first (take p.count later))
-          ∙ ap (steps s.desktop) (sym (ap (take (length first + p.count)) both
-          ∙ take-append-add first later p.count))) p.means;
-    }
+lines_behind : (size : ℕ) (s : Session) (lines answered more : List (List ℕ)) (c : Content)
+    → MeansLines size (after_all s lines) answered more c → MeansLines size s (lines ++ answered) (lines ++ more) c
+lines_behind size s lines answered more c p =
+    let next = after_all s lines in
+    let some = accepted next answered in
+    let all = accepted next more in
+    subst (λ es. MeansPrefix size s.desktop (accepted s (lines ++ answered)) es c) (sym (accepted_both s lines more))
+    (subst (λ es. MeansPrefix size s.desktop es (accepted s lines ++ all) c) (sym (accepted_both s lines answered))
+    (prefix_behind size s.desktop (accepted s lines) some all c
+    (subst (λ d. MeansPrefix size d some all c) (lines_steps s lines) p)))
 
 -- ---- one line
 
@@ -185,19 +138,19 @@ module _ {D : Type 0} (d : Ghosts D) where
   pub no_line : (store : StoreView D) → Lasts d store → KeepsAnswered d [] [] store store
   no_line store lasts =
       let means = lasting_means store lasts in
-      let prefix : Leaves (now (d.trail store.disk)) (MeansPrefix (d.size store.disk) (session_of store) [] [])
-      = λ c image. no_prefix (d.size store.disk) (session_of store) [] c (means c image) in
+      let prefix : Leaves (now (d.trail store.disk)) (MeansLines (d.size store.disk) (session_of store) [] [])
+      = λ c image. no_prefix (d.size store.disk) store.desktop [] c (means c image) in
       record {
-        any_moment = at_start (d.trail store.disk) (MeansPrefix (d.size store.disk) (session_of store) [] []) prefix;
+        any_moment = at_start (d.trail store.disk) (MeansLines (d.size store.disk) (session_of store) [] []) prefix;
         at_last = prefix;
       }
 
   line_moments : (old new : StoreView D) (line : List ℕ) → LeavesLine d line old new
-      → LeavesOnly (d.trail old.disk) (d.trail new.disk) (MeansPrefix (d.size old.disk) (session_of old) [] (line ∷ []))
+      → LeavesOnly (d.trail old.disk) (d.trail new.disk) (MeansLines (d.size old.disk) (session_of old) [] (line ∷ []))
   line_moments old new line moments = weakened moments (λ c either. elim either [
-    | inl means ↦ no_prefix (d.size old.disk) (session_of old) (line ∷ []) c means
-    | inr means ↦ fewer_answered (d.size old.disk) (session_of old) (line ∷ []) (line ∷ []) c
-        (whole_prefix (d.size old.disk) (session_of old) (line ∷ []) c means)
+    | inl means ↦ no_prefix (d.size old.disk) old.desktop (accepted (session_of old) (line ∷ [])) c means
+    | inr means ↦ fewer_acknowledged (d.size old.disk) old.desktop (accepted (session_of old) (line ∷ [])) _ c
+        (all_lines (d.size old.disk) (session_of old) (line ∷ []) c means)
   ])
 
   -- a line that wasn't answered
@@ -213,7 +166,7 @@ module _ {D : Type 0} (d : Ghosts D) where
       → KeepsAnswered d (line ∷ []) (line ∷ []) old new
   served_line old new line serves = record {
     any_moment = line_moments old new line serves.any_moment;
-    at_last = λ c image. whole_prefix (d.size old.disk) (session_of old) (line ∷ []) c
+    at_last = λ c image. all_lines (d.size old.disk) (session_of old) (line ∷ []) c
         (subst (λ n. Means n (after (session_of old) (request_of line)).desktop c) serves.as_large
         (subst (λ (s : Session). Means (d.size new.disk) s.desktop c) serves.session
         (lasting_means new serves.lasts c image)));
@@ -228,15 +181,15 @@ module _ {D : Type 0} (d : Ghosts D) where
   lines_after old mid new lines answered more before session as_large following =
       let size = d.size old.disk in
       let s = session_of old in
-      let seen : (some : List (List ℕ)) (c : Content) → MeansPrefix (d.size mid.disk) (session_of mid) some more c
-      → MeansPrefix size s (lines ++ some) (lines ++ more) c = λ some c p.
-      prefix_behind size s lines some more c (subst (λ (t : Session). MeansPrefix size t some more c) session
-      (subst (λ n. MeansPrefix n (session_of mid) some more c) as_large p)) in
+      let seen : (some : List (List ℕ)) (c : Content) → MeansLines (d.size mid.disk) (session_of mid) some more c
+      → MeansLines size s (lines ++ some) (lines ++ more) c = λ some c p.
+      lines_behind size s lines some more c (subst (λ (t : Session). MeansLines size t some more c) session
+      (subst (λ n. MeansLines n (session_of mid) some more c) as_large p)) in
       record {
         any_moment = chained
-            (weakened before.any_moment (λ c p. prefix_of_more size s [] lines more c p))
+            (weakened before.any_moment (λ c p. more_follow size s [] lines more c p))
             (weakened following.any_moment
-            (λ c p. fewer_answered size s (lines ++ []) (lines ++ more) c (seen [] c p)));
+            (λ c p. fewer_acknowledged size s.desktop (accepted s (lines ++ [])) (accepted s (lines ++ more)) c (seen [] c p)));
         at_last = λ c image. seen answered c (following.at_last c image);
       }
 
@@ -246,8 +199,8 @@ module _ {D : Type 0} (d : Ghosts D) where
       let size = d.size old.disk in
       let s = session_of old in
       record {
-        any_moment = weakened kept.any_moment (λ c p. prefix_of_more size s [] lines more c p);
-        at_last = λ c image. prefix_of_more size s answered lines more c (kept.at_last c image);
+        any_moment = weakened kept.any_moment (λ c p. more_follow size s [] lines more c p);
+        at_last = λ c image. more_follow size s answered lines more c (kept.at_last c image);
       }
 
 -- ---- one request

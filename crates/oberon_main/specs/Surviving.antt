@@ -1,5 +1,5 @@
 -- What a crash leaves of a script that is played: the desktop after a prefix of the events that its lines post.
-use Rattle.std.specs.Prelude.{◌≡◌, ◌≤◌, ℕ, List, [], ◌∷◌, ◌++◌, length, take, if◌then◌else◌, Option}
+use Rattle.std.specs.Prelude.{◌≡◌, ℕ, List, [], ◌∷◌, ◌++◌, if◌then◌else◌, Option}
 use Rattle.sector_disk.specs.declared.disk.Disk.{Ghosts}
 use Rattle.sector_disk.specs.Trail.{Content, now, Leaves, LeavesOnly}
 use Rattle.event_bytes.specs.declared.event.Event.{Event}
@@ -7,6 +7,7 @@ use Rattle.desktop_definitions.specs.Desktop.{Desktop}
 use Rattle.desktop_definitions.specs.Step.{steps}
 use Rattle.screen_cells.specs.Sent.{AppendsFront}
 use Rattle.store_layout.specs.Meaning.{Means, MeansEither}
+use Rattle.desk_journal.specs.Prefixes.{MeansPrefix}
 use Rattle.desk_journal.specs.View.{StoreView, IsDurable}
 use Rattle.oberon_main.specs.declared.playing.PlayEnd.{PlayEnd}
 use Rattle.script_lines.specs.declared.request.Request.{Request}
@@ -47,19 +48,16 @@ led_to s lines = steps s.desktop (accepted s lines)
 
 -- The content means the desktop after some of the events accepted of the lines, the first of them and none left out,
 -- and among them every event accepted of the lines that were answered.
-pub record MeansPrefix (size : ℕ) (before : Session) (answered lines : List (List ℕ)) (c : Content) : Type 0 where
-  pub count : ℕ
-  pub none_lost : length (accepted before answered) ≤ count
-  pub within : count ≤ length (accepted before lines)
-  pub means : Means size (steps before.desktop (take count (accepted before lines))) c
+abbrev pub MeansLines : ℕ → Session → List (List ℕ) → List (List ℕ) → Content → Type 0
+MeansLines size before answered lines = MeansPrefix size before.desktop (accepted before answered) (accepted before lines)
 
 -- Between two moments of a store a crash leaves the desktop after a prefix of the events of the lines, and at the
 -- second of them one that holds every event of the lines that were answered.
 pub record KeepsAnswered {D : Type 0} (d : Ghosts D) (answered lines : List (List ℕ))
     (old new : StoreView D) : Type 0 where
   pub any_moment : LeavesOnly (d.trail old.disk) (d.trail new.disk)
-      (MeansPrefix (d.size old.disk) (session_of old) [] lines)
-  pub at_last : Leaves (now (d.trail new.disk)) (MeansPrefix (d.size old.disk) (session_of old) answered lines)
+      (MeansLines (d.size old.disk) (session_of old) [] lines)
+  pub at_last : Leaves (now (d.trail new.disk)) (MeansLines (d.size old.disk) (session_of old) answered lines)
 
 -- ---- one request
 

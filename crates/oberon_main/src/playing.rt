@@ -105,7 +105,7 @@ pub fn play_bounded<R: ScriptReader, W: AnswerWriter, D: Disk>(
     ensures { PlaysScript R.ScriptReader W.AnswerWriter D.Disk reads result reader.old reader.new
         writer.old writer.new store.old store.new }
 {
-    let end = play_lines(alloc, reader, writer, store, reads);
+    let end = play_lines(alloc, reader, reads, writer, store);
     match say(writer, end) {
         Ok(()) => end,
         Err(OutputFault) => PlayEnd::Output,
@@ -128,13 +128,13 @@ fn say<W: AnswerWriter>(writer: &mut W, end: PlayEnd) -> Result<(), OutputFault>
     }
 }
 
-/// Plays all lines. It says nothing of why the script ended early.
+/// Plays all lines, by so many reads that give bytes at most. It says nothing of why the script ended early.
 fn play_lines<R: ScriptReader, W: AnswerWriter, D: Disk>(
     alloc: Global,
     reader: &mut R,
+    reads: u32,
     writer: &mut W,
     store: &mut Store<D>,
-    reads: u32,
 ) -> PlayEnd
     requires { store.old.must_reopen ≡ false }
     ensures played { Plays no_word D.Disk result (R.remaining reader.old) (R.remaining reader.new)

@@ -48,8 +48,8 @@ served_grow (call ∷ calls) (a ∷ answers) answer d room = ap (λ ss. record {
 -- the device stays
 pub device_of : {D : Type 0} (d : Ghosts D) (call : StoreCall) (answer : StoreAnswer) (old new : StoreView D)
     → Serves d call answer old new → IsSameDevice d old.disk new.disk
-device_of d (Posting event) answer old new serves = serves.device
-device_of d Checkpoint answer old new serves = serves.0.device
+device_of d (Posting event) answer old new serves = serves.behaves.device
+device_of d Checkpoint answer old new serves = serves.0.behaves.device
 
 -- ---- a call, seen by the trails of an honest disk
 module _ {D : Type 0} (d : Ghosts D) (old new : StoreView D) (honest : d.honest old.disk) where
@@ -80,14 +80,14 @@ module _ {D : Type 0} (d : Ghosts D) (old new : StoreView D) (honest : d.honest 
   posted_by_trails event answer p = record {
     any_moment = λ usable. p.any_moment usable honest;
     stepped = IfOk-weaker answer _ _ (λ reply told. told.stepped honest) p.ok;
-    acknowledged = shown_after event answer p.device.as_large (p.device.still honest) p.ok;
+    acknowledged = shown_after event answer p.behaves.device.as_large (p.behaves.device.still honest) p.ok;
     memory = λ is usable. (p.memory is).unrecorded usable honest;
     broken_by_memory = λ is. (p.memory is).closed;
     broken_by_fault = p.fault;
     worn = λ is. unchanged (p.worn.unchanged is);
-    reopen = λ is. unchanged (p.reopen.unchanged is);
-    must_reopen = p.reopen.always;
-    named = λ e is. IfErr-at_err OfPost is p.faults.errors;
+    reopen = λ is. unchanged (p.behaves.reopen.unchanged is);
+    must_reopen = p.behaves.reopen.always;
+    named = λ e is. IfErr-at_err OfPost is p.behaves.faults.errors;
   }
 
   checkpointed_by_trails : (answer : StoreAnswer) → IsCheckpointed d answer old new
@@ -98,9 +98,9 @@ module _ {D : Type 0} (d : Ghosts D) (old new : StoreView D) (honest : d.honest 
     same = same_after answer p.ok;
     broken_by_fault = p.fault;
     worn = λ is. unchanged (p.worn.unchanged is);
-    reopen = λ is. unchanged (p.reopen.unchanged is);
-    must_reopen = p.reopen.always;
-    named = λ e is. IfErr-at_err OfCheckpoint is p.faults.errors;
+    reopen = λ is. unchanged (p.behaves.reopen.unchanged is);
+    must_reopen = p.behaves.reopen.always;
+    named = λ e is. IfErr-at_err OfCheckpoint is p.behaves.faults.errors;
   }
 
 -- ---- all the calls of a run

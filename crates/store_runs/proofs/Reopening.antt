@@ -24,6 +24,7 @@ use Rattle.desk_journal.specs.Posting.{IsAcknowledged}
 use Rattle.desk_journal.specs.Session.{session_of}
 use Rattle.desk_journal.proofs.Due.{due_or_room, has_it, has_none}
 use Rattle.desk_journal.proofs.Passing.{shows_means}
+use Rattle.desk_journal.proofs.Prefixes.{steps_both}
 use Rattle.store_runs.specs.Run.{StoreAnswer, Serves, StopsAReopening, MeansSome, events_in, counted, all_counted}
 use Rattle.desk_journal.specs.View.{StoreView, IsDurable}
 
@@ -64,16 +65,16 @@ counts_posted d event reply old new told = elim (due_or_room (session_of old)) [
 pub went_on : {D : Type 0} (d : Ghosts D) (call : StoreCall) (reply : Reply) (old new : StoreView D)
     → Serves d call (Ok reply) old new → GoesOn d call old new
 went_on d (Posting event) reply old new p = record {
-  device = p.device;
-  calm = p.faults.calm (λ wrong. absurd cc);
+  device = p.behaves.device;
+  calm = p.behaves.faults.calm (λ wrong. absurd cc);
   usable = p.ok.usable;
   durable = p.ok.durable;
   desktop = λ h. ap (λ x. x.0) (p.ok.stepped h);
   counts = counts_posted d event reply old new p.ok;
 }
 went_on d Checkpoint reply old new p = record {
-  device = p.0.device;
-  calm = p.0.faults.calm (λ wrong. absurd cc);
+  device = p.0.behaves.device;
+  calm = p.0.behaves.faults.calm (λ wrong. absurd cc);
   usable = p.0.ok.usable;
   durable = p.0.ok.durable;
   desktop = p.0.ok.desktop;
@@ -86,10 +87,6 @@ events_append : (a b : List StoreCall) → events_in (a ++ b) ≡ events_in a ++
 events_append [] b = refl
 events_append (Posting event ∷ a) b = ap (λ es. event ∷ es) (events_append a b)
 events_append (Checkpoint ∷ a) b = events_append a b
-
-steps_append : (first : Desktop) (a b : List Event) → steps first (a ++ b) ≡ steps (steps first a) b
-steps_append first [] b = refl
-steps_append first (event ∷ a) b = steps_append (step first event).0 a b
 
 counted_append : (a : List StoreCall) (call : StoreCall) (n : ℕ × ℕ × ℕ)
     → all_counted (a ++ call ∷ []) n ≡ counted call (all_counted a n)
@@ -112,7 +109,7 @@ module _ (calls : List StoreCall) (k : ℕ) (call : StoreCall) (room : k < lengt
   desktop_next first desktop desktop' was is = is ∙ ap (λ d. steps d (events_in (call ∷ []))) was
       ∙ sym (ap (λ cs. steps first (events_in cs)) calls_next
       ∙ ap (steps first) (events_append (take k calls) (call ∷ []))
-      ∙ steps_append first (events_in (take k calls)) (events_in (call ∷ [])))
+      ∙ steps_both first (events_in (take k calls)) (events_in (call ∷ [])))
 
 -- ---- what a crash leaves
 module _ (size : ℕ) (first : Desktop) (calls : List StoreCall) where
@@ -161,15 +158,15 @@ module _ (size : ℕ) (first : Desktop) (calls : List StoreCall) where
 -- a call of a store in use stops for want of memory, by a fault, or since it is worn
 pub call_stops : {D : Type 0} (d : Ghosts D) (call : StoreCall) (e : Error) (old new : StoreView D)
     → old.must_reopen ≡ false → Serves d call (Err e) old new → StopsAReopening e
-call_stops d (Posting event) e old new usable p = elim p.faults.errors [
+call_stops d (Posting event) e old new usable p = elim p.behaves.faults.errors [
   | inl none ↦ inl none
   | inr (inl failed) ↦ inr (inl failed)
-  | inr (inr (inl closed)) ↦ absurd (clash (p.reopen.only (ap Err closed)) usable)
+  | inr (inr (inl closed)) ↦ absurd (clash (p.behaves.reopen.only (ap Err closed)) usable)
   | inr (inr (inr worn)) ↦ inr (inr worn)
 ]
-call_stops d Checkpoint e old new usable p = elim p.0.faults.errors [
+call_stops d Checkpoint e old new usable p = elim p.0.behaves.faults.errors [
   | inl failed ↦ inr (inl failed)
-  | inr (inl closed) ↦ absurd (clash (p.0.reopen.only (ap Err closed)) usable)
+  | inr (inl closed) ↦ absurd (clash (p.0.behaves.reopen.only (ap Err closed)) usable)
   | inr (inr worn) ↦ inr (inr worn)
 ]
 

@@ -7,7 +7,7 @@ use Rattle.terminal_presses.specs.declared.press.Button.TheVariants.{Left, Middl
 use Rattle.terminal_presses.specs.declared.press.FunctionKey.{FunctionKey}
 use Rattle.terminal_presses.specs.declared.press.FunctionKey.TheVariants.{F1, F2, F3, F4, F5, F6, F7, F8, F9, F10}
 use Rattle.terminal_presses.specs.declared.press.Press.TheVariants.{Function}
-use Rattle.terminal_presses.specs.Sights.{Sight, spot_in}
+use Rattle.terminal_presses.specs.Sights.{Sight}
 use Rattle.terminal_presses.specs.declared.action.Click.{Click}
 use Rattle.terminal_presses.specs.declared.action.Click.TheVariants.{Keys}
 use Rattle.terminal_presses.specs.declared.hand.Hand.{Hand}
@@ -15,7 +15,7 @@ use Rattle.terminal_presses.specs.Gestures.{joined, called, pressed_more, releas
 use Rattle.terminal_presses.specs.Hands.{new_hand, by_function, meant, begun, gone_down, rested, gone_up, reported}
 use Rattle.terminal_presses.specs.Hands.{fresh, unpasted, handled}
 use Rattle.terminal_presses.specs.Runs.{hand_after, posted, Makes, Corner, down_with, down, up, alone, together}
-use Rattle.terminal_presses.specs.Runs.{clicked, says, AreThree}
+use Rattle.terminal_presses.specs.Runs.{clicked, says, spot_at, AreThree}
 use Rattle.terminal_presses.proofs.Pieces.{posted_of_both}
 
 pub one_button : (sight : Sight) (button : Button) (start end : Corner)
@@ -98,7 +98,7 @@ off sight start = record {
   armed = None;
   gesture = Some (record {
     click = None;
-    start = spot_in sight start.0 start.1;
+    start = spot_at sight start;
     down = record { left = true; middle = true; right = true };
   });
   paste = None;

@@ -38,7 +38,7 @@ use Rattle.terminal_presses.specs.Spelling.{IsForeign}
 use Rattle.terminal_presses.specs.Spelling.{is_control, letter_alone, shifted, arrow_letter, page_spelling}
 use Rattle.terminal_presses.specs.Spelling.{function_spellings, sequence, IsOneOf, Spells, bytes, IsHeard}
 use Rattle.terminal_presses.specs.Spelling.{AreHeard}
-use Rattle.terminal_presses.specs.Runs.{moved_with, report_with}
+use Rattle.terminal_presses.specs.Runs.{Corner, moved_with, report_with}
 use Rattle.terminal_presses.proofs.Pieces.{parser_of_both, pressed_of_both}
 
 -- that press is found in what is heard, and nothing is left of it
@@ -324,10 +324,13 @@ third_goes m x y n digits text is =
 
 -- ---- mouse reports
 
+abbrev corner : ℕ → ℕ → Corner
+corner column row = record { column = column; row = row }
+
 abbrev Again : Button → Bool → ℕ → ℕ → Bool → Bool → Bool → Type 0
 Again button down column row alt control shift =
-    reported (numbers mark.Mouse 2 (report_number (report_with down alt control button (column, row)) shift) column
-    row) down ≡ moved_with down alt control button (column, row)
+    reported (numbers mark.Mouse 2 (report_number (report_with down alt control button (corner column row)) shift) column
+    row) down ≡ moved_with down alt control button (corner column row)
 
 by_bools : (P : Bool → Bool → Bool → Type 0) → P true true true → P true true false → P true false true
     → P true false false → P false true true → P false true false → P false false true → P false false false
@@ -360,7 +363,7 @@ ReportEnds report shift last =
     × (pressed (reporting report shift) (bytes (last ∷ [])) ≡ Mouse report ∷ [])
 
 report_ends : (button : Button) (down alt control shift : Bool) (column row : ℕ)
-    → ReportEnds (report_with down alt control button (column, row)) shift (report_end down)
+    → ReportEnds (report_with down alt control button (corner column row)) shift (report_end down)
 unfolding heard_by after after_byte after_sequence is_digit ended moused
 report_ends button true alt control shift column row =
     (refl, rw (reported_again button true alt control shift column row) refl)

@@ -22,6 +22,7 @@ use Rattle.terminal_presses.specs.declared.action.Click.TheVariants.{Mark, Keys}
 use Rattle.terminal_presses.specs.declared.action.Action.{Action}
 use Rattle.terminal_presses.specs.declared.action.Action.TheVariants.{Post}
 use Rattle.terminal_presses.specs.declared.hand.Hand.{Hand}
+use Rattle.terminal_presses.specs.declared.spot.Spot.{Spot}
 use Rattle.terminal_presses.specs.Presses.{single}
 use Rattle.terminal_presses.specs.Hands.{handled}
 use Rattle.terminal_presses.specs.Spelling.{sequence, bytes}
@@ -51,8 +52,13 @@ pub record Makes (sight : Sight) (hand : Hand) (presses : List Press) (next : Ha
 -- ---- buttons
 
 -- a column and a row of the terminal
-abbrev pub Corner : Type 0
-Corner = ℕ × ℕ
+pub record Corner : Type 0 where
+  pub column : ℕ
+  pub row : ℕ
+
+-- the cell of the display that they mean
+abbrev pub spot_at : Sight → Corner → Spot
+spot_at sight at = spot_in sight at.column at.row
 
 -- a button goes down or up, with the keys Alt and Ctrl or without them
 abbrev pub report_with : Bool → Bool → Bool → Button → Corner → MouseReport
@@ -61,8 +67,8 @@ report_with down alt control button at = record {
   is_down = down;
   with_alt = alt;
   with_control = control;
-  column = at.0;
-  row = at.1;
+  column = at.column;
+  row = at.row;
 }
 
 abbrev pub moved_with : Bool → Bool → Bool → Button → Corner → Press
@@ -96,10 +102,9 @@ together button.Right button.Right = Right
 
 -- the event of a click that begins and ends at these cells of the terminal
 abbrev pub clicked : Click → Sight → Corner → Corner → Event
-clicked Mark sight start end = MarkAt (spot_in sight start.0 start.1).x (spot_in sight start.0 start.1).y
+clicked Mark sight start end = MarkAt (spot_at sight start).x (spot_at sight start).y
 clicked (Keys keys) sight start end =
-    Point keys (spot_in sight start.0 start.1).x (spot_in sight start.0 start.1).y (spot_in sight end.0 end.1).x
-    (spot_in sight end.0 end.1).y
+    Point keys (spot_at sight start).x (spot_at sight start).y (spot_at sight end).x (spot_at sight end).y
 
 -- the click that a function key says
 abbrev pub says : FunctionKey → Option Click

@@ -1,5 +1,6 @@
 //! The bytes of a terminal, told apart as presses one by one: so it is one whether they come in one piece or in many.
 ghost use Rattle.std.specs.Prelude.{◌≡◌};
+ghost use Rattle.terminal_presses.specs.Outcomes.{ComesTo};
 ghost use Rattle.terminal_presses.specs.Presses.{grounded, preceded, cut_off, after_ground, after_escape, after_shift};
 ghost use Rattle.terminal_presses.specs.Presses.{after_console, after_report, after_sequence, after_byte, after_quiet};
 ghost use Rattle.terminal_presses.specs.Presses.{at_rest, heard_by};
@@ -29,8 +30,7 @@ impl Parser {
     /// Hears a byte, or that none came for a while. Returns what that completes.
     #[tactic(auto, unfolding(crate::specs::Presses::heard_by, crate::specs::Presses::after))]
     pub fn take(&mut self, heard: Heard) -> Presses
-        ensures parser { self.new ≡ (heard_by self.old heard).0 }
-        ensures presses { result ≡ (heard_by self.old heard).1 }
+        ensures { ComesTo (heard_by self.old heard) self.new result }
     {
         let (place, presses) = match heard {
             Heard::Byte(byte) => after_byte(self.place, byte),

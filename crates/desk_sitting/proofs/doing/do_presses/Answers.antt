@@ -15,9 +15,9 @@ loop-heard-preserved g c =
     let i = c.loop-heard.invariant in
     record {
       parser = parser_next c.args.parser.now c.loop-heard.parser c.args.hearing.now c.loop-heard.heard-index (Byte 0)
-          c.loop-heard-test.true i.parser c.take.new.self c.take.ensures.parser;
+          c.loop-heard-test.true i.parser c.take.new.self c.take.ensures.state;
       takes = next_taken g.D.Disk c.args.parser.now c.loop-heard.parser c.args.hearing.now c.loop-heard.heard-index
-          (Byte 0) c.take.result (Ok tt) c.loop-heard-test.true i.parser c.take.ensures.presses i.takes
+          (Byte 0) c.take.result (Ok tt) c.loop-heard-test.true i.parser c.take.ensures.answer i.takes
           c.in_ok-do_each.ensures;
     }
 
@@ -26,5 +26,5 @@ returns-in_err-do_each-clause-broke g c =
     let p = err_from_is_err_and c.from_residual.result c.from_residual.ensures.1 in
     let i = c.loop-heard.invariant in
     rw (p.1, p.2) (next_broken g.D.Disk c.args.parser.now c.loop-heard.parser c.args.hearing.now
-    c.loop-heard.heard-index (Byte 0) c.take.result c.loop-heard-test.true i.parser c.take.ensures.presses i.takes
+    c.loop-heard.heard-index (Byte 0) c.take.result c.loop-heard-test.true i.parser c.take.ensures.answer i.takes
     c.in_err-do_each.ensures).broke

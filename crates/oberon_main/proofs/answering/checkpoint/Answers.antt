@@ -18,11 +18,11 @@ returns-in-Ok g c = record {
         (λ last. cc (c.in-Ok.ensures.worn.always (c.requires, last)))
         (c.in-Ok.ensures.ok.desktop honest) c.in-Ok.ensures.ok.layout c.in-Ok.ensures.ok.epoch c.in-Ok.ensures.ok.events;
     usable = c.in-Ok.ensures.ok.usable;
-    premise = (c.in-Ok.ensures.device.already, c.in-Ok.ensures.device.still);
+    premise = (c.in-Ok.ensures.behaves.device.already, c.in-Ok.ensures.behaves.device.still);
   };
-  faults = counts_done c.in-Ok.ensures.faults;
+  faults = counts_done c.in-Ok.ensures.behaves.faults;
   crash = checkpoint_withstands g.D.Disk c.args.store.now c.checkpoint.new.self c.requires
-      c.in-Ok.ensures.any_moment c.in-Ok.ensures.device;
+      c.in-Ok.ensures.any_moment c.in-Ok.ensures.behaves.device;
   spared = λ wrong durable honest. c.in-Ok.ensures.any_moment c.requires honest;
   malformed = λ wrong. absurd (cc wrong);
 }
@@ -32,12 +32,12 @@ returns-in-Err g c = record {
   worked_out = refusal_works_out g.D.Disk c.args.store.now c.checkpoint.new.self c.refused.ensures.worn
       c.in-Err.ensures.worn (λ is. ap (λ e. Err e) is)
       (λ when. (last_answer (session_of c.args.store.now) when.1, last_after (session_of c.args.store.now) when.1))
-      c.requires (c.in-Err.ensures.device.already, c.in-Err.ensures.device.still);
-  faults = counts_call c.in-Err.error _ _ OfCheckpoint (λ is. inr is) c.in-Err.ensures.faults
-      (λ is. false≢true (sym c.requires ∙ c.in-Err.ensures.reopen.only (ap (λ e. Err e) is))) _ c.refused.result
+      c.requires (c.in-Err.ensures.behaves.device.already, c.in-Err.ensures.behaves.device.still);
+  faults = counts_call c.in-Err.error _ _ OfCheckpoint (λ is. inr is) c.in-Err.ensures.behaves.faults
+      (λ is. false≢true (sym c.requires ∙ c.in-Err.ensures.behaves.reopen.only (ap (λ e. Err e) is))) _ c.refused.result
       c.refused.ensures.worn c.refused.ensures.other;
   crash = checkpoint_withstands g.D.Disk c.args.store.now c.checkpoint.new.self c.requires
-      c.in-Err.ensures.any_moment c.in-Err.ensures.device;
+      c.in-Err.ensures.any_moment c.in-Err.ensures.behaves.device;
   spared = λ is durable honest. c.in-Err.ensures.any_moment c.requires honest;
   malformed = λ wrong. absurd (cc wrong);
 }

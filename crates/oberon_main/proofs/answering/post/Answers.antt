@@ -21,11 +21,11 @@ returns-in-Ok g c = record {
         (c.in-Ok.ensures.ok.stepped honest) c.in-Ok.ensures.ok.more c.in-Ok.ensures.ok.anew
         c.in-Ok.ensures.ok.layout;
     usable = c.in-Ok.ensures.ok.usable;
-    premise = (c.in-Ok.ensures.device.already, c.in-Ok.ensures.device.still);
+    premise = (c.in-Ok.ensures.behaves.device.already, c.in-Ok.ensures.behaves.device.still);
   };
-  faults = counts_done c.in-Ok.ensures.faults;
+  faults = counts_done c.in-Ok.ensures.behaves.faults;
   crash = post_withstands g.D.Disk c.args.event.now _ c.args.store.now c.post.new.self c.requires
-      c.in-Ok.ensures.any_moment c.in-Ok.ensures.worn c.in-Ok.ensures.device;
+      c.in-Ok.ensures.any_moment c.in-Ok.ensures.worn c.in-Ok.ensures.behaves.device;
   spared = λ wrong. absurd (cc wrong);
   malformed = λ wrong. absurd (cc wrong);
 }
@@ -38,12 +38,12 @@ returns-in-Err g c = record {
         worn_answer (session_of c.args.store.now) c.args.event.now when.0.1 when.1,
         worn_after (session_of c.args.store.now) c.args.event.now when.0.1 when.1,
       )) c.requires
-      (c.in-Err.ensures.device.already, c.in-Err.ensures.device.still);
-  faults = counts_call c.in-Err.error _ _ OfPost (λ is. is) c.in-Err.ensures.faults
-      (λ is. false≢true (sym c.requires ∙ c.in-Err.ensures.reopen.only (ap (λ e. Err e) is))) _ c.refused.result
+      (c.in-Err.ensures.behaves.device.already, c.in-Err.ensures.behaves.device.still);
+  faults = counts_call c.in-Err.error _ _ OfPost (λ is. is) c.in-Err.ensures.behaves.faults
+      (λ is. false≢true (sym c.requires ∙ c.in-Err.ensures.behaves.reopen.only (ap (λ e. Err e) is))) _ c.refused.result
       c.refused.ensures.worn c.refused.ensures.other;
   crash = post_withstands g.D.Disk c.args.event.now _ c.args.store.now c.post.new.self c.requires
-      c.in-Err.ensures.any_moment c.in-Err.ensures.worn c.in-Err.ensures.device;
+      c.in-Err.ensures.any_moment c.in-Err.ensures.worn c.in-Err.ensures.behaves.device;
   spared = λ is durable honest. (c.in-Err.ensures.memory (ap (λ e. Err e)
       (only_memory c.in-Err.error c.refused.result c.refused.ensures.other is))).unrecorded c.requires honest;
   malformed = λ wrong. absurd (cc wrong);

@@ -17,8 +17,5 @@ returns-in-Post g c =
       memory = c.post.ensures.memory;
       fault = c.post.ensures.fault;
       worn = c.post.ensures.worn;
-      reopen = c.post.ensures.reopen;
-      faults = c.post.ensures.faults;
-      device = c.post.ensures.device;
-      within = c.post.ensures.within;
+      behaves = c.post.ensures.behaves;
     })

@@ -12,7 +12,7 @@ returns-clause-any_moment g c = elim c.if-needs.branch [
   | then-needs+in_ok-checkpoint w ↦
       let first = w.checkpoint.ensures in
       renewed_then g.D.Disk c.args.event.now c.args.self.now w.checkpoint.new.self c.put.new.self
-      first.any_moment w.in_ok-checkpoint.ensures.ok first.device
+      first.any_moment w.in_ok-checkpoint.ensures.ok first.behaves.device
       (subst (λ mid. LeavesEither g.D.Disk c.args.event.now mid c.put.new.self) w.self-is c.put.ensures.any_moment)
   | else-needs w ↦
       subst (λ mid. LeavesEither g.D.Disk c.args.event.now mid c.put.new.self) w.self-is c.put.ensures.any_moment
@@ -23,7 +23,7 @@ returns-clause-memory g c = λ refused. elim c.if-needs.branch [
   | then-needs+in_ok-checkpoint w ↦
       let first = w.checkpoint.ensures in
       renewed_starved g.D.Disk c.args.event.now c.args.self.now w.checkpoint.new.self c.put.new.self
-      first.any_moment w.in_ok-checkpoint.ensures.ok first.device
+      first.any_moment w.in_ok-checkpoint.ensures.ok first.behaves.device
       (subst (λ mid. IsStarved g.D.Disk mid c.put.new.self) w.self-is (c.put.ensures.memory refused))
   | else-needs w ↦
       subst (λ mid. IsStarved g.D.Disk mid c.put.new.self) w.self-is (c.put.ensures.memory refused)
@@ -35,12 +35,11 @@ returns-clause-first g c = λ usable due. elim c.if-needs.branch [
       let first = w.checkpoint.ensures in
       done_first g.D.Disk c.args.event.now c.put.result c.args.self.now w.checkpoint.new.self c.put.new.self
       w.in_ok-checkpoint.was
-      (checkpoints g.D.Disk w.checkpoint.result _ _ first.any_moment first.ok first.fault first.worn first.reopen
-      first.faults first.device first.within)
+      (checkpoints g.D.Disk w.checkpoint.result _ _ first.any_moment first.ok first.fault first.worn
+      first.behaves)
       (subst (λ mid. HasRoom mid → IsPosted g.D.Disk c.args.event.now c.put.result mid c.put.new.self) w.self-is
       (λ room. put_posts g.D.Disk c.args.event.now c.put.result _ c.put.new.self room c.put.ensures.any_moment
-      c.put.ensures.ok c.put.ensures.memory c.put.ensures.fault c.put.ensures.reopen c.put.ensures.faults
-      c.put.ensures.device c.put.ensures.within))
+      c.put.ensures.ok c.put.ensures.memory c.put.ensures.fault c.put.ensures.behaves))
   | else-needs w ↦ absurd (no_need c.args.self.now (c.needs.ensures.room w.if-needs.false) due)
 ]
 
@@ -50,5 +49,5 @@ returns-in_err-checkpoint-clause-first g c = λ usable due.
     let p = err_from_is_err_and c.from_residual.result c.from_residual.ensures.1 in
     stopped_first g.D.Disk c.args.event.now c.from_residual.result c.args.self.now c.checkpoint.new.self
     c.in_err-checkpoint.was
-    (checkpoints g.D.Disk c.checkpoint.result _ _ first.any_moment first.ok first.fault first.worn first.reopen
-    first.faults first.device first.within) (cc (p.1, p.2))
+    (checkpoints g.D.Disk c.checkpoint.result _ _ first.any_moment first.ok first.fault first.worn
+    first.behaves) (cc (p.1, p.2))
