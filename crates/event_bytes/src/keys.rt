@@ -18,12 +18,14 @@ pub enum Key {
 }
 
 impl Key {
-    /// The key of a number, 0 to 4 in the order above. None for a greater one.
+    /// All of them, by their numbers.
+    pub const ALL: [Key; 5] = [Key::Back, Key::Copy, Key::Paste, Key::Cut, Key::Escape];
+
+    /// The key of a number, 0 to 4. None for a greater one.
     pub(crate) fn from_number(number: u8) -> Option<Key>
         ensures { result ≡ key_of number }
     {
-        let all = [Key::Back, Key::Copy, Key::Paste, Key::Cut, Key::Escape];
-        all.get(number as usize).copied()
+        Key::ALL.get(number as usize).copied()
     }
 
     /// Its number, 0 to 4.
@@ -49,22 +51,24 @@ pub enum Keys {
 }
 
 impl Keys {
-    /// The keys of a number, 0 to 8 in the order above. None for a greater one.
+    /// All of them, by their numbers.
+    pub const ALL: [Keys; 9] = [
+        Keys::Left,
+        Keys::LeftMiddle,
+        Keys::LeftRight,
+        Keys::Middle,
+        Keys::MiddleLeft,
+        Keys::MiddleRight,
+        Keys::Right,
+        Keys::RightLeft,
+        Keys::RightMiddle,
+    ];
+
+    /// The keys of a number, 0 to 8. None for a greater one.
     pub(crate) fn from_number(number: u8) -> Option<Keys>
         ensures { result ≡ keys_of number }
     {
-        let all = [
-            Keys::Left,
-            Keys::LeftMiddle,
-            Keys::LeftRight,
-            Keys::Middle,
-            Keys::MiddleLeft,
-            Keys::MiddleRight,
-            Keys::Right,
-            Keys::RightLeft,
-            Keys::RightMiddle,
-        ];
-        all.get(number as usize).copied()
+        Keys::ALL.get(number as usize).copied()
     }
 
     /// Their number, 0 to 8.

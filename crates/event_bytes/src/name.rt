@@ -33,6 +33,27 @@ impl Model for Name {
     ghost inverse = { λ bytes. record { bytes = record { items = bytes } } };
 }
 
+impl Name {
+    /// The name of these bytes. None exactly where they are no name.
+    pub fn new(bytes: &[u8]) -> Option<Name>
+        ensures { result ≡ (if names bytes.now then Some bytes.now else None) }
+    {
+        if !is_name(bytes) {
+            return None;
+        }
+        let bytes = ArrayVec::try_from(bytes).ok()?;
+        Some(Name { bytes })
+    }
+
+    /// Its bytes, 1 to 31.
+    pub fn as_bytes(&self) -> &[u8]
+        ensures value { result.now ≡ self.now }
+        ensures valid { IsTrue (names self.now) }
+    {
+        self.bytes.as_slice()
+    }
+}
+
 /// A copy, which takes no memory and so never fails.
 impl Clone for Name {
     ghost is_clone = { λ name copy. copy ≡ name };
@@ -60,27 +81,6 @@ impl Default for Name {
         let mut bytes = ArrayVec::new();
         bytes.push(b'A');
         Name { bytes }
-    }
-}
-
-impl Name {
-    /// The name of these bytes. None exactly where they are no name.
-    pub fn new(bytes: &[u8]) -> Option<Name>
-        ensures { result ≡ (if names bytes.now then Some bytes.now else None) }
-    {
-        if !is_name(bytes) {
-            return None;
-        }
-        let bytes = ArrayVec::try_from(bytes).ok()?;
-        Some(Name { bytes })
-    }
-
-    /// Its bytes, 1 to 31.
-    pub fn as_bytes(&self) -> &[u8]
-        ensures value { result.now ≡ self.now }
-        ensures valid { IsTrue (names self.now) }
-    {
-        self.bytes.as_slice()
     }
 }
 

@@ -7,3 +7,4 @@ pub mod Presses
 pub mod Runs
 pub mod Sights
 pub mod Spelling
+pub mod Coming

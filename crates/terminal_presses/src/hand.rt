@@ -6,6 +6,7 @@ ghost use Rattle.terminal_presses.specs.Hands.{reported as reported_by, gone_dow
 ghost use Rattle.terminal_presses.specs.Hands.{meant as click_meant, unpasted as unpasted_by, with_asked, asks};
 ghost use Rattle.terminal_presses.specs.Asking.{answered, entered, spelled, shortened, controlled_name};
 ghost use Rattle.terminal_presses.specs.Asking.{by_function_amid};
+ghost use Rattle.terminal_presses.specs.Coming.{ComesTo};
 
 use crate::action::{Action, Click};
 use crate::gesture::{Buttons, Gesture};
@@ -74,8 +75,7 @@ impl Hand {
     /// What a press comes to, where this part of the display is in sight.
     #[tactic(auto, unfolding(crate::specs::Hands::handled))]
     pub fn take(&mut self, sight: Sight, press: Press) -> Action
-        ensures hand { self.new ≡ (handled sight press self.old).0 }
-        ensures action { result ≡ (handled sight press self.old).1 }
+        ensures { ComesTo (handled sight press self.old) self.new result }
     {
         if self.paste.is_some() {
             self.pasting(press)
@@ -87,8 +87,7 @@ impl Hand {
     /// What a press comes to while no paste goes on.
     #[tactic(auto, unfolding(crate::specs::Hands::unpasted))]
     fn unpasted(&mut self, sight: Sight, press: Press) -> Action
-        ensures hand { self.new ≡ (unpasted_by sight self.old.asked press self.old).0 }
-        ensures action { result ≡ (unpasted_by sight self.old.asked press self.old).1 }
+        ensures { ComesTo (unpasted_by sight self.old.asked press self.old) self.new result }
     {
         match self.asked.take() {
             None => self.fresh(sight, press),
@@ -99,8 +98,7 @@ impl Hand {
     /// What a press comes to while a name is asked for that is typed as far as this.
     #[tactic(auto, unfolding(crate::specs::Asking::answered))]
     fn answered(&mut self, name: HostName, press: Press) -> Action
-        ensures hand { self.new ≡ (with_asked (answered press name) self.old).0 }
-        ensures action { result ≡ (with_asked (answered press name) self.old).1 }
+        ensures { ComesTo (with_asked (answered press name) self.old) self.new result }
     {
         match press {
             Press::Character(byte) => self.spelled(name, byte),
@@ -123,8 +121,7 @@ impl Hand {
 
     /// The name is still asked for.
     fn keep(&mut self, name: HostName, action: Action) -> Action
-        ensures hand { self.new ≡ (with_asked (Some name, action) self.old).0 }
-        ensures action { result ≡ action }
+        ensures { ComesTo (with_asked (Some name, action) self.old) self.new result }
     {
         self.asked = Some(name);
         action
@@ -133,8 +130,7 @@ impl Hand {
     /// A byte of the name, or a carriage return, which ends it.
     #[tactic(auto, unfolding(crate::specs::Asking::spelled))]
     fn spelled(&mut self, name: HostName, byte: u8) -> Action
-        ensures hand { self.new ≡ (with_asked (spelled byte name) self.old).0 }
-        ensures action { result ≡ (with_asked (spelled byte name) self.old).1 }
+        ensures { ComesTo (with_asked (spelled byte name) self.old) self.new result }
     {
         let mut name = name;
         if byte == CARRIAGE_RETURN {
@@ -147,25 +143,10 @@ impl Hand {
         }
     }
 
-    /// The last byte of the name is taken off.
-    #[tactic(auto, unfolding(crate::specs::Asking::shortened))]
-    fn shortened(&mut self, name: HostName) -> Action
-        ensures hand { self.new ≡ (with_asked (shortened name) self.old).0 }
-        ensures action { result ≡ (with_asked (shortened name) self.old).1 }
-    {
-        let mut name = name;
-        if name.as_bytes().is_empty() {
-            return self.keep(name, Action::Ring);
-        }
-        name.shorten();
-        self.keep(name, Action::Nothing)
-    }
-
     /// What the key Ctrl comes to with a letter while a name is asked for.
     #[tactic(auto, unfolding(crate::specs::Asking::controlled_name))]
     fn controlled_name(&mut self, name: HostName, byte: u8) -> Action
-        ensures hand { self.new ≡ (with_asked (controlled_name byte name) self.old).0 }
-        ensures action { result ≡ (with_asked (controlled_name byte name) self.old).1 }
+        ensures { ComesTo (with_asked (controlled_name byte name) self.old) self.new result }
     {
         if byte == CONTROL_G {
             self.asked = None;
@@ -184,8 +165,7 @@ impl Hand {
     /// The name is whole. One with no byte is none.
     #[tactic(auto, unfolding(crate::specs::Asking::entered))]
     fn entered(&mut self, name: HostName) -> Action
-        ensures hand { self.new ≡ (with_asked (entered name) self.old).0 }
-        ensures action { result ≡ (with_asked (entered name) self.old).1 }
+        ensures { ComesTo (with_asked (entered name) self.old) self.new result }
     {
         self.asked = None;
         if name.as_bytes().is_empty() {
@@ -195,10 +175,22 @@ impl Hand {
         }
     }
 
+    /// The last byte of the name is taken off.
+    #[tactic(auto, unfolding(crate::specs::Asking::shortened))]
+    fn shortened(&mut self, name: HostName) -> Action
+        ensures { ComesTo (with_asked (shortened name) self.old) self.new result }
+    {
+        let mut name = name;
+        if name.as_bytes().is_empty() {
+            return self.keep(name, Action::Ring);
+        }
+        name.shorten();
+        self.keep(name, Action::Nothing)
+    }
+
     /// The name of a host file is asked for.
     fn ask(&mut self) -> Action
-        ensures hand { self.new ≡ (asks self.old).0 }
-        ensures action { result ≡ (asks self.old).1 }
+        ensures { ComesTo (asks self.old) self.new result }
     {
         self.asked = Some(HostName::none());
         Action::Nothing
@@ -207,8 +199,7 @@ impl Hand {
     /// What a press comes to while a paste goes on.
     #[tactic(auto, unfolding(crate::specs::Hands::pasting))]
     fn pasting(&mut self, press: Press) -> Action
-        ensures hand { self.new ≡ (pasting_by self.old.paste press self.old).0 }
-        ensures action { result ≡ (pasting_by self.old.paste press self.old).1 }
+        ensures { ComesTo (pasting_by self.old.paste press self.old) self.new result }
     {
         let Some(paste) = &mut self.paste else {
             return Action::Nothing;
@@ -224,8 +215,7 @@ impl Hand {
     /// What a press comes to while nothing is pasted.
     #[tactic(auto, unfolding(crate::specs::Hands::fresh))]
     fn fresh(&mut self, sight: Sight, press: Press) -> Action
-        ensures hand { self.new ≡ (fresh sight press self.old).0 }
-        ensures action { result ≡ (fresh sight press self.old).1 }
+        ensures { ComesTo (fresh sight press self.old) self.new result }
     {
         match press {
             Press::Character(byte) => typed(&[byte]),
@@ -249,8 +239,7 @@ impl Hand {
     /// The key Escape. The next click is what it says by itself.
     #[tactic(auto, unfolding(crate::specs::Hands::escaped))]
     fn escaped(&mut self) -> Action
-        ensures hand { self.new ≡ (escaped_by self.old).0 }
-        ensures action { result ≡ (escaped_by self.old).1 }
+        ensures { ComesTo (escaped_by self.old) self.new result }
     {
         self.armed = None;
         Action::Post(Event::Key(Key::Escape))
@@ -259,8 +248,7 @@ impl Hand {
     /// What the key Ctrl comes to with a letter.
     #[tactic(auto, unfolding(crate::specs::Hands::controlled))]
     fn controlled(&mut self, byte: u8) -> Action
-        ensures hand { self.new ≡ (controlled_by byte self.old).0 }
-        ensures action { result ≡ (controlled_by byte self.old).1 }
+        ensures { ComesTo (controlled_by byte self.old) self.new result }
     {
         if byte == CONTROL_G {
             self.escaped()
@@ -274,8 +262,7 @@ impl Hand {
     /// What a function key comes to.
     #[tactic(auto, unfolding(crate::specs::Hands::by_function))]
     fn function(&mut self, key: FunctionKey) -> Action
-        ensures hand { self.new ≡ (by_function key self.old).0 }
-        ensures action { result ≡ (by_function key self.old).1 }
+        ensures { ComesTo (by_function key self.old) self.new result }
     {
         let click = match key {
             FunctionKey::F1 => Click::Mark,
@@ -296,8 +283,7 @@ impl Hand {
     /// What a report of the mouse comes to.
     #[tactic(auto, unfolding(crate::specs::Hands::reported))]
     fn reported(&mut self, sight: Sight, report: MouseReport) -> Action
-        ensures hand { self.new ≡ (reported_by sight report self.old).0 }
-        ensures action { result ≡ (reported_by sight report self.old).1 }
+        ensures { ComesTo (reported_by sight report self.old) self.new result }
     {
         let spot = Spot::nearest(sight, report.column, report.row);
         if report.is_down {
@@ -341,8 +327,7 @@ impl Hand {
     /// A button goes up.
     #[tactic(auto, unfolding(crate::specs::Hands::gone_up, crate::specs::Hands::rested))]
     fn go_up(&mut self, button: Button, spot: Spot) -> Action
-        ensures hand { self.new ≡ (gone_up self.old.gesture button spot self.old).0 }
-        ensures action { result ≡ (gone_up self.old.gesture button spot self.old).1 }
+        ensures { ComesTo (gone_up self.old.gesture button spot self.old) self.new result }
     {
         let Some(gesture) = self.gesture else {
             return Action::Nothing;

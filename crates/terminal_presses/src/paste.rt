@@ -1,6 +1,7 @@
 //! What is pasted, on its way into events.
 ghost use Rattle.std.specs.Prelude.{◌≡◌, [], IsTrue};
 ghost use Rattle.event_bytes.specs.Bytes.{is_text_byte as text_byte};
+ghost use Rattle.terminal_presses.specs.Coming.{ComesTo};
 ghost use Rattle.terminal_presses.specs.Pastes.{typed as typed_by, added, in_profile as profile_byte, pasted_byte};
 ghost use Rattle.terminal_presses.specs.Pastes.{new_paste, with_byte, fed as line_fed, pasted_more, pasted_if_any};
 
@@ -47,8 +48,7 @@ impl Pasted {
     #[tactic(auto, unfolding(crate::specs::Pastes::added))]
     pub fn add(&mut self, byte: u8) -> Action
         requires { IsTrue (text_byte byte) }
-        ensures bytes { self.new ≡ (added byte self.old).0 }
-        ensures action { result ≡ (added byte self.old).1 }
+        ensures { ComesTo (added byte self.old) self.new result }
     {
         self.bytes.push(byte);
         if self.bytes.len() < MOST {
@@ -88,8 +88,7 @@ impl Paste {
 
     /// Something is pressed while a paste goes on.
     pub fn take(&mut self, press: Press) -> Action
-        ensures paste { self.new ≡ (pasted_if_any (pasted_byte press) self.old).0 }
-        ensures action { result ≡ (pasted_if_any (pasted_byte press) self.old).1 }
+        ensures { ComesTo (pasted_if_any (pasted_byte press) self.old) self.new result }
     {
         match byte_of(press) {
             None => Action::Nothing,
@@ -100,8 +99,7 @@ impl Paste {
     /// A byte more is pasted.
     #[tactic(auto, unfolding(crate::specs::Pastes::pasted_more))]
     fn add(&mut self, byte: u8) -> Action
-        ensures paste { self.new ≡ (pasted_more byte self.old).0 }
-        ensures action { result ≡ (pasted_more byte self.old).1 }
+        ensures { ComesTo (pasted_more byte self.old) self.new result }
     {
         if byte == LINE_FEED {
             self.feed()
@@ -113,8 +111,7 @@ impl Paste {
     /// A line feed is a carriage return, but nothing right after one.
     #[tactic(auto, unfolding(crate::specs::Pastes::fed, event_bytes::specs::Bytes::is_text_byte))]
     fn feed(&mut self) -> Action
-        ensures paste { self.new ≡ (line_fed self.old).0 }
-        ensures action { result ≡ (line_fed self.old).1 }
+        ensures { ComesTo (line_fed self.old) self.new result }
     {
         if self.after_return {
             self.after_return = false;
@@ -127,8 +124,7 @@ impl Paste {
     #[tactic(auto, unfolding(crate::specs::Pastes::with_byte))]
     fn add_typed(&mut self, byte: u8, is_return: bool) -> Action
         requires { IsTrue (text_byte byte) }
-        ensures paste { self.new ≡ (with_byte byte is_return self.old).0 }
-        ensures action { result ≡ (with_byte byte is_return self.old).1 }
+        ensures { ComesTo (with_byte byte is_return self.old) self.new result }
     {
         self.after_return = is_return;
         self.bytes.add(byte)

@@ -8,4 +8,4 @@ returns-then-self g c = takes_alone g.D.Disk tt _ _ c.args.store.now c.requires
 
 pub returns : goal.returns
 returns g c = rw (← pressed_desk c.args.press (desk_of c.args.self.now c.args.store.now) c.take-action.new.self
-    c.take-action.result c.if-self.false c.take-action.ensures.hand c.take-action.ensures.action) c.act.ensures
+    c.take-action.result c.if-self.false c.take-action.ensures.state c.take-action.ensures.action) c.act.ensures
