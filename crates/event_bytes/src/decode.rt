@@ -71,7 +71,8 @@ fn key_event_from(bytes: &[u8]) -> Option<(Event, &[u8])>
     ensures { value_and_rest result ≡ key_body_at bytes.now }
 {
     let (number, rest) = byte_from(bytes)?;
-    Some((Event::Key(Key::from_number(number)?), rest))
+    let key = *Key::ALL.get(number as usize)?;
+    Some((Event::Key(key), rest))
 }
 
 /// The event that sets the marker, and the rest.
@@ -115,7 +116,7 @@ fn keys_from(bytes: &[u8]) -> Option<(Keys, &[u8])>
     ensures { value_and_rest result ≡ keys_at bytes.now }
 {
     let (number, rest) = byte_from(bytes)?;
-    let keys = Keys::from_number(number)?;
+    let keys = *Keys::ALL.get(number as usize)?;
     Some((keys, rest))
 }
 

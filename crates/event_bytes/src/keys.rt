@@ -1,6 +1,6 @@
 //! Keys of the keyboard and of the mouse.
 ghost use Rattle.std.specs.Prelude.{◌≡◌, ◌<◌, ◌^◌};
-ghost use Rattle.event_bytes.specs.Keys.{key_of, key_number, keys_of, keys_number};
+ghost use Rattle.event_bytes.specs.Keys.{key_number, keys_number};
 
 /// A key of the keyboard with a meaning of its own.
 #[derive(Clone, Copy, Debug, PartialEq, Eq)]
@@ -20,13 +20,6 @@ pub enum Key {
 impl Key {
     /// All of them, by their numbers.
     pub const ALL: [Key; 5] = [Key::Back, Key::Copy, Key::Paste, Key::Cut, Key::Escape];
-
-    /// The key of a number, 0 to 4. None for a greater one.
-    pub(crate) fn from_number(number: u8) -> Option<Key>
-        ensures { result ≡ key_of number }
-    {
-        Key::ALL.get(number as usize).copied()
-    }
 
     /// Its number, 0 to 4.
     pub(crate) fn number(self) -> u8
@@ -63,13 +56,6 @@ impl Keys {
         Keys::RightLeft,
         Keys::RightMiddle,
     ];
-
-    /// The keys of a number, 0 to 8. None for a greater one.
-    pub(crate) fn from_number(number: u8) -> Option<Keys>
-        ensures { result ≡ keys_of number }
-    {
-        Keys::ALL.get(number as usize).copied()
-    }
 
     /// Their number, 0 to 8.
     pub(crate) fn number(self) -> u8

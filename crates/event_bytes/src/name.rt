@@ -33,6 +33,22 @@ impl Model for Name {
     ghost inverse = { λ bytes. record { bytes = record { items = bytes } } };
 }
 
+/// A copy, which takes no memory and so never fails.
+impl Clone for Name {
+    ghost is_clone = { λ name copy. copy ≡ name };
+
+    ghost is_infallible = { λ _. ⊤ };
+
+    fn clone(&self) -> Result<Name, AllocError>
+        ensures copy { result ≡ Ok self.now }
+        ensures valid { IsTrue (names self.now) }
+    {
+        Ok(Name {
+            bytes: self.bytes.clone()?,
+        })
+    }
+}
+
 impl Name {
     /// The name of these bytes. None exactly where they are no name.
     pub fn new(bytes: &[u8]) -> Option<Name>
@@ -51,22 +67,6 @@ impl Name {
         ensures valid { IsTrue (names self.now) }
     {
         self.bytes.as_slice()
-    }
-}
-
-/// A copy, which takes no memory and so never fails.
-impl Clone for Name {
-    ghost is_clone = { λ name copy. copy ≡ name };
-
-    ghost is_infallible = { λ _. ⊤ };
-
-    fn clone(&self) -> Result<Name, AllocError>
-        ensures copy { result ≡ Ok self.now }
-        ensures valid { IsTrue (names self.now) }
-    {
-        Ok(Name {
-            bytes: self.bytes.clone()?,
-        })
     }
 }
 
