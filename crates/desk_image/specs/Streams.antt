@@ -1,5 +1,5 @@
 -- What calls do that take bytes from a source or put bytes into a sink.
-use Rattle.std.specs.Prelude.{◌≡◌, ℕ, List, [], ◌∷◌, ◌++◌, Option, Some, None, Result, Ok, Err, OnOk, IfOk, IfSome}
+use Rattle.std.specs.Prelude.{◌≡◌, ◌-◌, ℕ, List, [], ◌∷◌, ◌++◌, Option, Some, None, Result, Ok, Err, OnOk, IfOk, IfSome}
 use Rattle.sector_disk.specs.Faults.{FailsAs, OneOf}
 use Rattle.sector_disk.specs.Trail.{CountsFault}
 use Rattle.event_bytes.specs.Parts.{Reader}
@@ -36,6 +36,14 @@ pub record ReadsFit {S X Y : Type 0} (s : SourceGhosts S) (view : X → Y) (resu
   where
     pub reads : Reads s view result read old new
     pub fits : IfOk result (λ x. Fits (view x))
+
+-- A call that reads from a source what fits into the room. So much room as it takes isn't left afterwards.
+pub record ReadsWithin {S X Y : Type 0} (s : SourceGhosts S) (view : X → Y) (result : Result X ImageFault)
+    (read : Reader Y) (Fits : Y → Type 0) (size : Y → ℕ) (room room' : ℕ) (old new : S) : Type 0
+  where
+    pub reads : Reads s view result read old new
+    pub fits : IfOk result (λ x. Fits (view x))
+    pub left : IfOk result (λ x. room' ≡ room - size (view x))
 
 -- what is there has this
 abbrev pub IfThere : {X : Type 0} → (X → Type 0) → Option X → Type 0

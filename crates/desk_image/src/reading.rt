@@ -24,7 +24,7 @@ ghost use Rattle.desk_image.specs.Reading.{pattern_at, raw_cell_at, cell_at, sid
 ghost use Rattle.desk_image.specs.Reading.{image_at, whole_image_at, is_piece as pieces};
 ghost use Rattle.desk_image.specs.Steps.{ReadsItems, any_at, end_at, short_at, last_key, front_at, held_at, FitHeld};
 ghost use Rattle.desk_image.specs.Steps.{shown_at};
-ghost use Rattle.desk_image.specs.Streams.{IfThere, Reads, ReadsFit};
+ghost use Rattle.desk_image.specs.Streams.{IfThere, Reads, ReadsFit, ReadsWithin};
 ghost use Rattle.desk_image.specs.Image.{InId, has_overlays};
 
 use crate::forms::has_overlays;
@@ -166,24 +166,30 @@ fn piece_from<S: ByteSource>(source: &mut S, written: u32, room: u32) -> Read<Pi
     }
 }
 
-/// So many pieces. What is left of the room stands there afterwards.
-fn counted_pieces<S: ByteSource, H: Holder>(
+/// Where texts and buffers are made, and how many characters were written.
+#[derive(Clone, Copy)]
+struct Base {
     alloc: Global,
-    source: &mut S,
     written: u32,
+}
+
+/// So many pieces. What is left of the room stands there afterwards.
+fn many_pieces<S: ByteSource, H: Holder>(
+    source: &mut S,
+    base: Base,
     room: &mut u32,
     count: u32,
 ) -> Read<H>
-    ensures items { ReadsItems S.ByteSource H.held result (piece_at written) (FitsPiece written) less count room.old
-        source.old source.new }
+    ensures items { ReadsItems S.ByteSource H.held result (piece_at base.written) (FitsPiece base.written) less count
+        room.old source.old source.new }
     ensures left { IfOk result (λ holder. room.new ≡ room.old - total (H.held holder)) }
 {
-    let mut pieces = H::empty(alloc)?;
+    let mut pieces = H::empty(base.alloc)?;
     let mut left = *room;
     for _ in 0..count {
-        let piece = piece_from(source, written, left)?;
+        let piece = piece_from(source, base.written, left)?;
         left -= piece.len;
-        pieces.put(alloc, piece)?;
+        pieces.put(base.alloc, piece)?;
     }
     *room = left;
     Ok(pieces)
@@ -191,58 +197,48 @@ fn counted_pieces<S: ByteSource, H: Holder>(
 
 /// Pieces after their number.
 #[tactic(auto, unfolding(crate::specs::Reading::pieces_at))]
-fn pieces_from<S: ByteSource, H: Holder>(
-    alloc: Global,
-    source: &mut S,
-    written: u32,
-    room: &mut u32,
-) -> Read<H>
-    ensures reads { Reads S.ByteSource H.held result (pieces_at written room.old) source.old source.new }
-    ensures fits { IfOk result (λ holder. FitsPieces written room.old (H.held holder)) }
-    ensures left { IfOk result (λ holder. room.new ≡ room.old - total (H.held holder)) }
+fn pieces_from<S: ByteSource, H: Holder>(source: &mut S, base: Base, room: &mut u32) -> Read<H>
+    ensures { ReadsWithin S.ByteSource H.held result (pieces_at base.written room.old)
+        (FitsPieces base.written room.old) total room.old room.new source.old source.new }
 {
     let count = long_from(source)?;
-    counted_pieces(alloc, source, written, room, count)
+    many_pieces(source, base, room, count)
 }
 
 // ---- texts and files
 
+type Texts = BTreeMap<u16, Text>;
+
+type Files = BTreeMap<Name, Text>;
+
 /// A text after its number, which is `least` or above.
 fn text_from<S: ByteSource>(
-    alloc: Global,
     source: &mut S,
-    written: u32,
-    least: u32,
+    base: Base,
     room: &mut u32,
+    least: u32,
 ) -> Read<(u16, Text)>
-    ensures reads { Reads S.ByteSource (λ text. text) result (text_at written (least, room.old)) source.old source.new }
-    ensures fits { IfOk result (FitsText written (least, room.old)) }
-    ensures left { IfOk result (λ text. room.new ≡ room.old - total text.1) }
+    ensures { ReadsWithin S.ByteSource (λ text. text) result (text_at base.written (least, room.old))
+        (FitsText base.written (least, room.old)) (λ text. total text.1) room.old room.new source.old source.new }
 {
     let number = word_from(source)?;
     if (number as u32) < least {
         return Err(ImageFault::Damaged);
     }
-    let text: Text = pieces_from(alloc, source, written, room)?;
+    let text: Text = pieces_from(source, base, room)?;
     Ok((number, text))
 }
 
 /// So many texts, by rising numbers.
-fn counted_texts<S: ByteSource>(
-    alloc: Global,
-    source: &mut S,
-    written: u32,
-    room: &mut u32,
-    count: u16,
-) -> Read<BTreeMap<u16, Text>>
-    ensures items { ReadsItems S.ByteSource (λ texts. texts.entries) result (text_at written) (FitsText written)
-        after_text count (0, room.old) source.old source.new }
+fn many_texts<S: ByteSource>(source: &mut S, base: Base, room: &mut u32, count: u16) -> Read<Texts>
+    ensures items { ReadsItems S.ByteSource (λ texts. texts.entries) result (text_at base.written)
+        (FitsText base.written) after_text count (0, room.old) source.old source.new }
     ensures left { IfOk result (λ texts. room.new ≡ room.old - totals texts.entries) }
 {
-    let mut texts = BTreeMap::new(alloc);
+    let mut texts = BTreeMap::new(base.alloc);
     let mut least = 0;
     for _ in 0..count {
-        let (number, text) = text_from(alloc, source, written, least, room)?;
+        let (number, text) = text_from(source, base, room, least)?;
         least = number as u32 + 1;
         texts.insert(number, text)?;
     }
@@ -251,23 +247,16 @@ fn counted_texts<S: ByteSource>(
 
 /// Texts after their number.
 #[tactic(auto, unfolding(crate::specs::Reading::texts_at))]
-fn texts_from<S: ByteSource>(
-    alloc: Global,
-    source: &mut S,
-    written: u32,
-    room: &mut u32,
-) -> Read<BTreeMap<u16, Text>>
-    ensures reads { Reads S.ByteSource (λ texts. texts.entries) result (texts_at written room.old)
-        source.old source.new }
-    ensures fits { IfOk result (λ texts. FitsTexts written room.old texts.entries) }
-    ensures left { IfOk result (λ texts. room.new ≡ room.old - totals texts.entries) }
+fn texts_from<S: ByteSource>(source: &mut S, base: Base, room: &mut u32) -> Read<Texts>
+    ensures { ReadsWithin S.ByteSource (λ texts. texts.entries) result (texts_at base.written room.old)
+        (FitsTexts base.written room.old) totals room.old room.new source.old source.new }
 {
     let count = word_from(source)?;
-    counted_texts(alloc, source, written, room, count)
+    many_texts(source, base, room, count)
 }
 
 /// So many bytes.
-fn counted_bytes<S: ByteSource>(source: &mut S, count: u8) -> Read<ArrayVec<u8, PATTERN>>
+fn many_bytes<S: ByteSource>(source: &mut S, count: u8) -> Read<ArrayVec<u8, PATTERN>>
     requires { count ≤ 31 }
     ensures reads { Reads S.ByteSource (λ bytes. bytes.items) result (bytes_at count) source.old source.new }
     ensures many { IfOk result (λ bytes. length bytes.items ≡ count) }
@@ -288,7 +277,7 @@ fn short_from<S: ByteSource>(source: &mut S) -> Read<ArrayVec<u8, PATTERN>>
     if count as usize > PATTERN {
         return Err(ImageFault::Damaged);
     }
-    counted_bytes(source, count)
+    many_bytes(source, count)
 }
 
 /// A pattern.
@@ -312,7 +301,7 @@ fn name_from<S: ByteSource>(source: &mut S) -> Read<Name>
 }
 
 /// Whether the name comes after those of all files.
-fn comes_last(files: &BTreeMap<Name, Text>, name: &Name) -> bool
+fn comes_last(files: &Files, name: &Name) -> bool
     ensures { result ≡ follows (last_key files.now.entries) name.now }
 {
     match files.last_key_value() {
@@ -321,65 +310,51 @@ fn comes_last(files: &BTreeMap<Name, Text>, name: &Name) -> bool
     }
 }
 
-/// A file, whose name comes after those of the files before it.
-fn file_from<S: ByteSource>(
-    alloc: Global,
-    source: &mut S,
-    written: u32,
-    files: &BTreeMap<Name, Text>,
-    room: &mut u32,
-) -> Read<(Name, Text)>
-    ensures reads { Reads S.ByteSource (λ file. file) result (file_at written (last_key files.now.entries, room.old))
-        source.old source.new }
-    ensures fits { IfOk result (FitsFile written (last_key files.now.entries, room.old)) }
-    ensures left { IfOk result (λ file. room.new ≡ room.old - total file.1) }
-{
-    let name = name_from(source)?;
-    if !comes_last(files, &name) {
-        return Err(ImageFault::Damaged);
-    }
-    let text: Text = pieces_from(alloc, source, written, room)?;
-    Ok((name, text))
-}
-
 /// So many files, by rising names.
-fn counted_files<S: ByteSource>(
-    alloc: Global,
-    source: &mut S,
-    written: u32,
-    room: &mut u32,
-    count: u16,
-) -> Read<BTreeMap<Name, Text>>
-    ensures items { ReadsItems S.ByteSource (λ files. files.entries) result (file_at written) (FitsFile written)
-        after_file count (None, room.old) source.old source.new }
+fn many_files<S: ByteSource>(source: &mut S, base: Base, room: &mut u32, count: u16) -> Read<Files>
+    ensures items { ReadsItems S.ByteSource (λ files. files.entries) result (file_at base.written)
+        (FitsFile base.written) after_file count (None, room.old) source.old source.new }
     ensures left { IfOk result (λ files. room.new ≡ room.old - totals files.entries) }
 {
-    let mut files = BTreeMap::new(alloc);
+    let mut files = BTreeMap::new(base.alloc);
     for _ in 0..count {
-        let (name, text) = file_from(alloc, source, written, &files, room)?;
+        let (name, text) = file_from(source, base, room, &files)?;
         files.insert(name, text)?;
     }
     Ok(files)
 }
 
+/// A file, whose name comes after those of the files before it.
+fn file_from<S: ByteSource>(
+    source: &mut S,
+    base: Base,
+    room: &mut u32,
+    files: &Files,
+) -> Read<(Name, Text)>
+    ensures { ReadsWithin S.ByteSource (λ file. file) result
+        (file_at base.written (last_key files.now.entries, room.old))
+        (FitsFile base.written (last_key files.now.entries, room.old)) (λ file. total file.1)
+        room.old room.new source.old source.new }
+{
+    let name = name_from(source)?;
+    if !comes_last(files, &name) {
+        return Err(ImageFault::Damaged);
+    }
+    let text: Text = pieces_from(source, base, room)?;
+    Ok((name, text))
+}
+
 /// Files after their number.
 #[tactic(auto, unfolding(crate::specs::Reading::files_at))]
-fn files_from<S: ByteSource>(
-    alloc: Global,
-    source: &mut S,
-    written: u32,
-    room: &mut u32,
-) -> Read<BTreeMap<Name, Text>>
-    ensures reads { Reads S.ByteSource (λ files. files.entries) result (files_at written room.old)
-        source.old source.new }
-    ensures fits { IfOk result (λ files. FitsFiles written room.old files.entries) }
-    ensures left { IfOk result (λ files. room.new ≡ room.old - totals files.entries) }
+fn files_from<S: ByteSource>(source: &mut S, base: Base, room: &mut u32) -> Read<Files>
+    ensures { ReadsWithin S.ByteSource (λ files. files.entries) result (files_at base.written room.old)
+        (FitsFiles base.written room.old) totals room.old room.new source.old source.new }
 {
     let count = word_from(source)?;
     if count as u32 > MOST_FILES {
         return Err(ImageFault::Damaged);
     }
-    counted_files(alloc, source, written, room, count)
+    many_files(source, base, room, count)
 }
 
 // ---- viewers
@@ -420,7 +395,7 @@ fn viewer_from<S: ByteSource>(source: &mut S, version: Version, least: u32) -> R
 }
 
 /// So many viewers, by rising ids.
-fn counted_viewers<S: ByteSource>(
+fn many_viewers<S: ByteSource>(
     alloc: Global,
     source: &mut S,
     version: Version,
@@ -453,7 +428,7 @@ fn viewers_from<S: ByteSource>(
     if count as u32 > MOST_VIEWERS {
         return Err(ImageFault::Damaged);
     }
-    counted_viewers(alloc, source, version, count)
+    many_viewers(alloc, source, version, count)
 }
 
 // ---- tracks
@@ -484,7 +459,7 @@ fn entry_from<S: ByteSource>(source: &mut S, version: Version, room: u8) -> Read
 }
 
 /// So many viewers of a track, bottom up.
-fn counted_track<S: ByteSource>(source: &mut S, version: Version, count: u8) -> Read<Stretches>
+fn many_track<S: ByteSource>(source: &mut S, version: Version, count: u8) -> Read<Stretches>
     ensures { ReadsItems S.ByteSource track_of result (entry_at (version_number version))
         (FitsEntry (version_number version)) above count rows source.old source.new }
 {
@@ -505,7 +480,7 @@ fn track_from<S: ByteSource>(source: &mut S, version: Version) -> Read<Stretches
         source.old source.new }
 {
     let count = byte_from(source)?;
-    counted_track(source, version, count)
+    many_track(source, version, count)
 }
 
 /// A track that has so many viewers at least.
@@ -522,7 +497,7 @@ fn level_from<S: ByteSource>(source: &mut S, version: Version, least: usize) -> 
 }
 
 /// So many tracks of a column, from the lowest up. Every one but the lowest has a viewer.
-fn counted_stack<S: ByteSource>(
+fn many_stack<S: ByteSource>(
     alloc: Global,
     source: &mut S,
     version: Version,
@@ -565,7 +540,7 @@ fn stack_from<S: ByteSource>(alloc: Global, source: &mut S, version: Version) ->
     if depth == 0 || depth > DEPTH {
         return Err(ImageFault::Damaged);
     }
-    counted_stack(alloc, source, version, depth)
+    many_stack(alloc, source, version, depth)
 }
 
 // ---- the rest
@@ -713,8 +688,8 @@ struct Front {
 /// The texts, and what lies in the buffers.
 #[derive(Drop)]
 struct Held {
-    texts: BTreeMap<u16, Text>,
-    files: BTreeMap<Name, Text>,
+    texts: Texts,
+    files: Files,
     copied: Buffer,
     deleted: Buffer,
 }
@@ -754,11 +729,12 @@ fn held_from<S: ByteSource>(alloc: Global, source: &mut S, written: u32) -> Read
     ensures fits { IfOk result
         (λ held. FitHeld written held.texts.entries held.files.entries held.copied held.deleted) }
 {
+    let base = Base { alloc, written };
     let mut room = MOST_HELD;
-    let texts = texts_from(alloc, source, written, &mut room)?;
-    let files = files_from(alloc, source, written, &mut room)?;
-    let copied: Buffer = pieces_from(alloc, source, written, &mut room)?;
-    let deleted: Buffer = pieces_from(alloc, source, written, &mut room)?;
+    let texts = texts_from(source, base, &mut room)?;
+    let files = files_from(source, base, &mut room)?;
+    let copied: Buffer = pieces_from(source, base, &mut room)?;
+    let deleted: Buffer = pieces_from(source, base, &mut room)?;
     Ok(Held {
         texts,
         files,
@@ -791,8 +767,9 @@ fn picture_from<S: ByteSource>(
     version: Version,
     written: u32,
 ) -> Read<Picture>
-    ensures { ReadsFit S.ByteSource pictured result (image_at (version_number version) written)
-        (FitsImage (version_number version) written) source.old source.new }
+    ensures reads { Reads S.ByteSource pictured result (image_at (version_number version) written)
+        source.old source.new }
+    ensures fits { IfOk result (λ picture. FitsImage (version_number version) written (pictured picture)) }
 {
     let front = front_from(source)?;
     let held = held_from(alloc, source, written)?;
