@@ -1,5 +1,5 @@
 -- What calls do that take bytes from a source or put bytes into a sink.
-use Rattle.std.specs.Prelude.{◌≡◌, ℕ, List, [], ◌∷◌, ◌++◌, Option, Some, None, Result, Ok, Err, OnOk}
+use Rattle.std.specs.Prelude.{◌≡◌, ◌-◌, ℕ, List, [], ◌∷◌, ◌++◌, Option, Some, None, Result, Ok, Err, OnOk, IfOk, IfSome}
 use Rattle.sector_disk.specs.Faults.{FailsAs, OneOf}
 use Rattle.sector_disk.specs.Trail.{CountsFault}
 use Rattle.event_bytes.specs.Parts.{Reader}
@@ -29,6 +29,25 @@ pub record Reads {S X Y : Type 0} (s : SourceGhosts S) (view : X → Y) (result 
     pub gives : s.honest old → Gives view result (s.remaining new) (read (s.remaining old))
     pub only : OnlyGets s.honest s.same_ground old new
     pub faults : FailsAs Fault IsImageFault result (s.failures old) (s.failures new)
+
+-- A call that reads from a source what fits.
+pub record ReadsFit {S X Y : Type 0} (s : SourceGhosts S) (view : X → Y) (result : Result X ImageFault)
+    (read : Reader Y) (Fits : Y → Type 0) (old new : S) : Type 0
+  where
+    pub reads : Reads s view result read old new
+    pub fits : IfOk result (λ x. Fits (view x))
+
+-- A call that reads from a source what fits into the room. So much room as it takes isn't left afterwards.
+pub record ReadsWithin {S X Y : Type 0} (s : SourceGhosts S) (view : X → Y) (result : Result X ImageFault)
+    (read : Reader Y) (Fits : Y → Type 0) (size : Y → ℕ) (room room' : ℕ) (old new : S) : Type 0
+  where
+    pub reads : Reads s view result read old new
+    pub fits : IfOk result (λ x. Fits (view x))
+    pub left : IfOk result (λ x. room' ≡ room - size (view x))
+
+-- what is there has this
+abbrev pub IfThere : {X : Type 0} → (X → Type 0) → Option X → Type 0
+IfThere Has value = IfSome value Has
 
 -- A call that puts bytes into a sink.
 pub record Puts {K X E : Type 0} (k : SinkGhosts K) (result : Result X E) (bytes : List ℕ) (old new : K) : Type 0 where

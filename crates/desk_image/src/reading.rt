@@ -24,7 +24,7 @@ ghost use Rattle.desk_image.specs.Reading.{pattern_at, raw_cell_at, cell_at, sid
 ghost use Rattle.desk_image.specs.Reading.{image_at, whole_image_at, is_piece as pieces};
 ghost use Rattle.desk_image.specs.Steps.{ReadsItems, any_at, end_at, short_at, last_key, front_at, held_at, FitHeld};
 ghost use Rattle.desk_image.specs.Steps.{shown_at};
-ghost use Rattle.desk_image.specs.Streams.{Reads};
+ghost use Rattle.desk_image.specs.Streams.{IfThere, Reads, ReadsFit, ReadsWithin};
 ghost use Rattle.desk_image.specs.Image.{InId, has_overlays};
 
 use crate::forms::has_overlays;
@@ -47,10 +47,13 @@ use std::vec::Vec;
 use text_core::{Buffer, Text};
 use viewer_tracks::{COLUMNS, DEPTH, ROWS, SYSTEM_LEFT, Track};
 
+/// What a call reads.
+type Read<T> = Result<T, ImageFault>;
+
 // ---- numbers
 
 /// The next byte of a source. `Damaged`: there is none.
-fn next_from<S: ByteSource>(source: &mut S) -> Result<u8, ImageFault>
+fn next_from<S: ByteSource>(source: &mut S) -> Read<u8>
     ensures reads { Reads S.ByteSource (λ byte. byte) result any_at source.old source.new }
 {
     match source.get() {
@@ -62,7 +65,7 @@ fn next_from<S: ByteSource>(source: &mut S) -> Result<u8, ImageFault>
 
 /// A number of one byte.
 #[tactic(auto, unfolding(event_bytes::specs::Parts::byte_at))]
-fn byte_from<S: ByteSource>(source: &mut S) -> Result<u8, ImageFault>
+fn byte_from<S: ByteSource>(source: &mut S) -> Read<u8>
     ensures reads { Reads S.ByteSource (λ byte. byte) result byte_at source.old source.new }
 {
     next_from(source)
@@ -70,40 +73,25 @@ fn byte_from<S: ByteSource>(source: &mut S) -> Result<u8, ImageFault>
 
 /// A number of two bytes.
 #[tactic(auto, unfolding(event_bytes::specs::Parts::pair_at))]
-fn word_from<S: ByteSource>(source: &mut S) -> Result<u16, ImageFault>
+fn word_from<S: ByteSource>(source: &mut S) -> Read<u16>
     ensures reads { Reads S.ByteSource (λ number. number) result pair_at source.old source.new }
 {
-    let high = byte_from(source)?;
-    let low = byte_from(source)?;
-    Ok(high as u16 * 256 + low as u16)
+    Ok(byte_from(source)? as u16 * 256 + byte_from(source)? as u16)
 }
 
 /// A number of four bytes.
 #[tactic(auto, unfolding(crate::specs::Reading::long_at))]
-fn long_from<S: ByteSource>(source: &mut S) -> Result<u32, ImageFault>
+fn long_from<S: ByteSource>(source: &mut S) -> Read<u32>
     ensures reads { Reads S.ByteSource (λ number. number) result long_at source.old source.new }
 {
-    let high = word_from(source)?;
-    let low = word_from(source)?;
-    Ok(high as u32 * 65_536 + low as u32)
-}
-
-/// A number of four bytes, where there is one.
-fn position_from<S: ByteSource>(source: &mut S) -> Result<Option<u32>, ImageFault>
-    ensures reads { Reads S.ByteSource (λ number. number) result (optional_at long_at) source.old source.new }
-{
-    match byte_from(source)? {
-        0 => Ok(None),
-        1 => Ok(Some(long_from(source)?)),
-        _ => Err(ImageFault::Damaged),
-    }
+    Ok(word_from(source)? as u32 * 65_536 + word_from(source)? as u32)
 }
 
 // ---- looks and pieces
 
 /// A vertical offset.
 #[tactic(auto, unfolding(crate::specs::Reading::offset_at))]
-fn offset_from<S: ByteSource>(source: &mut S) -> Result<i8, ImageFault>
+fn offset_from<S: ByteSource>(source: &mut S) -> Read<i8>
     ensures reads { Reads S.ByteSource (λ offset. offset) result offset_at source.old source.new }
     ensures least { IfOk result (λ offset. IsTrue (int_le least_offset offset)) }
     ensures greatest { IfOk result (λ offset. IsTrue (int_le offset greatest_offset)) }
@@ -117,7 +105,7 @@ fn offset_from<S: ByteSource>(source: &mut S) -> Result<i8, ImageFault>
 
 /// A look, of which the offset alone is tested.
 #[tactic(auto, unfolding(crate::specs::Reading::raw_look_at))]
-fn raw_look_from<S: ByteSource>(source: &mut S) -> Result<Look, ImageFault>
+fn raw_look_from<S: ByteSource>(source: &mut S) -> Read<Look>
     ensures reads { Reads S.ByteSource (λ look. look) result raw_look_at source.old source.new }
     ensures least { IfOk result (λ look. IsTrue (int_le least_offset look.voff)) }
     ensures greatest { IfOk result (λ look. IsTrue (int_le look.voff greatest_offset)) }
@@ -130,9 +118,8 @@ fn raw_look_from<S: ByteSource>(source: &mut S) -> Result<Look, ImageFault>
 
 /// A look that characters may have.
 #[tactic(auto, unfolding(crate::specs::Reading::look_at))]
-fn look_from<S: ByteSource>(source: &mut S) -> Result<Look, ImageFault>
-    ensures reads { Reads S.ByteSource (λ look. look) result look_at source.old source.new }
-    ensures fits { IfOk result IsLook }
+fn look_from<S: ByteSource>(source: &mut S) -> Read<Look>
+    ensures { ReadsFit S.ByteSource (λ look. look) result look_at IsLook source.old source.new }
 {
     let look = raw_look_from(source)?;
     if look.font < FONTS && look.colour < COLOURS {
@@ -144,7 +131,7 @@ fn look_from<S: ByteSource>(source: &mut S) -> Result<Look, ImageFault>
 
 /// A piece, of which the look alone is tested.
 #[tactic(auto, unfolding(crate::specs::Reading::raw_piece_at))]
-fn raw_piece_from<S: ByteSource>(source: &mut S) -> Result<Piece, ImageFault>
+fn raw_piece_from<S: ByteSource>(source: &mut S) -> Read<Piece>
     ensures reads { Reads S.ByteSource (λ piece. piece) result raw_piece_at source.old source.new }
     ensures look { IfOk result (λ piece. IsLook piece.look) }
 {
@@ -167,9 +154,9 @@ fn is_piece(written: u32, room: u32, piece: &Piece) -> bool
 
 /// A piece that fits.
 #[tactic(auto, unfolding(crate::specs::Reading::piece_at))]
-fn piece_from<S: ByteSource>(source: &mut S, written: u32, room: u32) -> Result<Piece, ImageFault>
-    ensures reads { Reads S.ByteSource (λ piece. piece) result (piece_at written room) source.old source.new }
-    ensures fits { IfOk result (FitsPiece written room) }
+fn piece_from<S: ByteSource>(source: &mut S, written: u32, room: u32) -> Read<Piece>
+    ensures { ReadsFit S.ByteSource (λ piece. piece) result (piece_at written room) (FitsPiece written room)
+        source.old source.new }
 {
     let piece = raw_piece_from(source)?;
     if is_piece(written, room, &piece) {
@@ -179,22 +166,28 @@ fn piece_from<S: ByteSource>(source: &mut S, written: u32, room: u32) -> Result<
     }
 }
 
-/// So many pieces. What is left of the room stands there afterwards.
-fn counted_pieces<S: ByteSource, H: Holder>(
+/// Where texts and buffers are made, and how many characters were written.
+#[derive(Clone, Copy)]
+struct Base {
     alloc: Global,
-    source: &mut S,
     written: u32,
+}
+
+/// So many pieces. What is left of the room stands there afterwards.
+fn many_pieces<S: ByteSource, H: Holder>(
+    source: &mut S,
+    base: Base,
     room: &mut u32,
     count: u32,
-) -> Result<H, ImageFault>
-    ensures items { ReadsItems S.ByteSource H.held result (piece_at written) (FitsPiece written) less count room.old
-        source.old source.new }
+) -> Read<H>
+    ensures items { ReadsItems S.ByteSource H.held result (piece_at base.written) (FitsPiece base.written) less count
+        room.old source.old source.new }
     ensures left { IfOk result (λ holder. room.new ≡ room.old - total (H.held holder)) }
 {
-    let mut pieces = H::empty(alloc)?;
+    let mut pieces = H::empty(base.alloc)?;
     let mut left = *room;
     for _ in 0..count {
-        let piece = piece_from(source, written, left)?;
+        let piece = piece_from(source, base.written, left)?;
         left -= piece.len;
         pieces.put(piece)?;
     }
@@ -204,58 +197,48 @@ fn counted_pieces<S: ByteSource, H: Holder>(
 
 /// Pieces after their number.
 #[tactic(auto, unfolding(crate::specs::Reading::pieces_at))]
-fn pieces_from<S: ByteSource, H: Holder>(
-    alloc: Global,
-    source: &mut S,
-    written: u32,
-    room: &mut u32,
-) -> Result<H, ImageFault>
-    ensures reads { Reads S.ByteSource H.held result (pieces_at written room.old) source.old source.new }
-    ensures fits { IfOk result (λ holder. FitsPieces written room.old (H.held holder)) }
-    ensures left { IfOk result (λ holder. room.new ≡ room.old - total (H.held holder)) }
+fn pieces_from<S: ByteSource, H: Holder>(source: &mut S, base: Base, room: &mut u32) -> Read<H>
+    ensures { ReadsWithin S.ByteSource H.held result (pieces_at base.written room.old)
+        (FitsPieces base.written room.old) total room.old room.new source.old source.new }
 {
     let count = long_from(source)?;
-    counted_pieces(alloc, source, written, room, count)
+    many_pieces(source, base, room, count)
 }
 
 // ---- texts and files
 
+type Texts = BTreeMap<u16, Text>;
+
+type Files = BTreeMap<Name, Text>;
+
 /// A text after its number, which is `least` or above.
 fn text_from<S: ByteSource>(
-    alloc: Global,
     source: &mut S,
-    written: u32,
-    least: u32,
+    base: Base,
     room: &mut u32,
-) -> Result<(u16, Text), ImageFault>
-    ensures reads { Reads S.ByteSource (λ text. text) result (text_at written (least, room.old)) source.old source.new }
-    ensures fits { IfOk result (FitsText written (least, room.old)) }
-    ensures left { IfOk result (λ text. room.new ≡ room.old - total text.1) }
+    least: u32,
+) -> Read<(u16, Text)>
+    ensures { ReadsWithin S.ByteSource (λ text. text) result (text_at base.written (least, room.old))
+        (FitsText base.written (least, room.old)) (λ text. total text.1) room.old room.new source.old source.new }
 {
     let number = word_from(source)?;
     if (number as u32) < least {
         return Err(ImageFault::Damaged);
     }
-    let text: Text = pieces_from(alloc, source, written, room)?;
+    let text: Text = pieces_from(source, base, room)?;
     Ok((number, text))
 }
 
 /// So many texts, by rising numbers.
-fn counted_texts<S: ByteSource>(
-    alloc: Global,
-    source: &mut S,
-    written: u32,
-    room: &mut u32,
-    count: u16,
-) -> Result<BTreeMap<u16, Text>, ImageFault>
-    ensures items { ReadsItems S.ByteSource (λ texts. texts.entries) result (text_at written) (FitsText written)
-        after_text count (0, room.old) source.old source.new }
+fn many_texts<S: ByteSource>(source: &mut S, base: Base, room: &mut u32, count: u16) -> Read<Texts>
+    ensures items { ReadsItems S.ByteSource (λ texts. texts.entries) result (text_at base.written)
+        (FitsText base.written) after_text count (0, room.old) source.old source.new }
     ensures left { IfOk result (λ texts. room.new ≡ room.old - totals texts.entries) }
 {
-    let mut texts = BTreeMap::new(alloc);
+    let mut texts = BTreeMap::new(base.alloc);
     let mut least = 0;
     for _ in 0..count {
-        let (number, text) = text_from(alloc, source, written, least, room)?;
+        let (number, text) = text_from(source, base, room, least)?;
         least = number as u32 + 1;
         texts.insert(number, text)?;
     }
@@ -264,26 +247,16 @@ fn counted_texts<S: ByteSource>(
 
 /// Texts after their number.
 #[tactic(auto, unfolding(crate::specs::Reading::texts_at))]
-fn texts_from<S: ByteSource>(
-    alloc: Global,
-    source: &mut S,
-    written: u32,
-    room: &mut u32,
-) -> Result<BTreeMap<u16, Text>, ImageFault>
-    ensures reads { Reads S.ByteSource (λ texts. texts.entries) result (texts_at written room.old)
-        source.old source.new }
-    ensures fits { IfOk result (λ texts. FitsTexts written room.old texts.entries) }
-    ensures left { IfOk result (λ texts. room.new ≡ room.old - totals texts.entries) }
+fn texts_from<S: ByteSource>(source: &mut S, base: Base, room: &mut u32) -> Read<Texts>
+    ensures { ReadsWithin S.ByteSource (λ texts. texts.entries) result (texts_at base.written room.old)
+        (FitsTexts base.written room.old) totals room.old room.new source.old source.new }
 {
     let count = word_from(source)?;
-    counted_texts(alloc, source, written, room, count)
+    many_texts(source, base, room, count)
 }
 
 /// So many bytes.
-fn counted_bytes<S: ByteSource>(
-    source: &mut S,
-    count: u8,
-) -> Result<ArrayVec<u8, PATTERN>, ImageFault>
+fn many_bytes<S: ByteSource>(source: &mut S, count: u8) -> Read<ArrayVec<u8, PATTERN>>
     requires { count ≤ 31 }
     ensures reads { Reads S.ByteSource (λ bytes. bytes.items) result (bytes_at count) source.old source.new }
     ensures many { IfOk result (λ bytes. length bytes.items ≡ count) }
@@ -297,31 +270,28 @@ fn counted_bytes<S: ByteSource>(
 
 /// Bytes after their number, which is at most 31.
 #[tactic(auto, unfolding(crate::specs::Steps::short_at))]
-fn short_from<S: ByteSource>(source: &mut S) -> Result<ArrayVec<u8, PATTERN>, ImageFault>
-    ensures reads { Reads S.ByteSource (λ bytes. bytes.items) result short_at source.old source.new }
-    ensures fits { IfOk result (λ bytes. FitsPattern bytes.items) }
+fn short_from<S: ByteSource>(source: &mut S) -> Read<ArrayVec<u8, PATTERN>>
+    ensures { ReadsFit S.ByteSource (λ bytes. bytes.items) result short_at FitsPattern source.old source.new }
 {
     let count = byte_from(source)?;
     if count as usize > PATTERN {
         return Err(ImageFault::Damaged);
     }
-    counted_bytes(source, count)
+    many_bytes(source, count)
 }
 
 /// A pattern.
 #[tactic(auto, using(crate::proofs::Bytes::pattern_is_short))]
-fn pattern_from<S: ByteSource>(source: &mut S) -> Result<ArrayVec<u8, PATTERN>, ImageFault>
-    ensures reads { Reads S.ByteSource (λ bytes. bytes.items) result pattern_at source.old source.new }
-    ensures fits { IfOk result (λ bytes. FitsPattern bytes.items) }
+fn pattern_from<S: ByteSource>(source: &mut S) -> Read<ArrayVec<u8, PATTERN>>
+    ensures { ReadsFit S.ByteSource (λ bytes. bytes.items) result pattern_at FitsPattern source.old source.new }
 {
     short_from(source)
 }
 
 /// A name.
 #[tactic(auto, using(crate::proofs::Bytes::name_is_short))]
-fn name_from<S: ByteSource>(source: &mut S) -> Result<Name, ImageFault>
-    ensures reads { Reads S.ByteSource (λ name. name) result name_at source.old source.new }
-    ensures fits { IfOk result (λ name. IsTrue (is_name name)) }
+fn name_from<S: ByteSource>(source: &mut S) -> Read<Name>
+    ensures { ReadsFit S.ByteSource (λ name. name) result name_at (λ name. IsTrue (is_name name)) source.old source.new }
 {
     let bytes = short_from(source)?;
     match Name::new(bytes.as_slice()) {
@@ -331,7 +301,7 @@ fn name_from<S: ByteSource>(source: &mut S) -> Result<Name, ImageFault>
 }
 
 /// Whether the name comes after those of all files.
-fn comes_last(files: &BTreeMap<Name, Text>, name: &Name) -> bool
+fn comes_last(files: &Files, name: &Name) -> bool
     ensures { result ≡ follows (last_key files.now.entries) name.now }
 {
     match files.last_key_value() {
@@ -340,98 +310,60 @@ fn comes_last(files: &BTreeMap<Name, Text>, name: &Name) -> bool
     }
 }
 
-/// A file, whose name comes after those of the files before it.
-fn file_from<S: ByteSource>(
-    alloc: Global,
-    source: &mut S,
-    written: u32,
-    files: &BTreeMap<Name, Text>,
-    room: &mut u32,
-) -> Result<(Name, Text), ImageFault>
-    ensures reads { Reads S.ByteSource (λ file. file) result (file_at written (last_key files.now.entries, room.old))
-        source.old source.new }
-    ensures fits { IfOk result (FitsFile written (last_key files.now.entries, room.old)) }
-    ensures left { IfOk result (λ file. room.new ≡ room.old - total file.1) }
-{
-    let name = name_from(source)?;
-    if !comes_last(files, &name) {
-        return Err(ImageFault::Damaged);
-    }
-    let text: Text = pieces_from(alloc, source, written, room)?;
-    Ok((name, text))
-}
-
 /// So many files, by rising names.
-fn counted_files<S: ByteSource>(
-    alloc: Global,
-    source: &mut S,
-    written: u32,
-    room: &mut u32,
-    count: u16,
-) -> Result<BTreeMap<Name, Text>, ImageFault>
-    ensures items { ReadsItems S.ByteSource (λ files. files.entries) result (file_at written) (FitsFile written)
-        after_file count (None, room.old) source.old source.new }
+fn many_files<S: ByteSource>(source: &mut S, base: Base, room: &mut u32, count: u16) -> Read<Files>
+    ensures items { ReadsItems S.ByteSource (λ files. files.entries) result (file_at base.written)
+        (FitsFile base.written) after_file count (None, room.old) source.old source.new }
     ensures left { IfOk result (λ files. room.new ≡ room.old - totals files.entries) }
 {
-    let mut files = BTreeMap::new(alloc);
+    let mut files = BTreeMap::new(base.alloc);
     for _ in 0..count {
-        let (name, text) = file_from(alloc, source, written, &files, room)?;
+        let (name, text) = file_from(source, base, room, &files)?;
         files.insert(name, text)?;
     }
     Ok(files)
 }
 
+/// A file, whose name comes after those of the files before it.
+fn file_from<S: ByteSource>(
+    source: &mut S,
+    base: Base,
+    room: &mut u32,
+    files: &Files,
+) -> Read<(Name, Text)>
+    ensures { ReadsWithin S.ByteSource (λ file. file) result
+        (file_at base.written (last_key files.now.entries, room.old))
+        (FitsFile base.written (last_key files.now.entries, room.old)) (λ file. total file.1)
+        room.old room.new source.old source.new }
+{
+    let name = name_from(source)?;
+    if !comes_last(files, &name) {
+        return Err(ImageFault::Damaged);
+    }
+    let text: Text = pieces_from(source, base, room)?;
+    Ok((name, text))
+}
+
 /// Files after their number.
 #[tactic(auto, unfolding(crate::specs::Reading::files_at))]
-fn files_from<S: ByteSource>(
-    alloc: Global,
-    source: &mut S,
-    written: u32,
-    room: &mut u32,
-) -> Result<BTreeMap<Name, Text>, ImageFault>
-    ensures reads { Reads S.ByteSource (λ files. files.entries) result (files_at written room.old)
-        source.old source.new }
-    ensures fits { IfOk result (λ files. FitsFiles written room.old files.entries) }
-    ensures left { IfOk result (λ files. room.new ≡ room.old - totals files.entries) }
+fn files_from<S: ByteSource>(source: &mut S, base: Base, room: &mut u32) -> Read<Files>
+    ensures { ReadsWithin S.ByteSource (λ files. files.entries) result (files_at base.written room.old)
+        (FitsFiles base.written room.old) totals room.old room.new source.old source.new }
 {
     let count = word_from(source)?;
     if count as u32 > MOST_FILES {
         return Err(ImageFault::Damaged);
     }
-    counted_files(alloc, source, written, room, count)
+    many_files(source, base, room, count)
 }
 
 // ---- viewers
 
-/// A selection with its rank.
-#[tactic(auto, unfolding(crate::specs::Reading::ranked_at))]
-fn ranked_from<S: ByteSource>(source: &mut S) -> Result<Ranked, ImageFault>
-    ensures reads { Reads S.ByteSource (λ ranked. ranked) result ranked_at source.old source.new }
-    ensures fits { IfOk result FitsRanked }
-{
-    let rank = byte_from(source)?;
-    let beg = long_from(source)?;
-    let end = long_from(source)?;
-    Ok(Ranked { rank, beg, end })
-}
-
-/// A selection with its rank, where there is one.
-fn selection_from<S: ByteSource>(source: &mut S) -> Result<Option<Ranked>, ImageFault>
-    ensures reads { Reads S.ByteSource (λ ranked. ranked) result (optional_at ranked_at) source.old source.new }
-    ensures fits { IfOk result (λ ranked. IfSome ranked FitsRanked) }
-{
-    match byte_from(source)? {
-        0 => Ok(None),
-        1 => Ok(Some(ranked_from(source)?)),
-        _ => Err(ImageFault::Damaged),
-    }
-}
-
 /// An id, or a number of viewers, as a version has it.
 #[tactic(auto, unfolding(crate::specs::Reading::id_at))]
-fn id_from<S: ByteSource>(source: &mut S, version: Version) -> Result<u16, ImageFault>
-    ensures reads { Reads S.ByteSource (λ id. id) result (id_at (version_number version)) source.old source.new }
-    ensures fits { IfOk result (InId (version_number version)) }
+fn id_from<S: ByteSource>(source: &mut S, version: Version) -> Read<u16>
+    ensures { ReadsFit S.ByteSource (λ id. id) result (id_at (version_number version)) (InId (version_number version))
+        source.old source.new }
 {
     if has_overlays(version) {
         return word_from(source);
@@ -441,14 +373,9 @@ fn id_from<S: ByteSource>(source: &mut S, version: Version) -> Result<u16, Image
 }
 
 /// A viewer, whose id is `least` or above.
-fn viewer_from<S: ByteSource>(
-    source: &mut S,
-    version: Version,
-    least: u32,
-) -> Result<ViewerPicture, ImageFault>
-    ensures reads { Reads S.ByteSource (λ viewer. viewer) result (viewer_at (version_number version) least)
-        source.old source.new }
-    ensures fits { IfOk result (FitsViewer (version_number version) least) }
+fn viewer_from<S: ByteSource>(source: &mut S, version: Version, least: u32) -> Read<ViewerPicture>
+    ensures { ReadsFit S.ByteSource (λ viewer. viewer) result (viewer_at (version_number version) least)
+        (FitsViewer (version_number version) least) source.old source.new }
 {
     let id = id_from(source, version)?;
     if (id as u32) < least {
@@ -468,12 +395,12 @@ fn viewer_from<S: ByteSource>(
 }
 
 /// So many viewers, by rising ids.
-fn counted_viewers<S: ByteSource>(
+fn many_viewers<S: ByteSource>(
     alloc: Global,
     source: &mut S,
     version: Version,
     count: u16,
-) -> Result<Vec<ViewerPicture>, ImageFault>
+) -> Read<Vec<ViewerPicture>>
     ensures { ReadsItems S.ByteSource (λ viewers. viewers.items) result (viewer_at (version_number version))
         (FitsViewer (version_number version)) after_viewer count 0 source.old source.new }
 {
@@ -493,25 +420,24 @@ fn viewers_from<S: ByteSource>(
     alloc: Global,
     source: &mut S,
     version: Version,
-) -> Result<Vec<ViewerPicture>, ImageFault>
-    ensures reads { Reads S.ByteSource (λ viewers. viewers.items) result (viewers_at (version_number version))
-        source.old source.new }
-    ensures fits { IfOk result (λ viewers. FitsViewers (version_number version) viewers.items) }
+) -> Read<Vec<ViewerPicture>>
+    ensures { ReadsFit S.ByteSource (λ viewers. viewers.items) result (viewers_at (version_number version))
+        (FitsViewers (version_number version)) source.old source.new }
 {
     let count = id_from(source, version)?;
     if count as u32 > MOST_VIEWERS {
         return Err(ImageFault::Damaged);
     }
-    counted_viewers(alloc, source, version, count)
+    many_viewers(alloc, source, version, count)
 }
 
 // ---- tracks
 
 /// A viewer of a track, of which nothing is tested.
 #[tactic(auto, unfolding(crate::specs::Reading::raw_entry_at))]
-fn raw_entry_from<S: ByteSource>(source: &mut S, version: Version) -> Result<Stretch, ImageFault>
-    ensures reads { Reads S.ByteSource entry_of result (raw_entry_at (version_number version)) source.old source.new }
-    ensures fits { IfOk result (λ stretch. InId (version_number version) stretch.viewer) }
+fn raw_entry_from<S: ByteSource>(source: &mut S, version: Version) -> Read<Stretch>
+    ensures { ReadsFit S.ByteSource entry_of result (raw_entry_at (version_number version))
+        (λ entry. InId (version_number version) entry.viewer) source.old source.new }
 {
     let viewer = id_from(source, version)?;
     let height = byte_from(source)?;
@@ -520,14 +446,9 @@ fn raw_entry_from<S: ByteSource>(source: &mut S, version: Version) -> Result<Str
 
 /// A viewer of a track, which has a row, and no more than there are.
 #[tactic(auto, unfolding(crate::specs::Reading::entry_at))]
-fn entry_from<S: ByteSource>(
-    source: &mut S,
-    version: Version,
-    room: u8,
-) -> Result<Stretch, ImageFault>
-    ensures reads { Reads S.ByteSource entry_of result (entry_at (version_number version) room)
-        source.old source.new }
-    ensures fits { IfOk result (λ stretch. FitsEntry (version_number version) room (entry_of stretch)) }
+fn entry_from<S: ByteSource>(source: &mut S, version: Version, room: u8) -> Read<Stretch>
+    ensures { ReadsFit S.ByteSource entry_of result (entry_at (version_number version) room)
+        (FitsEntry (version_number version) room) source.old source.new }
 {
     let stretch = raw_entry_from(source, version)?;
     if 0 < stretch.height && stretch.height <= room {
@@ -538,11 +459,7 @@ fn entry_from<S: ByteSource>(
 }
 
 /// So many viewers of a track, bottom up.
-fn counted_track<S: ByteSource>(
-    source: &mut S,
-    version: Version,
-    count: u8,
-) -> Result<Stretches, ImageFault>
+fn many_track<S: ByteSource>(source: &mut S, version: Version, count: u8) -> Read<Stretches>
     ensures { ReadsItems S.ByteSource track_of result (entry_at (version_number version))
         (FitsEntry (version_number version)) above count rows source.old source.new }
 {
@@ -558,24 +475,19 @@ fn counted_track<S: ByteSource>(
 
 /// A track: its viewers, after their number.
 #[tactic(auto, unfolding(crate::specs::Reading::track_at))]
-fn track_from<S: ByteSource>(source: &mut S, version: Version) -> Result<Stretches, ImageFault>
-    ensures reads { Reads S.ByteSource track_of result (track_at (version_number version)) source.old source.new }
-    ensures fits { IfOk result (λ track. FitsTrack (version_number version) (track_of track)) }
+fn track_from<S: ByteSource>(source: &mut S, version: Version) -> Read<Stretches>
+    ensures { ReadsFit S.ByteSource track_of result (track_at (version_number version)) (FitsTrack (version_number version))
+        source.old source.new }
 {
     let count = byte_from(source)?;
-    counted_track(source, version, count)
+    many_track(source, version, count)
 }
 
 /// A track that has so many viewers at least.
 #[tactic(auto, unfolding(crate::specs::Reading::level_at))]
-fn level_from<S: ByteSource>(
-    source: &mut S,
-    version: Version,
-    least: usize,
-) -> Result<Stretches, ImageFault>
-    ensures reads { Reads S.ByteSource track_of result (level_at (version_number version) least)
-        source.old source.new }
-    ensures fits { IfOk result (λ track. FitsLevel (version_number version) least (track_of track)) }
+fn level_from<S: ByteSource>(source: &mut S, version: Version, least: usize) -> Read<Stretches>
+    ensures { ReadsFit S.ByteSource track_of result (level_at (version_number version) least)
+        (FitsLevel (version_number version) least) source.old source.new }
 {
     let track = track_from(source, version)?;
     if track.len() < least {
@@ -585,12 +497,12 @@ fn level_from<S: ByteSource>(
 }
 
 /// So many tracks of a column, from the lowest up. Every one but the lowest has a viewer.
-fn counted_stack<S: ByteSource>(
+fn many_stack<S: ByteSource>(
     alloc: Global,
     source: &mut S,
     version: Version,
     depth: u8,
-) -> Result<Levels, ImageFault>
+) -> Read<Levels>
     ensures { ReadsItems S.ByteSource (λ stack. stack_of stack.items) result
         (level_at (version_number version)) (FitsLevel (version_number version)) overlaid depth 0
         source.old source.new }
@@ -607,7 +519,7 @@ fn counted_stack<S: ByteSource>(
 
 /// How many tracks a column has: one, where the version has no overlays.
 #[tactic(auto, unfolding(crate::specs::Reading::depth_at))]
-fn depth_from<S: ByteSource>(source: &mut S, version: Version) -> Result<u8, ImageFault>
+fn depth_from<S: ByteSource>(source: &mut S, version: Version) -> Read<u8>
     ensures reads { Reads S.ByteSource (λ depth. depth) result (depth_at (version_number version))
         source.old source.new }
     ensures few { IfOk result (λ depth. has_overlays (version_number version) ≡ false → depth ≡ 1) }
@@ -620,63 +532,22 @@ fn depth_from<S: ByteSource>(source: &mut S, version: Version) -> Result<u8, Ima
 
 /// The tracks of a column, after their number.
 #[tactic(auto, unfolding(crate::specs::Reading::stack_at))]
-fn stack_from<S: ByteSource>(
-    alloc: Global,
-    source: &mut S,
-    version: Version,
-) -> Result<Levels, ImageFault>
-    ensures reads { Reads S.ByteSource (λ stack. stack_of stack.items) result (stack_at (version_number version))
-        source.old source.new }
-    ensures fits { IfOk result (λ stack. FitsStack (version_number version) (stack_of stack.items)) }
+fn stack_from<S: ByteSource>(alloc: Global, source: &mut S, version: Version) -> Read<Levels>
+    ensures { ReadsFit S.ByteSource (λ stack. stack_of stack.items) result (stack_at (version_number version))
+        (FitsStack (version_number version)) source.old source.new }
 {
     let depth = depth_from(source, version)?;
     if depth == 0 || depth > DEPTH {
         return Err(ImageFault::Damaged);
     }
-    counted_stack(alloc, source, version, depth)
+    many_stack(alloc, source, version, depth)
 }
 
 // ---- the rest
 
-/// A column and a row, of which nothing is tested.
-#[tactic(auto, unfolding(crate::specs::Reading::raw_cell_at))]
-fn raw_cell_from<S: ByteSource>(source: &mut S) -> Result<(u8, u8), ImageFault>
-    ensures reads { Reads S.ByteSource (λ cell. cell) result raw_cell_at source.old source.new }
-{
-    let x = byte_from(source)?;
-    let y = byte_from(source)?;
-    Ok((x, y))
-}
-
-/// A cell of the display.
-#[tactic(auto, unfolding(crate::specs::Reading::cell_at))]
-fn cell_from<S: ByteSource>(source: &mut S) -> Result<(u8, u8), ImageFault>
-    ensures reads { Reads S.ByteSource (λ cell. cell) result cell_at source.old source.new }
-    ensures fits { IfOk result FitsCell }
-{
-    let cell = raw_cell_from(source)?;
-    if cell.0 < COLUMNS && cell.1 < ROWS {
-        Ok(cell)
-    } else {
-        Err(ImageFault::Damaged)
-    }
-}
-
-/// A cell of the display, where there is one.
-fn marker_from<S: ByteSource>(source: &mut S) -> Result<Option<(u8, u8)>, ImageFault>
-    ensures reads { Reads S.ByteSource (λ cell. cell) result (optional_at cell_at) source.old source.new }
-    ensures fits { IfOk result (λ cell. IfSome cell FitsCell) }
-{
-    match byte_from(source)? {
-        0 => Ok(None),
-        1 => Ok(Some(cell_from(source)?)),
-        _ => Err(ImageFault::Damaged),
-    }
-}
-
 /// A track, by its left column.
 #[tactic(auto, unfolding(crate::specs::Reading::side_at))]
-fn side_from<S: ByteSource>(source: &mut S) -> Result<Track, ImageFault>
+fn side_from<S: ByteSource>(source: &mut S) -> Read<Track>
     ensures reads { Reads S.ByteSource (λ side. side) result side_at source.old source.new }
 {
     match byte_from(source)? {
@@ -688,13 +559,9 @@ fn side_from<S: ByteSource>(source: &mut S) -> Result<Track, ImageFault>
 
 /// The viewer that was closed last, of which the track alone is tested.
 #[tactic(auto, unfolding(crate::specs::Reading::raw_closed_at))]
-fn raw_closed_from<S: ByteSource>(
-    source: &mut S,
-    version: Version,
-) -> Result<ClosedViewer, ImageFault>
-    ensures reads { Reads S.ByteSource (λ closed. closed) result (raw_closed_at (version_number version))
-        source.old source.new }
-    ensures fits { IfOk result (λ closed. InId (version_number version) closed.viewer) }
+fn raw_closed_from<S: ByteSource>(source: &mut S, version: Version) -> Read<ClosedViewer>
+    ensures { ReadsFit S.ByteSource (λ closed. closed) result (raw_closed_at (version_number version))
+        (λ closed. InId (version_number version) closed.viewer) source.old source.new }
 {
     let viewer = id_from(source, version)?;
     let track = side_from(source)?;
@@ -704,12 +571,9 @@ fn raw_closed_from<S: ByteSource>(
 
 /// The viewer that was closed last.
 #[tactic(auto, unfolding(crate::specs::Reading::closed_at))]
-fn one_closed_from<S: ByteSource>(
-    source: &mut S,
-    version: Version,
-) -> Result<ClosedViewer, ImageFault>
-    ensures reads { Reads S.ByteSource (λ closed. closed) result (closed_at (version_number version)) source.old source.new }
-    ensures fits { IfOk result (FitsClosed (version_number version)) }
+fn one_closed_from<S: ByteSource>(source: &mut S, version: Version) -> Read<ClosedViewer>
+    ensures { ReadsFit S.ByteSource (λ closed. closed) result (closed_at (version_number version)) (FitsClosed (version_number version))
+        source.old source.new }
 {
     let closed = raw_closed_from(source, version)?;
     if 0 < closed.top && closed.top <= ROWS {
@@ -719,14 +583,79 @@ fn one_closed_from<S: ByteSource>(
     }
 }
 
+/// A column and a row, of which nothing is tested.
+#[tactic(auto, unfolding(crate::specs::Reading::raw_cell_at))]
+fn raw_cell_from<S: ByteSource>(source: &mut S) -> Read<(u8, u8)>
+    ensures reads { Reads S.ByteSource (λ cell. cell) result raw_cell_at source.old source.new }
+{
+    let x = byte_from(source)?;
+    let y = byte_from(source)?;
+    Ok((x, y))
+}
+
+/// A cell of the display.
+#[tactic(auto, unfolding(crate::specs::Reading::cell_at))]
+fn cell_from<S: ByteSource>(source: &mut S) -> Read<(u8, u8)>
+    ensures { ReadsFit S.ByteSource (λ cell. cell) result cell_at FitsCell source.old source.new }
+{
+    let cell = raw_cell_from(source)?;
+    if cell.0 < COLUMNS && cell.1 < ROWS {
+        Ok(cell)
+    } else {
+        Err(ImageFault::Damaged)
+    }
+}
+
+// ---- what may be missing
+
+/// A number of four bytes, where there is one.
+fn position_from<S: ByteSource>(source: &mut S) -> Read<Option<u32>>
+    ensures reads { Reads S.ByteSource (λ number. number) result (optional_at long_at) source.old source.new }
+{
+    match byte_from(source)? {
+        0 => Ok(None),
+        1 => Ok(Some(long_from(source)?)),
+        _ => Err(ImageFault::Damaged),
+    }
+}
+
+/// A cell of the display, where there is one.
+fn marker_from<S: ByteSource>(source: &mut S) -> Read<Option<(u8, u8)>>
+    ensures { ReadsFit S.ByteSource (λ cell. cell) result (optional_at cell_at) (IfThere FitsCell) source.old source.new }
+{
+    match byte_from(source)? {
+        0 => Ok(None),
+        1 => Ok(Some(cell_from(source)?)),
+        _ => Err(ImageFault::Damaged),
+    }
+}
+
+/// A selection with its rank.
+#[tactic(auto, unfolding(crate::specs::Reading::ranked_at))]
+fn ranked_from<S: ByteSource>(source: &mut S) -> Read<Ranked>
+    ensures { ReadsFit S.ByteSource (λ ranked. ranked) result ranked_at FitsRanked source.old source.new }
+{
+    let rank = byte_from(source)?;
+    let beg = long_from(source)?;
+    let end = long_from(source)?;
+    Ok(Ranked { rank, beg, end })
+}
+
+/// A selection with its rank, where there is one.
+fn selection_from<S: ByteSource>(source: &mut S) -> Read<Option<Ranked>>
+    ensures { ReadsFit S.ByteSource (λ value. value) result (optional_at ranked_at) (IfThere FitsRanked) source.old source.new }
+{
+    match byte_from(source)? {
+        0 => Ok(None),
+        1 => Ok(Some(ranked_from(source)?)),
+        _ => Err(ImageFault::Damaged),
+    }
+}
+
 /// The viewer that was closed last, where there is one.
-fn closed_from<S: ByteSource>(
-    source: &mut S,
-    version: Version,
-) -> Result<Option<ClosedViewer>, ImageFault>
-    ensures reads { Reads S.ByteSource (λ closed. closed) result (optional_at (closed_at (version_number version)))
-        source.old source.new }
-    ensures fits { IfOk result (λ closed. IfSome closed (FitsClosed (version_number version))) }
+fn closed_from<S: ByteSource>(source: &mut S, version: Version) -> Read<Option<ClosedViewer>>
+    ensures { ReadsFit S.ByteSource (λ closed. closed) result (optional_at (closed_at (version_number version)))
+        (IfThere (FitsClosed (version_number version))) source.old source.new }
 {
     match byte_from(source)? {
         0 => Ok(None),
@@ -738,7 +667,7 @@ fn closed_from<S: ByteSource>(
 // ---- the whole
 
 /// The end of the source. `Damaged`: a byte is still to come.
-fn end_from<S: ByteSource>(source: &mut S) -> Result<(), ImageFault>
+fn end_from<S: ByteSource>(source: &mut S) -> Read<()>
     ensures reads { Reads S.ByteSource (λ nothing. 0) result end_at source.old source.new }
 {
     match source.get() {
@@ -759,8 +688,8 @@ struct Front {
 /// The texts, and what lies in the buffers.
 #[derive(Drop)]
 struct Held {
-    texts: BTreeMap<u16, Text>,
-    files: BTreeMap<Name, Text>,
+    texts: Texts,
+    files: Files,
     copied: Buffer,
     deleted: Buffer,
 }
@@ -775,7 +704,7 @@ struct Shown {
 
 /// The look, the pattern and the marker.
 #[tactic(auto, unfolding(crate::specs::Steps::front_at))]
-fn front_from<S: ByteSource>(source: &mut S) -> Result<Front, ImageFault>
+fn front_from<S: ByteSource>(source: &mut S) -> Read<Front>
     ensures reads { Reads S.ByteSource (λ front. (front.look, front.pattern.items, front.marker)) result front_at
         source.old source.new }
     ensures look { IfOk result (λ front. IsLook front.look) }
@@ -794,17 +723,18 @@ fn front_from<S: ByteSource>(source: &mut S) -> Result<Front, ImageFault>
 
 /// The texts, the files, and what lies in the buffers.
 #[tactic(auto, unfolding(crate::specs::Steps::held_at))]
-fn held_from<S: ByteSource>(alloc: Global, source: &mut S, written: u32) -> Result<Held, ImageFault>
+fn held_from<S: ByteSource>(alloc: Global, source: &mut S, written: u32) -> Read<Held>
     ensures reads { Reads S.ByteSource (λ held. (held.texts.entries, held.files.entries, held.copied, held.deleted))
         result (held_at written) source.old source.new }
     ensures fits { IfOk result
         (λ held. FitHeld written held.texts.entries held.files.entries held.copied held.deleted) }
 {
+    let base = Base { alloc, written };
     let mut room = MOST_HELD;
-    let texts = texts_from(alloc, source, written, &mut room)?;
-    let files = files_from(alloc, source, written, &mut room)?;
-    let copied: Buffer = pieces_from(alloc, source, written, &mut room)?;
-    let deleted: Buffer = pieces_from(alloc, source, written, &mut room)?;
+    let texts = texts_from(source, base, &mut room)?;
+    let files = files_from(source, base, &mut room)?;
+    let copied: Buffer = pieces_from(source, base, &mut room)?;
+    let deleted: Buffer = pieces_from(source, base, &mut room)?;
     Ok(Held {
         texts,
         files,
@@ -815,11 +745,7 @@ fn held_from<S: ByteSource>(alloc: Global, source: &mut S, written: u32) -> Resu
 
 /// The tracks of both columns, and the viewer that was closed last.
 #[tactic(auto, unfolding(crate::specs::Steps::shown_at))]
-fn shown_from<S: ByteSource>(
-    alloc: Global,
-    source: &mut S,
-    version: Version,
-) -> Result<Shown, ImageFault>
+fn shown_from<S: ByteSource>(alloc: Global, source: &mut S, version: Version) -> Read<Shown>
     ensures reads { Reads S.ByteSource
         (λ shown. (stack_of shown.user.items, stack_of shown.system.items, shown.closed)) result
         (shown_at (version_number version)) source.old source.new }
@@ -844,7 +770,7 @@ fn picture_from<S: ByteSource>(
     source: &mut S,
     version: Version,
     written: u32,
-) -> Result<Picture, ImageFault>
+) -> Read<Picture>
     ensures reads { Reads S.ByteSource pictured result (image_at (version_number version) written)
         source.old source.new }
     ensures fits { IfOk result (λ picture. FitsImage (version_number version) written (pictured picture)) }
@@ -878,9 +804,8 @@ pub fn read_picture<S: ByteSource>(
     version: Version,
     written: u32,
 ) -> Result<Picture, ImageFault>
-    ensures reads { Reads S.ByteSource pictured result (whole_image_at (version_number version) written)
-        source.old source.new }
-    ensures fits { IfOk result (λ picture. FitsImage (version_number version) written (pictured picture)) }
+    ensures { ReadsFit S.ByteSource pictured result (whole_image_at (version_number version) written)
+        (FitsImage (version_number version) written) source.old source.new }
 {
     let picture = picture_from(alloc, source, version, written)?;
     end_from(source)?;

@@ -38,11 +38,10 @@ impl FileBytes {
     pub fn new(bytes: &[u8]) -> Option<FileBytes>
         ensures { result ≡ (if file_bytes bytes.now then Some bytes.now else None) }
     {
-        if !is_file_bytes(bytes) {
-            return None;
-        }
-        let bytes = ArrayVec::try_from(bytes).ok()?;
-        Some(FileBytes { bytes })
+        let mut made = FileBytes {
+            bytes: ArrayVec::new(),
+        };
+        if made.set(bytes) { Some(made) } else { None }
     }
 
     /// Makes it these bytes. False exactly where one of them can't stand in a file, or they are more than 900: then it

@@ -3,7 +3,7 @@ ghost use Rattle.std.specs.Prelude.{◌≡◌, ◌≤◌, length, Some, IfSome};
 ghost use Rattle.std.specs.Option.{option_map};
 ghost use Rattle.event_bytes.specs.Parts.{value_and_rest, byte_at, pair_at, bytes_at, counted_at};
 ghost use Rattle.event_bytes.specs.Spelling.{spelling, Begins};
-ghost use Rattle.event_bytes.specs.Reading.{name_at, file_bytes_at, typed_bytes_at, file_at, key_at, keys_at, cell_at};
+ghost use Rattle.event_bytes.specs.Reading.{name_at, file_at, keys_at, cell_at};
 ghost use Rattle.event_bytes.specs.Reading.{drag_at, typed_body_at, key_body_at, mark_body_at, point_body_at};
 ghost use Rattle.event_bytes.specs.Reading.{file_body_at, body_at, event_at};
 
@@ -57,20 +57,21 @@ fn body_from(number: u8, bytes: &[u8]) -> Option<(Event, &[u8])>
 }
 
 /// What is typed, and the rest.
-#[tactic(auto, unfolding(crate::specs::Reading::typed_body_at))]
+#[tactic(auto, unfolding(crate::specs::Reading::typed_body_at, crate::specs::Reading::typed_bytes_at))]
 fn typed_from(bytes: &[u8]) -> Option<(Event, &[u8])>
     ensures { value_and_rest result ≡ typed_body_at bytes.now }
 {
-    let (bytes, rest) = typed_bytes_from(bytes)?;
-    Some((Event::Typed(bytes), rest))
+    let (bytes, rest) = counted_from(bytes)?;
+    Some((Event::Typed(TypedBytes::new(bytes)?), rest))
 }
 
 /// The event of a key of the keyboard, and the rest.
-#[tactic(auto, unfolding(crate::specs::Reading::key_body_at))]
+#[tactic(auto, unfolding(crate::specs::Reading::key_body_at, crate::specs::Reading::key_at))]
 fn key_event_from(bytes: &[u8]) -> Option<(Event, &[u8])>
     ensures { value_and_rest result ≡ key_body_at bytes.now }
 {
-    let (key, rest) = key_from(bytes)?;
+    let (number, rest) = byte_from(bytes)?;
+    let key = *Key::ALL.get(number as usize)?;
     Some((Event::Key(key), rest))
 }
 
@@ -109,23 +110,13 @@ fn file_event_from(bytes: &[u8]) -> Option<(Event, &[u8])>
     Some((Event::File { name, bytes }, rest))
 }
 
-/// A key of the keyboard, and the rest.
-#[tactic(auto, unfolding(crate::specs::Reading::key_at))]
-fn key_from(bytes: &[u8]) -> Option<(Key, &[u8])>
-    ensures { value_and_rest result ≡ key_at bytes.now }
-{
-    let (number, rest) = byte_from(bytes)?;
-    let key = Key::from_number(number)?;
-    Some((key, rest))
-}
-
 /// Keys of the mouse, and the rest.
 #[tactic(auto, unfolding(crate::specs::Reading::keys_at))]
 fn keys_from(bytes: &[u8]) -> Option<(Keys, &[u8])>
     ensures { value_and_rest result ≡ keys_at bytes.now }
 {
     let (number, rest) = byte_from(bytes)?;
-    let keys = Keys::from_number(number)?;
+    let keys = *Keys::ALL.get(number as usize)?;
     Some((keys, rest))
 }
 
@@ -155,24 +146,14 @@ fn drag_from(bytes: &[u8]) -> Option<(Drag, &[u8])>
     Some((drag, rest))
 }
 
-/// Bytes that are typed, after their number in two bytes, and the rest.
-#[tactic(auto, unfolding(crate::specs::Reading::typed_bytes_at, crate::specs::Parts::counted_at))]
-fn typed_bytes_from(bytes: &[u8]) -> Option<(TypedBytes, &[u8])>
-    ensures { value_and_rest result ≡ typed_bytes_at bytes.now }
-{
-    let (len, rest) = word_from(bytes)?;
-    let (bytes, rest) = bytes_from(len as usize, rest)?;
-    Some((TypedBytes::new(bytes)?, rest))
-}
-
 /// The name and the bytes of a file, and the rest.
-#[tactic(auto, unfolding(crate::specs::Reading::file_at))]
+#[tactic(auto, unfolding(crate::specs::Reading::file_at, crate::specs::Reading::file_bytes_at))]
 fn file_from(bytes: &[u8]) -> Option<((Name, FileBytes), &[u8])>
     ensures { value_and_rest result ≡ file_at bytes.now }
 {
     let (name, rest) = name_from(bytes)?;
-    let (bytes, rest) = file_bytes_from(rest)?;
-    Some(((name, bytes), rest))
+    let (bytes, rest) = counted_from(rest)?;
+    Some(((name, FileBytes::new(bytes)?), rest))
 }
 
 /// A name after its length in one byte, and the rest.
@@ -185,14 +166,13 @@ fn name_from(bytes: &[u8]) -> Option<(Name, &[u8])>
     Some((Name::new(name)?, rest))
 }
 
-/// Bytes of a file after their number in two bytes, and the rest.
-#[tactic(auto, unfolding(crate::specs::Reading::file_bytes_at, crate::specs::Parts::counted_at))]
-fn file_bytes_from(bytes: &[u8]) -> Option<(FileBytes, &[u8])>
-    ensures { value_and_rest result ≡ file_bytes_at bytes.now }
+/// Bytes after their number in two bytes, and the rest.
+#[tactic(auto, unfolding(crate::specs::Parts::counted_at))]
+fn counted_from(bytes: &[u8]) -> Option<(&[u8], &[u8])>
+    ensures { option_map (λ x. (x.0.now, x.1.now)) result ≡ counted_at pair_at bytes.now }
 {
     let (len, rest) = word_from(bytes)?;
-    let (bytes, rest) = bytes_from(len as usize, rest)?;
-    Some((FileBytes::new(bytes)?, rest))
+    bytes_from(len as usize, rest)
 }
 
 /// The first byte, and the rest.

@@ -1,6 +1,6 @@
 //! Keys of the keyboard and of the mouse.
 ghost use Rattle.std.specs.Prelude.{◌≡◌, ◌<◌, ◌^◌};
-ghost use Rattle.event_bytes.specs.Keys.{key_of, key_number, keys_of, keys_number};
+ghost use Rattle.event_bytes.specs.Keys.{key_number, keys_number};
 
 /// A key of the keyboard with a meaning of its own.
 #[derive(Clone, Copy, Debug, PartialEq, Eq)]
@@ -18,13 +18,8 @@ pub enum Key {
 }
 
 impl Key {
-    /// The key of a number, 0 to 4 in the order above. None for a greater one.
-    pub(crate) fn from_number(number: u8) -> Option<Key>
-        ensures { result ≡ key_of number }
-    {
-        let all = [Key::Back, Key::Copy, Key::Paste, Key::Cut, Key::Escape];
-        all.get(number as usize).copied()
-    }
+    /// All of them, by their numbers.
+    pub const ALL: [Key; 5] = [Key::Back, Key::Copy, Key::Paste, Key::Cut, Key::Escape];
 
     /// Its number, 0 to 4.
     pub(crate) fn number(self) -> u8
@@ -49,23 +44,18 @@ pub enum Keys {
 }
 
 impl Keys {
-    /// The keys of a number, 0 to 8 in the order above. None for a greater one.
-    pub(crate) fn from_number(number: u8) -> Option<Keys>
-        ensures { result ≡ keys_of number }
-    {
-        let all = [
-            Keys::Left,
-            Keys::LeftMiddle,
-            Keys::LeftRight,
-            Keys::Middle,
-            Keys::MiddleLeft,
-            Keys::MiddleRight,
-            Keys::Right,
-            Keys::RightLeft,
-            Keys::RightMiddle,
-        ];
-        all.get(number as usize).copied()
-    }
+    /// All of them, by their numbers.
+    pub const ALL: [Keys; 9] = [
+        Keys::Left,
+        Keys::LeftMiddle,
+        Keys::LeftRight,
+        Keys::Middle,
+        Keys::MiddleLeft,
+        Keys::MiddleRight,
+        Keys::Right,
+        Keys::RightLeft,
+        Keys::RightMiddle,
+    ];
 
     /// Their number, 0 to 8.
     pub(crate) fn number(self) -> u8

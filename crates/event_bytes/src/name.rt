@@ -49,20 +49,6 @@ impl Clone for Name {
     }
 }
 
-/// The name `A`, a blank that no list shows: the places of an array that hold no name yet have this value.
-impl Default for Name {
-    ghost use Rattle.std.specs.Prelude.{◌≡◌, [], ◌∷◌};
-
-    ghost is_default = { λ name. name ≡ 65 ∷ [] };
-
-    #[tactic(auto, using(crate::proofs::Names::blank_is_name))]
-    fn default() -> Name {
-        let mut bytes = ArrayVec::new();
-        bytes.push(b'A');
-        Name { bytes }
-    }
-}
-
 impl Name {
     /// The name of these bytes. None exactly where they are no name.
     pub fn new(bytes: &[u8]) -> Option<Name>
@@ -81,6 +67,20 @@ impl Name {
         ensures valid { IsTrue (names self.now) }
     {
         self.bytes.as_slice()
+    }
+}
+
+/// The name `A`, a blank that no list shows: the places of an array that hold no name yet have this value.
+impl Default for Name {
+    ghost use Rattle.std.specs.Prelude.{◌≡◌, [], ◌∷◌};
+
+    ghost is_default = { λ name. name ≡ 65 ∷ [] };
+
+    #[tactic(auto, using(crate::proofs::Names::blank_is_name))]
+    fn default() -> Name {
+        let mut bytes = ArrayVec::new();
+        bytes.push(b'A');
+        Name { bytes }
     }
 }
 

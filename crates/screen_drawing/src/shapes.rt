@@ -72,6 +72,7 @@ pub(crate) fn text_cells<W: Write>(
     let x = CELL_WIDTH * u16::from(place.0);
     let y = CELL_HEIGHT * u16::from(place.1) + BASELINE;
     let width = CELL_WIDTH * faces.len() as u16;
+    let (weight, slant, rule) = style_texts(pen);
     send_all(
         writer,
         &[
@@ -84,9 +85,9 @@ pub(crate) fn text_cells<W: Write>(
             b"' fill='",
             &colour_code(pen.ink),
             b"'",
-            weight_text(pen.weight),
-            slant_text(pen.is_italic),
-            rule_text(pen.rule),
+            weight,
+            slant,
+            rule,
             b">",
             escaped(faces).as_slice(),
             b"</text>\n",
@@ -94,35 +95,26 @@ pub(crate) fn text_cells<W: Write>(
     )
 }
 
-/// What a weight adds to a text.
-fn weight_text(weight: Weight) -> &'static [u8]
-    ensures { result.now ≡ weight_text weight }
+/// What weight, slant and rule of a pen add to a text.
+fn style_texts(pen: Pen) -> (&'static [u8], &'static [u8], &'static [u8])
+    ensures weight { result.0.now ≡ weight_text pen.weight }
+    ensures slant { result.1.now ≡ slant_text pen.is_italic }
+    ensures rule { result.2.now ≡ rule_text pen.rule }
 {
-    match weight {
+    let weight: &[u8] = match pen.weight {
         Weight::Regular => b"",
         Weight::Bold => b" font-weight='bold'",
         Weight::Faint => b" fill-opacity='0.55'",
-    }
-}
-
-/// What a slant adds to a text.
-fn slant_text(is_italic: bool) -> &'static [u8]
-    ensures { result.now ≡ slant_text is_italic }
-{
-    if is_italic {
+    };
+    let slant: &[u8] = if pen.is_italic {
         b" font-style='italic'"
     } else {
         b""
-    }
-}
-
-/// What a line along the characters adds to a text.
-fn rule_text(rule: Rule) -> &'static [u8]
-    ensures { result.now ≡ rule_text rule }
-{
-    match rule {
+    };
+    let rule: &[u8] = match pen.rule {
         Rule::Plain => b"",
         Rule::Under => b" text-decoration='underline'",
         Rule::Over => b" text-decoration='overline'",
-    }
+    };
+    (weight, slant, rule)
 }

@@ -1,15 +1,13 @@
 -- The words of a line: how one is parted from what follows, and which numbers and keys words name.
 use Rattle.std.specs.Prelude.{ℕ, ◌+◌, ◌-◌, ◌*◌, Bool, ◌==◌, ◌&&◌, not, nat_le, if◌then◌else◌, List, [], ◌∷◌, drop}
-use Rattle.std.specs.Prelude.{Option, Some, None, position, codes}
+use Rattle.std.specs.Prelude.{Option, Some, None, position, slice_get, codes}
 use Rattle.std.specs.Option.{option_map}
 use Rattle.std.specs.List.{before_first}
 use Rattle.std.specs.Str.{bytes_eq}
 use Rattle.event_bytes.specs.Bytes.{is_digit}
+use Rattle.event_bytes.specs.Keys.{all_of_keyboard, all_of_mouse}
 use Rattle.event_bytes.specs.declared.keys.Key.{Key}
-use Rattle.event_bytes.specs.declared.keys.Key.TheVariants.{Back, Copy, Paste, Cut, Escape}
 use Rattle.event_bytes.specs.declared.keys.Keys.{Keys}
-use Rattle.event_bytes.specs.declared.keys.Keys.TheVariants.{Left, LeftMiddle, LeftRight, Middle, MiddleLeft}
-use Rattle.event_bytes.specs.declared.keys.Keys.TheVariants.{MiddleRight, Right, RightLeft, RightMiddle}
 
 abbrev pub is_space : ℕ → Bool
 is_space b = b == 32
@@ -55,22 +53,20 @@ to_number (b ∷ bs) = if is_digit b then number_from (b - 48) bs else None
 
 -- ---- keys
 
+-- the value in the place of the word of which this is so
+abbrev pub named : {A W : Type 0} → (W → Bool) → List W → List A → Option A
+named is_name words values = do
+  place ← position is_name words
+  slice_get values place
+
 -- a key of the keyboard by its word
 unfoldable pub key_named : List ℕ → Option Key
-key_named name = if bytes_eq name (codes "back") then Some Back
-    else (if bytes_eq name (codes "copy") then Some Copy
-    else (if bytes_eq name (codes "paste") then Some Paste
-    else (if bytes_eq name (codes "cut") then Some Cut
-    else (if bytes_eq name (codes "escape") then Some Escape else None))))
+key_named name =
+    named (bytes_eq name) (codes "back" ∷ codes "copy" ∷ codes "paste" ∷ codes "cut" ∷ codes "escape" ∷ [])
+    all_of_keyboard
 
 -- keys of the mouse by the first letters of each, in the order in which they are pressed
 unfoldable pub keys_named : List ℕ → Option Keys
-keys_named name = if bytes_eq name (codes "l") then Some Left
-    else (if bytes_eq name (codes "lm") then Some LeftMiddle
-    else (if bytes_eq name (codes "lr") then Some LeftRight
-    else (if bytes_eq name (codes "m") then Some Middle
-    else (if bytes_eq name (codes "ml") then Some MiddleLeft
-    else (if bytes_eq name (codes "mr") then Some MiddleRight
-    else (if bytes_eq name (codes "r") then Some Right
-    else (if bytes_eq name (codes "rl") then Some RightLeft
-    else (if bytes_eq name (codes "rm") then Some RightMiddle else None))))))))
+keys_named name =
+    named (bytes_eq name) (codes "l" ∷ codes "lm" ∷ codes "lr" ∷ codes "m" ∷ codes "ml" ∷ codes "mr" ∷ codes "r"
+    ∷ codes "rl" ∷ codes "rm" ∷ []) all_of_mouse

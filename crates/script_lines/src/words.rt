@@ -1,11 +1,19 @@
 //! The words of a line, and the numbers and keys that they name.
 ghost use Rattle.std.specs.Prelude.{◌≡◌, ◌<◌, length, position, IfSome};
 ghost use Rattle.std.specs.Option.{option_map};
+ghost use Rattle.std.specs.Str.{bytes_eq};
 ghost use Rattle.event_bytes.specs.Parts.{value_and_rest};
 ghost use Rattle.script_lines.specs.Words.{is_space, word, argument, leading, one_more, number_from, to_number};
-ghost use Rattle.script_lines.specs.Words.{key_named, keys_named};
+ghost use Rattle.script_lines.specs.Words.{key_named, keys_named, named};
 
 use event_bytes::{Key, Keys, is_digit};
+
+/// The words of the keys of the keyboard, by their numbers.
+const KEY_WORDS: [&[u8]; 5] = [b"back", b"copy", b"paste", b"cut", b"escape"];
+
+/// The words of the keys of the mouse, by their numbers: the first letters of each, in the order in which they are
+/// pressed.
+const KEYS_WORDS: [&[u8]; 9] = [b"l", b"lm", b"lr", b"m", b"ml", b"mr", b"r", b"rl", b"rm"];
 
 /// What stands before the first space, and what stands after it.
 #[tactic(auto, using(crate::proofs::FirstSpace::word_parts))]
@@ -85,14 +93,7 @@ fn one_more(number: u8, digit: u8) -> Option<u8>
 pub fn key(name: &[u8]) -> Option<Key>
     ensures { result ≡ key_named name.now }
 {
-    match name {
-        _ if name == b"back".as_slice() => Some(Key::Back),
-        _ if name == b"copy".as_slice() => Some(Key::Copy),
-        _ if name == b"paste".as_slice() => Some(Key::Paste),
-        _ if name == b"cut".as_slice() => Some(Key::Cut),
-        _ if name == b"escape".as_slice() => Some(Key::Escape),
-        _ => None,
-    }
+    named(&KEY_WORDS, &Key::ALL, name)
 }
 
 /// The keys of the mouse that a word names.
@@ -100,16 +101,19 @@ pub fn key(name: &[u8]) -> Option<Key>
 fn keys(name: &[u8]) -> Option<Keys>
     ensures { result ≡ keys_named name.now }
 {
-    match name {
-        _ if name == b"l".as_slice() => Some(Keys::Left),
-        _ if name == b"lm".as_slice() => Some(Keys::LeftMiddle),
-        _ if name == b"lr".as_slice() => Some(Keys::LeftRight),
-        _ if name == b"m".as_slice() => Some(Keys::Middle),
-        _ if name == b"ml".as_slice() => Some(Keys::MiddleLeft),
-        _ if name == b"mr".as_slice() => Some(Keys::MiddleRight),
-        _ if name == b"r".as_slice() => Some(Keys::Right),
-        _ if name == b"rl".as_slice() => Some(Keys::RightLeft),
-        _ if name == b"rm".as_slice() => Some(Keys::RightMiddle),
-        _ => None,
-    }
+    named(&KEYS_WORDS, &Keys::ALL, name)
+}
+
+/// The value in the place in which the name stands among the words.
+fn named<T: Copy>(words: &[&[u8]], values: &[T], name: &[u8]) -> Option<T>
+    ensures { result ≡ named (λ word. bytes_eq name.now word.now) words.now values.now }
+{
+    values.get(place_of(words, name)?).copied()
+}
+
+/// Where the name stands among the words.
+fn place_of(words: &[&[u8]], name: &[u8]) -> Option<usize>
+    ensures { result ≡ position (λ word. bytes_eq name.now word.now) words.now }
+{
+    words.iter().position(|word| name == *word)
 }

@@ -1,5 +1,5 @@
 //! The sectors of a store as bytes.
-ghost use Rattle.std.specs.Prelude.{◌≡◌, true, false, Some, IfSome};
+ghost use Rattle.std.specs.Prelude.{◌≡◌, ◌≤◌, ◌++◌, true, false, Some, IfSome, drop, length};
 ghost use Rattle.event_bytes.specs.declared.event.Event.{Event};
 ghost use Rattle.event_bytes.specs.Spelling.{Begins};
 ghost use Rattle.store_layout.specs.Layout.{is_open, is_label};
@@ -12,9 +12,7 @@ use sector_disk::{SECTOR_BYTES, Sector};
 pub fn label() -> Sector
     ensures { is_label result ≡ true }
 {
-    let mut label = [0; SECTOR_BYTES as usize];
-    label[..16].copy_from_slice(b"OBERONDESKSTORE1");
-    label
+    beginning_with(b"OBERONDESKSTORE1")
 }
 
 /// The word of an open gate, and then zeros.
@@ -22,9 +20,7 @@ pub fn label() -> Sector
 pub fn open_gate() -> Sector
     ensures { is_open result ≡ true }
 {
-    let mut gate = [0; SECTOR_BYTES as usize];
-    gate[..8].copy_from_slice(b"OPENGATE");
-    gate
+    beginning_with(b"OPENGATE")
 }
 
 /// Zeros.
@@ -39,10 +35,17 @@ pub fn closed_gate() -> Sector
 pub fn body_of(event: &Event) -> Sector
     ensures { Begins result event.now }
 {
-    let spelling = event.encode();
-    let mut body = [0; SECTOR_BYTES as usize];
-    body[..spelling.len()].copy_from_slice(spelling.as_slice());
-    body
+    beginning_with(event.encode().as_slice())
+}
+
+/// The bytes, and then zeros.
+fn beginning_with(bytes: &[u8]) -> Sector
+    requires { length bytes.now ≤ 1024 }
+    ensures { result ≡ bytes.now ++ drop (length bytes.now) result }
+{
+    let mut sector = [0; SECTOR_BYTES as usize];
+    sector[..bytes.len()].copy_from_slice(bytes);
+    sector
 }
 
 /// Whether a sector has the label.

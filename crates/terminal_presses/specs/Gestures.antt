@@ -14,6 +14,12 @@ use Rattle.terminal_presses.specs.declared.action.Action.TheVariants.{Nothing, P
 use Rattle.terminal_presses.specs.declared.gesture.Buttons.{Buttons}
 use Rattle.terminal_presses.specs.declared.gesture.Gesture.{Gesture}
 
+-- the one of three values that stands for a button
+abbrev pub by_button : {A : Type 0} → Button → A → A → A → A
+by_button button.Left left middle right = left
+by_button button.Middle left middle right = middle
+by_button button.Right left middle right = right
+
 -- ---- the buttons that are down
 
 abbrev pub no_buttons : Buttons
@@ -23,9 +29,7 @@ abbrev pub is_none_down : Buttons → Bool
 is_none_down down = not (down.left || (down.middle || down.right))
 
 abbrev pub is_down : Button → Buttons → Bool
-is_down button.Left down = down.left
-is_down button.Middle down = down.middle
-is_down button.Right down = down.right
+is_down button down = by_button button down.left down.middle down.right
 
 abbrev pub with_button : Button → Bool → Buttons → Buttons
 with_button button.Left is down = record down { left = is }
@@ -36,19 +40,15 @@ with_button button.Right is down = record down { right = is }
 
 -- with a button more, in the order in which they went down; a third one calls the gesture off
 unfoldable pub joined : Button → MouseKeys → Option MouseKeys
-joined button.Left Middle = Some MiddleLeft
-joined button.Left Right = Some RightLeft
-joined button.Middle Left = Some LeftMiddle
-joined button.Middle Right = Some RightMiddle
-joined button.Right Left = Some LeftRight
-joined button.Right Middle = Some MiddleRight
-joined button.Left MiddleRight = None
-joined button.Left RightMiddle = None
-joined button.Middle LeftRight = None
-joined button.Middle RightLeft = None
-joined button.Right LeftMiddle = None
-joined button.Right MiddleLeft = None
-joined another keys = Some keys
+joined another Left = Some (by_button another Left LeftMiddle LeftRight)
+joined another Middle = Some (by_button another MiddleLeft Middle MiddleRight)
+joined another Right = Some (by_button another RightLeft RightMiddle Right)
+joined another LeftMiddle = by_button another (Some LeftMiddle) (Some LeftMiddle) None
+joined another MiddleLeft = by_button another (Some MiddleLeft) (Some MiddleLeft) None
+joined another LeftRight = by_button another (Some LeftRight) None (Some LeftRight)
+joined another RightLeft = by_button another (Some RightLeft) None (Some RightLeft)
+joined another MiddleRight = by_button another None (Some MiddleRight) (Some MiddleRight)
+joined another RightMiddle = by_button another None (Some RightMiddle) (Some RightMiddle)
 
 abbrev pub as_click : Option MouseKeys → Option Click
 as_click None = None

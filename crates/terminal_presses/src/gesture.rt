@@ -1,7 +1,7 @@
 //! Gestures of the mouse: from the first button that goes down to the last that goes up.
 ghost use Rattle.std.specs.Prelude.{◌≡◌};
 ghost use Rattle.terminal_presses.specs.Gestures.{no_buttons, is_none_down as none_down, is_down as down, with_button};
-ghost use Rattle.terminal_presses.specs.Gestures.{joined as joined_keys, called};
+ghost use Rattle.terminal_presses.specs.Gestures.{by_button as of_button, joined as joined_keys, called};
 ghost use Rattle.terminal_presses.specs.Gestures.{pressed_more, released, released_at};
 
 use crate::action::{Action, Click};
@@ -51,11 +51,7 @@ impl Buttons {
     pub fn has(self, button: Button) -> bool
         ensures { result ≡ down button self }
     {
-        match button {
-            Button::Left => self.left,
-            Button::Middle => self.middle,
-            Button::Right => self.right,
-        }
+        by_button(button, self.left, self.middle, self.right)
     }
 
     /// These, with that button down or up.
@@ -141,57 +137,27 @@ fn called(click: Option<Click>, button: Button) -> Option<Click>
 }
 
 /// The keys with a button more. None with a third one.
+#[tactic(auto, unfolding(crate::specs::Gestures::joined))]
 fn joined(keys: Keys, button: Button) -> Option<Keys>
     ensures { result ≡ joined_keys button keys }
 {
+    match keys {
+        Keys::Left => Some(by_button(button, keys, Keys::LeftMiddle, Keys::LeftRight)),
+        Keys::Middle => Some(by_button(button, Keys::MiddleLeft, keys, Keys::MiddleRight)),
+        Keys::Right => Some(by_button(button, Keys::RightLeft, Keys::RightMiddle, keys)),
+        Keys::LeftMiddle | Keys::MiddleLeft => by_button(button, Some(keys), Some(keys), None),
+        Keys::LeftRight | Keys::RightLeft => by_button(button, Some(keys), None, Some(keys)),
+        Keys::MiddleRight | Keys::RightMiddle => by_button(button, None, Some(keys), Some(keys)),
+    }
+}
+
+/// The one of three values that stands for the button.
+fn by_button<T: Copy>(button: Button, left: T, middle: T, right: T) -> T
+    ensures { result ≡ of_button button left middle right }
+{
     match button {
-        Button::Left => joined_left(keys),
-        Button::Middle => joined_middle(keys),
-        Button::Right => joined_right(keys),
-    }
-}
-
-/// The keys with the left button.
-#[tactic(auto, unfolding(crate::specs::Gestures::joined))]
-fn joined_left(keys: Keys) -> Option<Keys>
-    ensures { result ≡ joined_keys Button.Left keys }
-{
-    match keys {
-        Keys::Middle => Some(Keys::MiddleLeft),
-        Keys::Right => Some(Keys::RightLeft),
-        Keys::MiddleRight | Keys::RightMiddle => None,
-        Keys::Left | Keys::LeftMiddle | Keys::LeftRight | Keys::MiddleLeft | Keys::RightLeft =>
-            Some(keys),
-    }
-}
-
-/// The keys with the middle button.
-#[tactic(auto, unfolding(crate::specs::Gestures::joined))]
-fn joined_middle(keys: Keys) -> Option<Keys>
-    ensures { result ≡ joined_keys Button.Middle keys }
-{
-    match keys {
-        Keys::Left => Some(Keys::LeftMiddle),
-        Keys::Right => Some(Keys::RightMiddle),
-        Keys::LeftRight | Keys::RightLeft => None,
-        Keys::Middle
-        | Keys::MiddleLeft
-        | Keys::MiddleRight
-        | Keys::LeftMiddle
-        | Keys::RightMiddle => Some(keys),
-    }
-}
-
-/// The keys with the right button.
-#[tactic(auto, unfolding(crate::specs::Gestures::joined))]
-fn joined_right(keys: Keys) -> Option<Keys>
-    ensures { result ≡ joined_keys Button.Right keys }
-{
-    match keys {
-        Keys::Left => Some(Keys::LeftRight),
-        Keys::Middle => Some(Keys::MiddleRight),
-        Keys::LeftMiddle | Keys::MiddleLeft => None,
-        Keys::Right | Keys::RightLeft | Keys::RightMiddle | Keys::LeftRight | Keys::MiddleRight =>
-            Some(keys),
+        Button::Left => left,
+        Button::Middle => middle,
+        Button::Right => right,
     }
 }

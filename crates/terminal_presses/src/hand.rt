@@ -1,12 +1,12 @@
 //! The events that presses make.
 ghost use Rattle.std.specs.Prelude.{◌≡◌, ◌↔◌, Some, None, IsNone, IfSome};
-ghost use Rattle.terminal_presses.specs.Outcomes.{ComesTo};
 ghost use Rattle.terminal_presses.specs.Hands.{new_hand, handled, pasting as pasting_by, fresh, escaped as escaped_by};
 ghost use Rattle.terminal_presses.specs.Hands.{controlled as controlled_by, control as control_says, by_function};
 ghost use Rattle.terminal_presses.specs.Hands.{reported as reported_by, gone_down, gone_up, begun};
 ghost use Rattle.terminal_presses.specs.Hands.{meant as click_meant, unpasted as unpasted_by, with_asked, asks};
 ghost use Rattle.terminal_presses.specs.Asking.{answered, entered, spelled, shortened, controlled_name};
 ghost use Rattle.terminal_presses.specs.Asking.{by_function_amid};
+ghost use Rattle.terminal_presses.specs.Outcomes.{ComesTo};
 
 use crate::action::{Action, Click};
 use crate::gesture::{Buttons, Gesture};
@@ -143,19 +143,6 @@ impl Hand {
         }
     }
 
-    /// The last byte of the name is taken off.
-    #[tactic(auto, unfolding(crate::specs::Asking::shortened))]
-    fn shortened(&mut self, name: HostName) -> Action
-        ensures { ComesTo (with_asked (shortened name) self.old) self.new result }
-    {
-        let mut name = name;
-        if name.as_bytes().is_empty() {
-            return self.keep(name, Action::Ring);
-        }
-        name.shorten();
-        self.keep(name, Action::Nothing)
-    }
-
     /// What the key Ctrl comes to with a letter while a name is asked for.
     #[tactic(auto, unfolding(crate::specs::Asking::controlled_name))]
     fn controlled_name(&mut self, name: HostName, byte: u8) -> Action
@@ -186,6 +173,19 @@ impl Hand {
         } else {
             Action::TypeFile(name)
         }
+    }
+
+    /// The last byte of the name is taken off.
+    #[tactic(auto, unfolding(crate::specs::Asking::shortened))]
+    fn shortened(&mut self, name: HostName) -> Action
+        ensures { ComesTo (with_asked (shortened name) self.old) self.new result }
+    {
+        let mut name = name;
+        if name.as_bytes().is_empty() {
+            return self.keep(name, Action::Ring);
+        }
+        name.shorten();
+        self.keep(name, Action::Nothing)
     }
 
     /// The name of a host file is asked for.

@@ -10,5 +10,5 @@ returns g c = drawn_as c.send_all.result _ _ _ _
     (c.as_slice.ensures.value ∙ c.digits.ensures ∙ ap decimal (omega (arith, c.from-x.ensures)))
     (c.as_slice-2.ensures.value ∙ c.digits-2.ensures ∙ ap decimal (omega (arith, c.from.ensures)))
     (c.as_slice-3.ensures.value ∙ c.digits-3.ensures)
-    c.colour_code.ensures c.weight_text.ensures c.slant_text.ensures c.rule_text.ensures
+    c.colour_code.ensures c.style_texts.ensures.weight c.style_texts.ensures.slant c.style_texts.ensures.rule
     (c.as_slice-4.ensures.value ∙ c.escaped.ensures)) c.send_all.ensures

@@ -2,7 +2,7 @@ use Rattle.std.proofs.Common.{map, refl, ap, arith}
 use Rattle.std.proofs.lemmas.List.{map_push}
 use Rattle.desk_image.specs.Pictures.{entry_of}
 use Rattle.desk_image.proofs.Loop.{begins, goes_on, stops, is_done}
-use Rattle.desk_image.proofs.reading.counted_track.Goals as goal
+use Rattle.desk_image.proofs.reading.many_track.Goals as goal
 
 pub loop-init : goal.loop-init
 loop-init g c = record {

@@ -5,7 +5,7 @@ use Rattle.desk_image.specs.Fitting.{FitsEntry, above}
 use Rattle.desk_image.specs.Pictures.{track_of}
 use Rattle.desk_image.specs.Reading.{entry_at}
 use Rattle.desk_image.proofs.Loop.{IsAt}
-use Rattle.desk_image.proofs.reading.counted_track.Given as goal
+use Rattle.desk_image.proofs.reading.many_track.Given as goal
 
 abbrev pub invariant-loop : goal.invariant-loop
 invariant-loop g l = record {

@@ -1,7 +1,7 @@
 use Rattle.std.proofs.Common.{refl, arith}
 use Rattle.desk_image.proofs.Loop.{begins, goes_on, stops, is_done}
 use Rattle.desk_image.proofs.Totals.{total_push}
-use Rattle.desk_image.proofs.reading.counted_pieces.Goals as goal
+use Rattle.desk_image.proofs.reading.many_pieces.Goals as goal
 
 pub loop-init : goal.loop-init
 loop-init g c = record {

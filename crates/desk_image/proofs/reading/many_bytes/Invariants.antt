@@ -1,7 +1,7 @@
 use Rattle.desk_image.specs.Steps.{any_at}
 use Rattle.desk_image.proofs.Bytes.{Anything, on}
 use Rattle.desk_image.proofs.Loop.{IsAt}
-use Rattle.desk_image.proofs.reading.counted_bytes.Given as goal
+use Rattle.desk_image.proofs.reading.many_bytes.Given as goal
 
 abbrev pub invariant-loop : goal.invariant-loop
 invariant-loop g l =

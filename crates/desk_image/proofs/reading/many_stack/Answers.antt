@@ -2,7 +2,7 @@ use Rattle.std.proofs.Common.{refl, ap}
 use Rattle.std.proofs.lemmas.List.{map_push}
 use Rattle.desk_image.specs.Pictures.{track_of, stack_of}
 use Rattle.desk_image.proofs.Loop.{begins, goes_on, stops, is_done}
-use Rattle.desk_image.proofs.reading.counted_stack.Goals as goal
+use Rattle.desk_image.proofs.reading.many_stack.Goals as goal
 
 pub loop-init : goal.loop-init
 loop-init g c = begins g.met.S.ByteSource.ground_self c.args.source.now _ (ap stack_of c.new-stack.ensures.items)

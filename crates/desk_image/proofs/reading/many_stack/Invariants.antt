@@ -3,7 +3,7 @@ use Rattle.desk_image.specs.Fitting.{FitsLevel, overlaid}
 use Rattle.desk_image.specs.Pictures.{stack_of}
 use Rattle.desk_image.specs.Reading.{level_at}
 use Rattle.desk_image.proofs.Loop.{IsAt}
-use Rattle.desk_image.proofs.reading.counted_stack.Given as goal
+use Rattle.desk_image.proofs.reading.many_stack.Given as goal
 
 abbrev pub invariant-loop : goal.invariant-loop
 invariant-loop g l =

@@ -3,7 +3,7 @@ use Rattle.std.proofs.lemmas.Cmp.{nat_cmp_total}
 use Rattle.desk_image.proofs.Loop.{stops, is_done}
 use Rattle.desk_image.proofs.Rising.{numbers_rise}
 use Rattle.desk_image.proofs.Tables.{entry_on}
-use Rattle.desk_image.proofs.reading.counted_texts.Goals as goal
+use Rattle.desk_image.proofs.reading.many_texts.Goals as goal
 
 pub loop-preserved : goal.loop-preserved
 loop-preserved g c = rw c.in_ok-insert.ensures.entries (entry_on g.met.S.ByteSource.ground_through nat_cmp_total

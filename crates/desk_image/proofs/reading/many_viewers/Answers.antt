@@ -1,6 +1,6 @@
 use Rattle.std.proofs.Common.{refl}
 use Rattle.desk_image.proofs.Loop.{begins, goes_on, stops, is_done}
-use Rattle.desk_image.proofs.reading.counted_viewers.Goals as goal
+use Rattle.desk_image.proofs.reading.many_viewers.Goals as goal
 
 pub loop-init : goal.loop-init
 loop-init g c = begins g.met.S.ByteSource.ground_self c.args.source.now _ c.new-viewers.ensures.items

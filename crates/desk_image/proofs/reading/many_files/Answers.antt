@@ -4,7 +4,7 @@ use Rattle.desk_image.specs.Steps.{last_key}
 use Rattle.desk_image.proofs.Loop.{stops, is_done}
 use Rattle.desk_image.proofs.Rising.{names_rise, insert_last, last_key_push}
 use Rattle.desk_image.proofs.Tables.{entry_on}
-use Rattle.desk_image.proofs.reading.counted_files.Goals as goal
+use Rattle.desk_image.proofs.reading.many_files.Goals as goal
 
 pub loop-preserved : goal.loop-preserved
 loop-preserved g c =

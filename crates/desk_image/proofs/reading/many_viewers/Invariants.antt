@@ -2,7 +2,7 @@ use Rattle.command_table.specs.Versions.{version_number}
 use Rattle.desk_image.specs.Fitting.{FitsViewer, after_viewer}
 use Rattle.desk_image.specs.Reading.{viewer_at}
 use Rattle.desk_image.proofs.Loop.{IsAt}
-use Rattle.desk_image.proofs.reading.counted_viewers.Given as goal
+use Rattle.desk_image.proofs.reading.many_viewers.Given as goal
 
 abbrev pub invariant-loop : goal.invariant-loop
 invariant-loop g l =
