@@ -32,10 +32,10 @@ pub ruleset looks_set = (font_sets_look, colour_sets_look, offset_sets_look)
 -- ---- what is read after the word
 
 -- the word of a call stands in its text
-pub call_place : {characters : List ℕ} {d : KeptDesktop} {call : Call} → IsOver characters d → IsCall d call
+pub call_place : {characters : List ℕ} {d : KeptDesktop} {call : Call} → IsCall characters d call
     → IsPlace (length characters) (flat (text_called d call.viewer call.in_menu), call.after)
-call_place {characters} {d} {call} over is =
-    called_place characters d call.viewer call.in_menu call.after over is.within
+call_place {characters} {d} {call} is =
+    called_place characters d call.viewer call.in_menu call.after is.over is.within
 
 -- no more is done where that is refused
 pub refused_given : {S A : Type 0} (s : Ghosts S) (read : Desktop → Result A ℕ)
@@ -47,39 +47,10 @@ refused_given {A = A} s read follow code old mid d reads over known is exact =
     refused_after s (λ x. given (read x) (follow x)) code old mid d reads over known
     (λ h. ap (λ (r : Result A ℕ). given r (follow (seen (s.characters old) d))) (sym (exact h) ∙ is))
 
-same_wanted : {A : Type 0} (o : Option A) → ok_or o wrong_symbol ≡ needs o wrong_symbol (λ a. Ok a)
+-- what isn't wanted is refused
+pub same_wanted : {A : Type 0} (o : Option A) → ok_or o wrong_symbol ≡ needs o wrong_symbol (λ a. Ok a)
 same_wanted None = refl
 same_wanted (Some a) = refl
-
-found_by : {A : Type 0} (f : Symbol → Option A) (d : Desktop) (call : Call) (symbol : Symbol)
-    → Ok symbol ≡ value_of d call
-    → ok_or (f symbol) wrong_symbol ≡ given (value_of d call) (λ s. needs (f s) wrong_symbol (λ a. Ok a))
-found_by f d call symbol is =
-    same_wanted (f symbol) ∙ ap (λ (r : Result Symbol ℕ). given r (λ s. needs (f s) wrong_symbol (λ a. Ok a))) is
-
-refused_by : {A : Type 0} (f : Symbol → Option A) (d : Desktop) (call : Call) (code : ℕ) → Err code ≡ value_of d call
-    → Err code ≡ given (value_of d call) (λ s. needs (f s) wrong_symbol (λ a. Ok a))
-refused_by f d call code is =
-    ap (λ (r : Result Symbol ℕ). given r (λ s. needs (f s) wrong_symbol (λ a. Ok a))) is
-
-pub name_found : (d : Desktop) (call : Call) (symbol : Symbol) → Ok symbol ≡ value_of d call
-    → ok_or (name_in symbol) wrong_symbol ≡ name_of d call
-unfolding name_of
-name_found = found_by name_in
-
-pub name_refused : (d : Desktop) (call : Call) (code : ℕ) → Err code ≡ value_of d call → Err code ≡ name_of d call
-unfolding name_of
-name_refused = refused_by name_in
-
-pub number_found : (d : Desktop) (call : Call) (symbol : Symbol) → Ok symbol ≡ value_of d call
-    → ok_or (number_in symbol) wrong_symbol ≡ number_of d call
-unfolding number_of
-number_found = found_by number_in
-
-pub number_refused : (d : Desktop) (call : Call) (code : ℕ) → Err code ≡ value_of d call
-    → Err code ≡ number_of d call
-unfolding number_of
-number_refused = refused_by number_in
 
 -- ---- the viewer that is meant
 

@@ -2,12 +2,14 @@
 use Rattle.std.specs.Prelude.{◌≤◌, ℕ, ℤ, List, length, Result, Ok}
 use Rattle.piece_ring.specs.Flat.{flat}
 use Rattle.viewer_tracks.specs.Columns.{IsOnTop}
+use Rattle.readers_scanners.specs.declared.symbol.Symbol.{Symbol}
+use Rattle.command_table.specs.Parameters.{name_in}
 use Rattle.desktop_definitions.specs.declared.call.Call.{Call}
-use Rattle.desktop_definitions.specs.Limits.{bad_value}
-use Rattle.desktop_definitions.specs.Needs.{needs}
+use Rattle.desktop_definitions.specs.Limits.{bad_value, wrong_symbol}
+use Rattle.desktop_definitions.specs.Needs.{needs, given}
 use Rattle.desktop_definitions.specs.Desktop.{Desktop, KeptDesktop}
 use Rattle.desktop_definitions.specs.Sound.{IsOver}
-use Rattle.desktop_definitions.specs.Call.{text_called}
+use Rattle.desktop_definitions.specs.Call.{text_called, number_in}
 use Rattle.desktop_definitions.specs.Looks.{font_set, colour_set, offset_set}
 use Rattle.desktop_definitions.specs.Effects.{document_opened, file_opened, put_away, viewer_copied, viewer_grown}
 use Rattle.desktop_definitions.specs.Effects.{stored, searched}
@@ -20,15 +22,24 @@ use Rattle.desk_commands.specs.declared.calls.NumberCommand.TheVariants.{ChangeO
 use Rattle.desk_commands.specs.declared.calls.ViewerCommand.{ViewerCommand}
 use Rattle.desk_commands.specs.declared.calls.ViewerCommand.TheVariants.{Close, Copy, Store, Search, Grow}
 
--- The viewer of a call stands in a track that is shown, and the word that was called in its text.
-pub record IsCall (d : KeptDesktop) (call : Call) : Type 0 where
+-- The viewer of a call stands in a track that is shown, of a desktop over these characters, and the word that was called
+-- in its text.
+pub record IsCall (characters : List ℕ) (d : KeptDesktop) (call : Call) : Type 0 where
   pub placed : IsOnTop call.viewer d.columns
   pub within : call.after ≤ length (flat (text_called d call.viewer call.in_menu))
+  pub over : IsOver characters d
 
 -- A viewer in a track that is shown, of a desktop over these characters.
 pub record IsViewerOnTop (characters : List ℕ) (d : KeptDesktop) (v : ℕ) : Type 0 where
   pub placed : IsOnTop v d.columns
   pub over : IsOver characters d
+
+-- the name that a value is, and the number
+abbrev pub as_name : Result Symbol ℕ → Result (List ℕ) ℕ
+as_name value = given value λ symbol. needs (name_in symbol) wrong_symbol λ name. Ok name
+
+abbrev pub as_number : Result Symbol ℕ → Result ℤ ℕ
+as_number value = given value λ symbol. needs (number_in symbol) wrong_symbol λ z. Ok z
 
 -- with a name
 unfoldable pub done_with_name : Desktop → NameCommand → List ℕ → Result Desktop ℕ
