@@ -5,10 +5,9 @@ use Rattle.std.proofs.Common.{refl, sym, ap, ◌∙◌}
 use Rattle.sector_disk.specs.Faults.{OneOf}
 use Rattle.char_file.specs.declared.source.CharSource.{Ghosts}
 use Rattle.piece_ring.specs.Flat.{flat}
-use Rattle.readers_scanners.specs.declared.symbol.Symbol.{Symbol}
-use Rattle.command_table.specs.Parameters.{IsPlace, name_in}
+use Rattle.command_table.specs.Parameters.{IsPlace}
 use Rattle.command_table.specs.declared.command.Command.{Command}
-use Rattle.desk_commands.specs.declared.calls.ViewerCommand.{ViewerCommand}
+use Rattle.desktop_definitions.specs.declared.call.ViewerCommand.{ViewerCommand}
 use Rattle.desktop_definitions.specs.declared.call.Call.{Call}
 use Rattle.desktop_definitions.specs.declared.reply.Reply.TheVariants.{No}
 use Rattle.desktop_definitions.specs.Limits.{no_command, wrong_symbol, no_viewer}
@@ -20,9 +19,9 @@ use Rattle.desktop_laws.specs.LookedLaws.{font_sets_look, colour_sets_look, offs
 use Rattle.desktop_definitions.specs.Seen.{seen}
 use Rattle.desktop_definitions.specs.Sound.{IsOver}
 use Rattle.desktop_definitions.specs.Outcome.{reply_codes}
-use Rattle.desktop_definitions.specs.Call.{text_called, meant, number_in, value_of, name_of, number_of}
-use Rattle.desktop_definitions.specs.Commands.{command_at, commanded, called}
-use Rattle.desk_commands.specs.Calls.{IsCall, done_with_viewer}
+use Rattle.desktop_definitions.specs.Call.{text_called, meant}
+use Rattle.desktop_definitions.specs.Commands.{done_with_viewer, command_at, commanded, called}
+use Rattle.desk_commands.specs.Calls.{IsCall}
 use Rattle.desk_core.specs.Row.{Settles}
 use Rattle.desk_commands.proofs.ReadFirst.{Reads, refused_after}
 

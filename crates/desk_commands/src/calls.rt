@@ -3,13 +3,13 @@ ghost use Rattle.std.specs.Prelude.{◌≡◌, ◌≤◌, length, IfOk, IfErr, I
 ghost use Rattle.sector_disk.specs.Faults.{OneOf};
 ghost use Rattle.readers_scanners.specs.Symbol.{IsShaped};
 ghost use Rattle.command_table.specs.Parameters.{place_of, text_of, listed, first_names};
-ghost use Rattle.desktop_definitions.specs.Call.{text_called, seen_at_marker, meant, number_in, value_of, name_of};
-ghost use Rattle.desktop_definitions.specs.Call.{number_of, names_of};
-ghost use Rattle.desk_commands.specs.Calls.{as_name, as_number};
-ghost use Rattle.desktop_laws.specs.CallLaws.{kept_place, kept_menu};
-ghost use Rattle.desktop_definitions.specs.Commands.{commanded, called};
+ghost use Rattle.desktop_definitions.specs.Call.{text_called, seen_at_marker, meant, number_in, value_of, as_name};
+ghost use Rattle.desktop_definitions.specs.Call.{as_number, name_of, number_of, names_of};
+ghost use Rattle.desktop_definitions.specs.Commands.{done_with_name, done_with_number, done_with_viewer, commanded};
+ghost use Rattle.desktop_definitions.specs.Commands.{called};
 ghost use Rattle.desktop_definitions.specs.Outcome.{reply_codes as known_codes};
-ghost use Rattle.desk_commands.specs.Calls.{IsCall, IsViewerOnTop, done_with_name, done_with_number, done_with_viewer};
+ghost use Rattle.desktop_laws.specs.CallLaws.{kept_place, kept_menu};
+ghost use Rattle.desk_commands.specs.Calls.{IsCall, IsViewerOnTop};
 ghost use Rattle.desk_core.specs.Words.{flat, IsOnTop, needs, IsKeptWhole, IsOver, kept, Does, Tells, TellsAs};
 ghost use Rattle.desk_commands.specs.Words.{no_viewer, version_number, given, files_deleted};
 
@@ -27,51 +27,10 @@ use desk_core::desk::Desk;
 use desk_core::stop::StepResult;
 use desk_core::viewers::viewer_or_none;
 use desk_core::views::text_there;
-use desktop_definitions::{Call, Reply, codes};
+use desktop_definitions::{Call, NameCommand, NumberCommand, Reply, ViewerCommand, codes};
 use event_bytes::Name;
 use readers_scanners::Symbol;
 use text_core::Text;
-
-/// A command that takes a name.
-#[derive(Clone, Copy, Debug, PartialEq, Eq)]
-pub enum NameCommand {
-    /// Opens a copy of a file, or an empty text, in the user track.
-    OpenDocument,
-    /// Opens a copy of a file in the system track.
-    OpenFile,
-    /// Sets the font of what is typed.
-    SetFont,
-    /// Gives the newest selection a font.
-    ChangeFont,
-}
-
-/// A command that takes a number.
-#[derive(Clone, Copy, Debug, PartialEq, Eq)]
-pub enum NumberCommand {
-    /// Sets the colour of what is typed.
-    SetColor,
-    /// Sets the vertical offset of what is typed.
-    SetOffset,
-    /// Gives the newest selection a colour.
-    ChangeColor,
-    /// Gives the newest selection a vertical offset.
-    ChangeOffset,
-}
-
-/// A command that takes a viewer.
-#[derive(Clone, Copy, Debug, PartialEq, Eq)]
-pub enum ViewerCommand {
-    /// Closes it; it is kept.
-    Close,
-    /// Opens a second one on its text.
-    Copy,
-    /// Stores its text as the file that its menu names.
-    Store,
-    /// Finds the next place of the pattern in its text.
-    Search,
-    /// Opens a second one on its text, which has the whole column.
-    Grow,
-}
 
 /// The number that a symbol is. None where it is another symbol.
 fn number_in(symbol: &Symbol) -> Option<i32>
@@ -112,7 +71,7 @@ pub fn call<S: CharSource>(
 }
 
 /// Does what a command does.
-#[tactic(auto, unfolding(desktop_definitions::specs::Commands::commanded, crate::specs::Calls::done_with_name, crate::specs::Calls::done_with_number, crate::specs::Calls::done_with_viewer))]
+#[tactic(auto, unfolding(desktop_definitions::specs::Commands::commanded))]
 fn do_command<S: CharSource>(
     desk: &mut Desk,
     command: Command,
@@ -181,7 +140,7 @@ fn command_with_name<S: CharSource>(
 }
 
 /// What a command does with a name.
-#[tactic(auto, unfolding(crate::specs::Calls::done_with_name), using(crate::proofs::CallLemmas::looks_set))]
+#[tactic(auto, unfolding(desktop_definitions::specs::Commands::done_with_name), using(crate::proofs::CallLemmas::looks_set))]
 fn do_with_name<S: CharSource>(
     desk: &mut Desk,
     command: NameCommand,
@@ -219,7 +178,7 @@ fn command_with_number<S: CharSource>(
 }
 
 /// What a command does with a number.
-#[tactic(auto, unfolding(crate::specs::Calls::done_with_number), using(crate::proofs::CallLemmas::looks_set))]
+#[tactic(auto, unfolding(desktop_definitions::specs::Commands::done_with_number), using(crate::proofs::CallLemmas::looks_set))]
 fn do_with_number<S: CharSource>(
     desk: &mut Desk,
     command: NumberCommand,
@@ -256,7 +215,7 @@ fn command_with_viewer<S: CharSource>(
 }
 
 /// What a command does with a viewer.
-#[tactic(auto, unfolding(crate::specs::Calls::done_with_viewer))]
+#[tactic(auto, unfolding(desktop_definitions::specs::Commands::done_with_viewer))]
 fn do_with_viewer<S: CharSource>(
     desk: &mut Desk,
     command: ViewerCommand,
@@ -356,6 +315,7 @@ fn value_of<S: CharSource>(desk: &Desk, call: Call, source: &mut S) -> Told<Symb
 }
 
 /// The name that a value is. Refused where it is none.
+#[tactic(auto, using(crate::proofs::CallLemmas::same_wanted))]
 fn as_name(value: Result<Symbol, u8>) -> Result<Name, u8>
     requires { MatchResult value IsShaped (OneOf known_codes) }
     ensures is { result ≡ as_name value }
@@ -365,6 +325,7 @@ fn as_name(value: Result<Symbol, u8>) -> Result<Name, u8>
 }
 
 /// The number that a value is. Refused where it is none.
+#[tactic(auto, using(crate::proofs::CallLemmas::same_wanted))]
 fn as_number(value: Result<Symbol, u8>) -> Result<i32, u8>
     requires { MatchResult value IsShaped (OneOf known_codes) }
     ensures is { result ≡ as_number value }

@@ -1,8 +1,8 @@
 use Rattle.std.proofs.Common.{rules, Ok, Result, ap, sym, ◌∙◌}
 use Rattle.desktop_definitions.specs.Desktop.{Desktop}
 use Rattle.desktop_definitions.specs.Needs.{given}
-use Rattle.desktop_definitions.specs.Call.{name_of}
-use Rattle.desk_commands.specs.Calls.{as_name, done_with_name}
+use Rattle.desktop_definitions.specs.Call.{as_name, name_of}
+use Rattle.desktop_definitions.specs.Commands.{done_with_name}
 use Rattle.desk_core.specs.Kept.{kept}
 use Rattle.desk_commands.proofs.ReadFirst.{does_after}
 use Rattle.desk_commands.proofs.CallLemmas.{refused_given}

@@ -16,7 +16,6 @@ returns-in_ok-show g c = record {
   faults = search rules;
 }
 
-
 pub returns-else-main_of-eq0 : goal.returns-else-main_of-eq0
 returns-else-main_of-eq0 g c = record {
   changed =
