@@ -1,9 +1,9 @@
 //! What commands set in looks: a selector (bit 0 the font, bit 1 the colour, bit 2 the vertical offset), and a look of
 //! which it takes a field.
-ghost use Rattle.std.specs.Prelude.{◌≡◌, IfOk, Ok};
+ghost use Rattle.std.specs.Prelude.{◌≡◌, Ok};
 ghost use Rattle.desktop_definitions.specs.Looks.{font_set, colour_set, offset_set, SetsLook};
 ghost use Rattle.desktop_definitions.specs.Effects.{look_set, selection_set};
-ghost use Rattle.desk_core.specs.Words.{needs, IsOver, kept, Settles, Uses};
+ghost use Rattle.desk_core.specs.Words.{needs, IsOver, kept, Does};
 ghost use Rattle.desk_commands.specs.Words.{bad_value};
 
 use char_file::CharSource;
@@ -12,6 +12,9 @@ use desk_core::stop::StepResult;
 use desktop_definitions::{COLOURS, FONTS, GREATEST_OFFSET, LEAST_OFFSET, Reply, codes};
 use event_bytes::Name;
 use piece_ring::{DEFAULT_LOOK, Look};
+
+/// A selector, and a look of which it takes a field. None where there is no such look.
+pub type LookChange = Option<(u8, Look)>;
 
 /// The names of the fonts, by their numbers.
 const FONT_NAMES: [&[u8]; FONTS as usize] = [
@@ -23,7 +26,7 @@ const FONT_NAMES: [&[u8]; FONTS as usize] = [
 ];
 
 /// The font of a name. None where there is no such font.
-pub fn font_set(name: &Name) -> Option<(u8, Look)>
+pub fn font_set(name: &Name) -> LookChange
     ensures { result ≡ font_set name.now }
 {
     let name = name.as_bytes();
@@ -38,7 +41,7 @@ pub fn font_set(name: &Name) -> Option<(u8, Look)>
 }
 
 /// The colour of a number. None where there is no such colour.
-pub fn colour_set(number: i32) -> Option<(u8, Look)>
+pub fn colour_set(number: i32) -> LookChange
     ensures { result ≡ colour_set number }
 {
     if number < 0 || number >= i32::from(COLOURS) {
@@ -54,7 +57,7 @@ pub fn colour_set(number: i32) -> Option<(u8, Look)>
 }
 
 /// That vertical offset. None where it is out of range.
-pub fn offset_set(number: i32) -> Option<(u8, Look)>
+pub fn offset_set(number: i32) -> LookChange
     ensures { result ≡ offset_set number }
 {
     if number < i32::from(LEAST_OFFSET) || number > i32::from(GREATEST_OFFSET) {
@@ -70,16 +73,11 @@ pub fn offset_set(number: i32) -> Option<(u8, Look)>
 }
 
 /// What is typed gets a look, in the fields that are set. Refused where none are.
-pub fn set_look<S: CharSource>(
-    desk: &mut Desk,
-    new: Option<(u8, Look)>,
-    source: &mut S,
-) -> StepResult
+pub fn set_look<S: CharSource>(desk: &mut Desk, new: LookChange, source: &mut S) -> StepResult
     requires sets { SetsLook new }
     requires over { IsOver (S.characters source.old) (kept desk.old) }
-    ensures answered { IfOk result (Settles S.CharSource (λ d. needs new bad_value λ set. Ok (look_set d set))
-        source.old source.new (kept desk.old) (kept desk.new)) }
-    ensures uses { Uses S.CharSource result source.old source.new }
+    ensures { Does S.CharSource (λ d. needs new bad_value λ set. Ok (look_set d set)) result
+        source.old source.new (kept desk.old) (kept desk.new) }
 {
     let Some((selector, look)) = new else {
         return Ok(Reply::No(codes::BAD_VALUE));
@@ -90,16 +88,11 @@ pub fn set_look<S: CharSource>(
 
 /// The newest selection gets a look, in the fields that are set, and is the newest then too. Refused where none
 /// are, and without a selection. NoMemory where an allocation is refused.
-pub fn change_look<S: CharSource>(
-    desk: &mut Desk,
-    new: Option<(u8, Look)>,
-    source: &mut S,
-) -> StepResult
+pub fn change_look<S: CharSource>(desk: &mut Desk, new: LookChange, source: &mut S) -> StepResult
     requires sets { SetsLook new }
     requires over { IsOver (S.characters source.old) (kept desk.old) }
-    ensures answered { IfOk result (Settles S.CharSource (λ d. needs new bad_value (selection_set d))
-        source.old source.new (kept desk.old) (kept desk.new)) }
-    ensures uses { Uses S.CharSource result source.old source.new }
+    ensures { Does S.CharSource (λ d. needs new bad_value (selection_set d)) result
+        source.old source.new (kept desk.old) (kept desk.new) }
 {
     let Some((selector, look)) = new else {
         return Ok(Reply::No(codes::BAD_VALUE));
