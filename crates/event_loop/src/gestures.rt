@@ -166,7 +166,12 @@ fn point_text<S: CharSource>(
 {
     match gesture.keys {
         Keys::Left | Keys::LeftMiddle | Keys::LeftRight | Keys::Middle => point_cell(
-            desk, version, gesture.keys, id, gesture.to, source,
+            desk,
+            version,
+            gesture.keys,
+            id,
+            gesture.to,
+            source,
         ),
         Keys::Right | Keys::RightLeft | Keys::RightMiddle => draw(desk, id, gesture, source),
         _ => Ok(Reply::Done),

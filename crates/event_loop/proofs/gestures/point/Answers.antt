@@ -1,19 +1,28 @@
-use Rattle.std.proofs.Common.{◌∙◌, refl, sym, ap}
+use Rattle.std.specs.Prelude.{⊤}
+use Rattle.std.proofs.Common.{rules, ◌∙◌, refl, sym, ap}
 use Rattle.command_table.specs.Versions.{version_number}
 use Rattle.desktop_definitions.specs.declared.region.Region.TheVariants.{Body}
 use Rattle.desktop_definitions.specs.Desktop.{Desktop}
 use Rattle.desktop_definitions.specs.Seen.{seen}
+use Rattle.desktop_definitions.specs.Step.{raw, step_in}
 use Rattle.desktop_definitions.specs.Gesture.{pointed, done_in_filler, done_in_menu, done_in_bar}
-use Rattle.desktop_definitions.specs.Unread.{gesture_brings, needs_no_byte}
+use Rattle.desktop_definitions.specs.Unread.{gesture_brings, StepsUnread}
 use Rattle.desk_core.specs.Kept.{kept}
 use Rattle.desk_core.proofs.MarkLemmas.{outside_answered}
-use Rattle.desk_input.proofs.StillLemmas.{does_unread}
+use Rattle.desk_core.proofs.UnreadLemmas.{over_all}
 use Rattle.event_loop.proofs.GestureLemmas.{does_there, does_pointed, cells_inside}
-use Rattle.event_loop.proofs.UnreadEvents.{does_event}
 use Rattle.event_loop.proofs.gestures.point.Goals as goal
 
 pub returns-then-not-are_on_display : goal.returns-then-not-are_on_display
-returns-then-not-are_on_display g c = ?
+unfolding raw step_in StepsUnread
+returns-then-not-are_on_display g c =
+    let d = kept c.args.desk.now in
+    let is = sym c.are_on_display.ensures ∙ c.if-not-are_on_display.true in
+    record {
+      answered = outside_answered _ _ d c.requires.over _ _ is;
+      unread = λ h all long. (outside_answered ⊤ all d (over_all c.requires.over all long) _ _ is).exact tt;
+      uses = search (rules, g.met.S.CharSource.ground_self, g.met.S.CharSource.ground_through);
+    }
 
 pub region_under-requires-clause-column : goal.region_under-requires-clause-column
 region_under-requires-clause-column g c =
