@@ -17,8 +17,8 @@ use Rattle.desktop_laws.specs.OutcomeLaws.{refused}
 use Rattle.desk_core.specs.declared.stop.Stop.{Stop}
 use Rattle.desk_core.specs.declared.stop.Stop.TheVariants.{Fault}
 use Rattle.desk_core.specs.Stops.{IsStop}
-use Rattle.desk_core.specs.Row.{Settles, Uses}
-use Rattle.desk_core.proofs.ReadLemmas.{over_read, read_first, read_answered, read_then_source}
+use Rattle.desk_core.specs.Row.{Settles, Uses, Does}
+use Rattle.desk_core.proofs.ReadLemmas.{over_read, read_answered, read_then_source}
 
 module _ {S : Type 0} (s : Ghosts S) where
   -- what the reads leave
@@ -30,17 +30,7 @@ module _ {S : Type 0} (s : Ghosts S) where
       → IsOver (s.characters mid) d
   over_after old mid d reads over = over_read (s.characters old) (s.characters mid) d reads.as_long over
 
-  -- What the rest does is F of what was read, which is `read` of the desktop as it is seen.
-  pub settles_after : {A : Type 0} (F : Desktop → A → Result Desktop ℕ) (read : Desktop → A) (a : A) (old mid new : S)
-      (d after : KeptDesktop) (result : Result Reply Stop) → Reads old mid
-      → (s.honest old → a ≡ read (seen (s.characters old) d))
-      → IfOk result (Settles s (λ x. F x a) mid new d after)
-      → IfOk result (Settles s (λ x. F x (read x)) old new d after)
-  settles_after F read a old mid new d after result reads is answered =
-      read_first F a (read (seen (s.characters old) d)) (s.honest old) (s.honest mid) (s.characters old)
-      (s.characters mid) (s.characters new) d after result reads.still reads.as_long reads.same is answered
-
-  -- the same of a reply, where the row says F of what was read, of the desktop before the event
+  -- What the rest does is F of what was read, which is `read` of the desktop before the event, and the row says that.
   pub settles_there : {A : Type 0} (F : Desktop → A → Result Desktop ℕ) (read : Desktop → A) (a : A)
       (row : Desktop → Result Desktop ℕ) (old mid new : S) (d after : KeptDesktop) (result : Result Reply Stop)
       → Reads old mid → (s.honest old → a ≡ read (seen (s.characters old) d))
@@ -53,16 +43,6 @@ module _ {S : Type 0} (s : Ghosts S) where
       (s.characters new) d after _ _ reply reads.still reads.as_long
       (λ h. (λ k. settled (seen (reads.same h k) d) (F (seen (reads.same h k) d) a))
       ∙ ap (settled (seen (s.characters old) d)) (same (is h))) done) answered
-
-  -- and of every desktop
-  pub settles_by : {A : Type 0} (F : Desktop → A → Result Desktop ℕ) (read : Desktop → A) (a : A)
-      (row : Desktop → Result Desktop ℕ) (old mid new : S) (d after : KeptDesktop) (result : Result Reply Stop)
-      → Reads old mid → (s.honest old → a ≡ read (seen (s.characters old) d))
-      → ((x : Desktop) → a ≡ read x → F x a ≡ row x)
-      → IfOk result (Settles s (λ x. F x a) mid new d after)
-      → IfOk result (Settles s row old new d after)
-  settles_by F read a row old mid new d after result reads is same answered =
-      settles_there F read a row old mid new d after result reads is (same (seen (s.characters old) d)) answered
 
   -- a refusal after the reads
   pub refused_after : (row : Desktop → Result Desktop ℕ) (code : ℕ) (old mid : S) (d : KeptDesktop) → Reads old mid
@@ -88,3 +68,23 @@ module _ {S : Type 0} (s : Ghosts S) where
           uses.source;
       faults = subst (λ n. FailsAs Fault IsStop result n (s.failures new)) calm uses.faults;
     }
+
+    -- all that a row owes, where the rest does what it should
+    pub does_there : {A : Type 0} (F : Desktop → A → Result Desktop ℕ) (read : Desktop → A) (a : A)
+        (row : Desktop → Result Desktop ℕ) (old mid new : S) (d after : KeptDesktop) (result : Result Reply Stop)
+        → Reads old mid → s.failures mid ≡ s.failures old → (s.honest old → a ≡ read (seen (s.characters old) d))
+        → (a ≡ read (seen (s.characters old) d) → F (seen (s.characters old) d) a ≡ row (seen (s.characters old) d))
+        → Does s (λ x. F x a) result mid new d after → Does s row result old new d after
+    does_there F read a row old mid new d after result reads calm is same rest = record {
+      answered = settles_there F read a row old mid new d after result reads is same rest.answered;
+      uses = uses_after old mid new result reads calm rest.uses;
+    }
+
+    -- and where the row is F of what is read
+    pub does_after : {A : Type 0} (F : Desktop → A → Result Desktop ℕ) (read : Desktop → A) (a : A) (old mid new : S)
+        (d after : KeptDesktop) (result : Result Reply Stop) → Reads old mid → s.failures mid ≡ s.failures old
+        → (s.honest old → a ≡ read (seen (s.characters old) d))
+        → Does s (λ x. F x a) result mid new d after → Does s (λ x. F x (read x)) result old new d after
+    does_after F read a old mid new d after result reads calm is =
+        does_there F read a (λ x. F x (read x)) old mid new d after result reads calm is
+        (λ e. ap (F (seen (s.characters old) d)) e)

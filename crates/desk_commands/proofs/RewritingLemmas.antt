@@ -1,5 +1,5 @@
 -- Texts that are written anew, step by step: the characters of a piece, the pieces of a text, the texts of a table.
-use Rattle.std.specs.Prelude.{◌≡◌, ℕ, ◌+◌, ◌<◌, ◌≤◌, ◌^◌, List, [], ◌∷◌, ◌++◌, length, slice_index, All}
+use Rattle.std.specs.Prelude.{◌≡◌, ℕ, ◌+◌, ◌<◌, ◌≤◌, ◌^◌, List, [], ◌∷◌, ◌++◌, length, slice_index, All, Ok}
 use Rattle.std.specs.Map.{values_of}
 use Rattle.std.specs.Cmp.{IsTotalOrder}
 use Rattle.std.specs.BTreeMap.{insert_entry}
@@ -26,7 +26,7 @@ use Rattle.desktop_definitions.specs.Sound.{AllWithin}
 use Rattle.desktop_laws.specs.TableLaws.{kept_lengths}
 use Rattle.desktop_laws.specs.Rewriting.{laid, flats, laid_table, bytes_in}
 use Rattle.desktop_laws.specs.RewritingLaws.{laid-append, laid-run}
-use Rattle.desk_commands.specs.Rewriting.{CanPut}
+use Rattle.desk_commands.specs.Rewriting.{CanPut, Rewrites}
 
 -- ---- the characters of a piece
 
@@ -112,16 +112,7 @@ all_below cmp (x ∷ ks) k rest sorted = (below_one cmp x ks k rest sorted.0, al
 
 -- ---- the texts of a table
 
--- A text was written anew behind the characters that were made, and nothing failed.
-pub record IsPut {S : Type 0} (s : Ghosts S) (text moved : List Piece) (made made' : List ℕ) (now later : S) : Type 0
-  where
-    pub moves : flat moved ≡ laid (length made) (flat text)
-    pub read : s.honest now → made' ≡ made ++ bytes (s.characters now) (flat text)
-    pub longer : length made' ≡ length made + length (flat text)
-    pub reads : OnlyReads s.characters s.failures s.honest s.same_ground now later
-    pub calm : s.failures later ≡ s.failures now
-
--- Some texts of a table were, those to come stand behind them, and nothing failed.
+-- Some texts of a table were written anew, those to come stand behind them, and nothing failed.
 pub record ArePut {K S : Type 0} (s : Ghosts S) (all left new : List (K × List Piece)) (front made : List ℕ)
     (old now : S) : Type 0
   where
@@ -164,14 +155,14 @@ module _ {K : Type 0} {e : K × List Piece} {left later : List (K × List Piece)
   module _ {S : Type 0} (s : Ghosts S) (through : (a b c : S) → s.same_ground a b → s.same_ground b c
       → s.same_ground a c) (all new : List (K × List Piece)) (front made made' : List ℕ) (moved : List Piece)
       (old now after : S) (were : ArePut s all left new front made old now)
-      (one : IsPut s e.1 moved made made' now after) where
+      (one : Rewrites s (flat e.1) (Ok moved) now after made made') where
     laid_further : flats (new ++ (e.0, moved) ∷ []) ++ laid_table (length made') (flats later)
         ≡ laid_table (length front) (flats all)
     laid_further =
         ap (λ (l : List (K × Text ℕ)). l ++ laid_table (length made') (flats later))
         (map-append (λ (x : K × List Piece). (x.0, flat x.1)) new ((e.0, moved) ∷ []))
         ∙ append_assoc (flats new) ((e.0, flat moved) ∷ []) (laid_table (length made') (flats later))
-        ∙ (λ k. flats new ++ ((e.0, one.moves k) ∷ laid_table (one.longer k) (flats later)))
+        ∙ (λ k. flats new ++ ((e.0, one.stands k) ∷ laid_table (one.adds.longer k) (flats later)))
         ∙ ap (λ (es : List (K × List Piece)). flats new ++ laid_table (length made) (flats es)) (sym first)
         ∙ were.laid_on
 
@@ -187,14 +178,14 @@ module _ {K : Type 0} {e : K × List Piece} {left later : List (K × List Piece)
     read_further honest =
         let c = s.characters old in
         let added : made' ≡ made ++ bytes c (flat e.1) =
-        one.read (were.reads.still honest) ∙ ap (λ (l : List ℕ). made ++ bytes l (flat e.1)) (were.reads.same honest) in
+        one.adds.read (were.reads.still honest) ∙ ap (λ (l : List ℕ). made ++ bytes l (flat e.1)) (were.reads.same honest) in
         ap (λ (l : List ℕ). l ++ bytes_in c (flats later)) added
         ∙ append_assoc made (bytes c (flat e.1)) (bytes_in c (flats later))
         ∙ ap (λ (es : List (K × List Piece)). made ++ bytes_in c (flats es)) (sym first) ∙ were.read honest
 
     inside_further : AllWithin (length (s.characters after)) later
     inside_further =
-        subst (λ n. AllWithin n later) (sym one.reads.as_long)
+        subst (λ n. AllWithin n later) (sym one.adds.reads.as_long)
         (All-tail (λ pieces. AreWithin (length (s.characters now)) (flat pieces)) e.1 (values_of later)
         (subst (AllWithin (length (s.characters now))) first were.inside))
 
@@ -204,31 +195,22 @@ module _ {K : Type 0} {e : K × List Piece} {left later : List (K × List Piece)
       laid_on = laid_further;
       keys = keys_further;
       read = read_further;
-      longer = omega (arith, were.longer, one.longer, table_long);
+      longer = omega (arith, were.longer, one.adds.longer, table_long);
       inside = inside_further;
-      reads = read_on s.characters s.failures s.honest s.same_ground through old now after were.reads one.reads;
-      calm = one.calm ∙ were.calm;
+      reads = read_on s.characters s.failures s.honest s.same_ground through old now after were.reads one.adds.reads;
+      calm = one.adds.faults.calm (λ wrong. absurd cc) ∙ were.calm;
     }
 
-  -- The same by what is known of that text, where it was put into the table by its key.
+  -- The same where that text was put into the table by its key.
   pub put_further : {S : Type 0} (s : Ghosts S) (through : (a b c : S) → s.same_ground a b → s.same_ground b c
       → s.same_ground a c) {all new table : List (K × List Piece)} {front made made' : List ℕ} {old now after : S}
       {cmp : K → K → Ordering} {k : K} (moved : List Piece)
       → IsTotalOrder cmp → IsStrictlySortedBy cmp (keys_of all) → ArePut s all left new front made old now
-      → flat moved ≡ laid (length made) (flat e.1)
-      → (s.honest now → made' ≡ made ++ bytes (s.characters now) (flat e.1))
-      → length made' ≡ length made + length (flat e.1)
-      → OnlyReads s.characters s.failures s.honest s.same_ground now after → s.failures after ≡ s.failures now
+      → Rewrites s (flat e.1) (Ok moved) now after made made'
       → k ≡ e.0 → table ≡ insert_entry cmp new k moved
       → ArePut s all later table front made' old after
   put_further s through {all = all} {new = new} {front = front} {made = made} {made' = made'} {old = old} {now = now}
-      {after = after} {cmp = cmp} moved order sorted were moves read longer reads calm same is =
+      {after = after} {cmp = cmp} moved order sorted were one same is =
       subst (λ (table : List (K × List Piece)). ArePut s all later table front made' old after)
       (sym (is ∙ ap (λ (k : K). insert_entry cmp new k moved) same ∙ put_last order new moved sorted were.keys))
-      (put_on s through all new front made made' moved old now after were (record {
-        moves = moves;
-        read = read;
-        longer = longer;
-        reads = reads;
-        calm = calm;
-      }))
+      (put_on s through all new front made made' moved old now after were one)

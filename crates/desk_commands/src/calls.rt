@@ -3,14 +3,14 @@ ghost use Rattle.std.specs.Prelude.{◌≡◌, ◌≤◌, length, IfOk, IfErr, I
 ghost use Rattle.sector_disk.specs.Faults.{OneOf};
 ghost use Rattle.readers_scanners.specs.Symbol.{IsShaped};
 ghost use Rattle.command_table.specs.Parameters.{place_of, text_of, listed, first_names};
-ghost use Rattle.desktop_definitions.specs.Call.{text_called, seen_at_marker, meant, number_in, value_of, name_of};
-ghost use Rattle.desktop_definitions.specs.Call.{number_of, names_of};
-ghost use Rattle.desktop_laws.specs.CallLaws.{kept_place, kept_menu};
-ghost use Rattle.desktop_definitions.specs.Commands.{commanded, called};
+ghost use Rattle.desktop_definitions.specs.Call.{text_called, seen_at_marker, meant, number_in, value_of, as_name};
+ghost use Rattle.desktop_definitions.specs.Call.{as_number, name_of, number_of, names_of};
+ghost use Rattle.desktop_definitions.specs.Commands.{done_with_name, done_with_number, done_with_viewer, commanded};
+ghost use Rattle.desktop_definitions.specs.Commands.{called};
 ghost use Rattle.desktop_definitions.specs.Outcome.{reply_codes as known_codes};
-ghost use Rattle.desk_commands.specs.Calls.{IsCall, IsViewerOnTop, done_with_name, done_with_number, done_with_viewer};
-ghost use Rattle.desk_core.specs.Words.{CountsFault, OnlyReads, flat, IsOnTop, needs, seen, IsKeptWhole, IsOver, kept};
-ghost use Rattle.desk_core.specs.Words.{Settles, Uses};
+ghost use Rattle.desktop_laws.specs.CallLaws.{kept_place, kept_menu};
+ghost use Rattle.desk_commands.specs.Calls.{IsCall, IsViewerOnTop};
+ghost use Rattle.desk_core.specs.Words.{flat, IsOnTop, needs, IsKeptWhole, IsOver, kept, Does, Tells, TellsAs};
 ghost use Rattle.desk_commands.specs.Words.{no_viewer, version_number, given, files_deleted};
 
 use crate::closings::{close_viewer, recall_viewer};
@@ -27,51 +27,10 @@ use desk_core::desk::Desk;
 use desk_core::stop::StepResult;
 use desk_core::viewers::viewer_or_none;
 use desk_core::views::text_there;
-use desktop_definitions::{Call, Reply, codes};
+use desktop_definitions::{Call, NameCommand, NumberCommand, Reply, ViewerCommand, codes};
 use event_bytes::Name;
 use readers_scanners::Symbol;
 use text_core::Text;
-
-/// A command that takes a name.
-#[derive(Clone, Copy, Debug, PartialEq, Eq)]
-pub enum NameCommand {
-    /// Opens a copy of a file, or an empty text, in the user track.
-    OpenDocument,
-    /// Opens a copy of a file in the system track.
-    OpenFile,
-    /// Sets the font of what is typed.
-    SetFont,
-    /// Gives the newest selection a font.
-    ChangeFont,
-}
-
-/// A command that takes a number.
-#[derive(Clone, Copy, Debug, PartialEq, Eq)]
-pub enum NumberCommand {
-    /// Sets the colour of what is typed.
-    SetColor,
-    /// Sets the vertical offset of what is typed.
-    SetOffset,
-    /// Gives the newest selection a colour.
-    ChangeColor,
-    /// Gives the newest selection a vertical offset.
-    ChangeOffset,
-}
-
-/// A command that takes a viewer.
-#[derive(Clone, Copy, Debug, PartialEq, Eq)]
-pub enum ViewerCommand {
-    /// Closes it; it is kept.
-    Close,
-    /// Opens a second one on its text.
-    Copy,
-    /// Stores its text as the file that its menu names.
-    Store,
-    /// Finds the next place of the pattern in its text.
-    Search,
-    /// Opens a second one on its text, which has the whole column.
-    Grow,
-}
 
 /// The number that a symbol is. None where it is another symbol.
 fn number_in(symbol: &Symbol) -> Option<i32>
@@ -96,9 +55,8 @@ pub fn call<S: CharSource>(
     requires placed { IsOnTop id (kept desk.old).columns }
     requires place { pos ≤ length (flat (text_called (kept desk.old) id in_menu)) }
     requires over { IsOver (S.characters source.old) (kept desk.old) }
-    ensures answered { IfOk result (Settles S.CharSource (λ d. called (version_number version) d id in_menu pos)
-        source.old source.new (kept desk.old) (kept desk.new)) }
-    ensures uses { Uses S.CharSource result source.old source.new }
+    ensures { Does S.CharSource (λ d. called (version_number version) d id in_menu pos) result
+        source.old source.new (kept desk.old) (kept desk.new) }
 {
     let found = called(version, desk.text_called(id, in_menu), pos, source)?;
     let Some((command, after)) = found else {
@@ -113,18 +71,16 @@ pub fn call<S: CharSource>(
 }
 
 /// Does what a command does.
-#[tactic(auto, unfolding(desktop_definitions::specs::Commands::commanded, crate::specs::Calls::done_with_name, crate::specs::Calls::done_with_number, crate::specs::Calls::done_with_viewer))]
+#[tactic(auto, unfolding(desktop_definitions::specs::Commands::commanded))]
 fn do_command<S: CharSource>(
     desk: &mut Desk,
     command: Command,
     call: Call,
     source: &mut S,
 ) -> StepResult
-    requires call { IsCall (kept desk.old) call }
-    requires over { IsOver (S.characters source.old) (kept desk.old) }
-    ensures answered { IfOk result (Settles S.CharSource (λ d. commanded d command call)
-        source.old source.new (kept desk.old) (kept desk.new)) }
-    ensures uses { Uses S.CharSource result source.old source.new }
+    requires { IsCall (S.characters source.old) (kept desk.old) call }
+    ensures { Does S.CharSource (λ d. commanded d command call) result
+        source.old source.new (kept desk.old) (kept desk.new) }
 {
     match command {
         Command::EditOpen => command_with_name(desk, NameCommand::OpenDocument, call, source),
@@ -172,20 +128,19 @@ fn command_with_name<S: CharSource>(
     call: Call,
     source: &mut S,
 ) -> StepResult
-    requires call { IsCall (kept desk.old) call }
-    requires over { IsOver (S.characters source.old) (kept desk.old) }
-    ensures answered { IfOk result (Settles S.CharSource (λ d. given (name_of d call) (done_with_name d command))
-        source.old source.new (kept desk.old) (kept desk.new)) }
-    ensures uses { Uses S.CharSource result source.old source.new }
+    requires { IsCall (S.characters source.old) (kept desk.old) call }
+    ensures { Does S.CharSource (λ d. given (name_of d call) (done_with_name d command)) result
+        source.old source.new (kept desk.old) (kept desk.new) }
 {
-    match name_of(desk, call, source)? {
+    let value = value_of(desk, call, source)?;
+    match as_name(value) {
         Ok(name) => do_with_name(desk, command, &name, source),
         Err(code) => Ok(Reply::No(code)),
     }
 }
 
 /// What a command does with a name.
-#[tactic(auto, unfolding(crate::specs::Calls::done_with_name), using(crate::proofs::CallLemmas::looks_set))]
+#[tactic(auto, unfolding(desktop_definitions::specs::Commands::done_with_name), using(crate::proofs::CallLemmas::looks_set))]
 fn do_with_name<S: CharSource>(
     desk: &mut Desk,
     command: NameCommand,
@@ -193,9 +148,8 @@ fn do_with_name<S: CharSource>(
     source: &mut S,
 ) -> StepResult
     requires over { IsOver (S.characters source.old) (kept desk.old) }
-    ensures answered { IfOk result (Settles S.CharSource (λ d. done_with_name d command name.now)
-        source.old source.new (kept desk.old) (kept desk.new)) }
-    ensures uses { Uses S.CharSource result source.old source.new }
+    ensures { Does S.CharSource (λ d. done_with_name d command name.now) result
+        source.old source.new (kept desk.old) (kept desk.new) }
 {
     match command {
         NameCommand::OpenDocument => open_document(desk, name, source),
@@ -212,21 +166,19 @@ fn command_with_number<S: CharSource>(
     call: Call,
     source: &mut S,
 ) -> StepResult
-    requires call { IsCall (kept desk.old) call }
-    requires over { IsOver (S.characters source.old) (kept desk.old) }
-    ensures answered { IfOk result (Settles S.CharSource
-        (λ d. given (number_of d call) (done_with_number d command))
-        source.old source.new (kept desk.old) (kept desk.new)) }
-    ensures uses { Uses S.CharSource result source.old source.new }
+    requires { IsCall (S.characters source.old) (kept desk.old) call }
+    ensures { Does S.CharSource (λ d. given (number_of d call) (done_with_number d command)) result
+        source.old source.new (kept desk.old) (kept desk.new) }
 {
-    match number_of(desk, call, source)? {
+    let value = value_of(desk, call, source)?;
+    match as_number(value) {
         Ok(number) => do_with_number(desk, command, number, source),
         Err(code) => Ok(Reply::No(code)),
     }
 }
 
 /// What a command does with a number.
-#[tactic(auto, unfolding(crate::specs::Calls::done_with_number), using(crate::proofs::CallLemmas::looks_set))]
+#[tactic(auto, unfolding(desktop_definitions::specs::Commands::done_with_number), using(crate::proofs::CallLemmas::looks_set))]
 fn do_with_number<S: CharSource>(
     desk: &mut Desk,
     command: NumberCommand,
@@ -234,9 +186,8 @@ fn do_with_number<S: CharSource>(
     source: &mut S,
 ) -> StepResult
     requires over { IsOver (S.characters source.old) (kept desk.old) }
-    ensures answered { IfOk result (Settles S.CharSource (λ d. done_with_number d command number)
-        source.old source.new (kept desk.old) (kept desk.new)) }
-    ensures uses { Uses S.CharSource result source.old source.new }
+    ensures { Does S.CharSource (λ d. done_with_number d command number) result
+        source.old source.new (kept desk.old) (kept desk.new) }
 {
     match command {
         NumberCommand::SetColor => set_look(desk, colour_set(number), source),
@@ -253,12 +204,9 @@ fn command_with_viewer<S: CharSource>(
     call: Call,
     source: &mut S,
 ) -> StepResult
-    requires call { IsCall (kept desk.old) call }
-    requires over { IsOver (S.characters source.old) (kept desk.old) }
-    ensures answered { IfOk result (Settles S.CharSource
-        (λ d. needs (meant d call) no_viewer (done_with_viewer d command))
-        source.old source.new (kept desk.old) (kept desk.new)) }
-    ensures uses { Uses S.CharSource result source.old source.new }
+    requires { IsCall (S.characters source.old) (kept desk.old) call }
+    ensures { Does S.CharSource (λ d. needs (meant d call) no_viewer (done_with_viewer d command)) result
+        source.old source.new (kept desk.old) (kept desk.new) }
 {
     let Some(id) = meant(desk, call) else {
         return Ok(Reply::No(codes::NO_VIEWER));
@@ -267,7 +215,7 @@ fn command_with_viewer<S: CharSource>(
 }
 
 /// What a command does with a viewer.
-#[tactic(auto, unfolding(crate::specs::Calls::done_with_viewer))]
+#[tactic(auto, unfolding(desktop_definitions::specs::Commands::done_with_viewer))]
 fn do_with_viewer<S: CharSource>(
     desk: &mut Desk,
     command: ViewerCommand,
@@ -275,9 +223,8 @@ fn do_with_viewer<S: CharSource>(
     source: &mut S,
 ) -> StepResult
     requires { IsViewerOnTop (S.characters source.old) (kept desk.old) id }
-    ensures answered { IfOk result (Settles S.CharSource (λ d. done_with_viewer d command id)
-        source.old source.new (kept desk.old) (kept desk.new)) }
-    ensures uses { Uses S.CharSource result source.old source.new }
+    ensures { Does S.CharSource (λ d. done_with_viewer d command id) result
+        source.old source.new (kept desk.old) (kept desk.new) }
 {
     match command {
         ViewerCommand::Close => close_viewer(desk, id, source),
@@ -291,11 +238,9 @@ fn do_with_viewer<S: CharSource>(
 /// The files of the list after the word go. Refused where there is no list, and where a name of it is no file's or
 /// stands there twice.
 fn delete_named_files<S: CharSource>(desk: &mut Desk, call: Call, source: &mut S) -> StepResult
-    requires call { IsCall (kept desk.old) call }
-    requires over { IsOver (S.characters source.old) (kept desk.old) }
-    ensures answered { IfOk result (Settles S.CharSource (λ d. given (names_of d call) (files_deleted d))
-        source.old source.new (kept desk.old) (kept desk.new)) }
-    ensures uses { Uses S.CharSource result source.old source.new }
+    requires { IsCall (S.characters source.old) (kept desk.old) call }
+    ensures { Does S.CharSource (λ d. given (names_of d call) (files_deleted d)) result
+        source.old source.new (kept desk.old) (kept desk.new) }
 {
     match names_of(desk, call, source)? {
         Ok(names) => delete_files(desk, names.as_slice(), source),
@@ -319,7 +264,7 @@ fn at_marker(desk: &Desk) -> Option<u16>
 /// The viewer in whose menu the word stands, or else the one at the marker. None where there is none.
 fn meant(desk: &Desk, call: Call) -> Option<u16>
     requires whole { IsKeptWhole (kept desk.now) }
-    requires call { IsCall (kept desk.now) call }
+    requires placed { IsOnTop call.viewer (kept desk.now).columns }
     ensures viewer { result ≡ meant (kept desk.now) call }
     ensures placed { IfSome result (λ v. IsOnTop v (kept desk.now).columns) }
 {
@@ -350,19 +295,14 @@ fn menu_at_marker(desk: &Desk) -> Option<&Text>
     Some(text_there(&desk.texts, viewer.menu))
 }
 
-/// The value after the word, or the code of a refusal. Fault: the source failed in this call.
-fn value_of<S: CharSource>(
-    desk: &Desk,
-    call: Call,
-    source: &mut S,
-) -> Result<Result<Symbol, u8>, Fault>
-    requires call { IsCall (kept desk.now) call }
-    requires over { IsOver (S.characters source.old) (kept desk.now) }
-    ensures exact { IfOk result (λ value. S.honest source.old
-        → value ≡ value_of (seen (S.characters source.old) (kept desk.now)) call) }
+/// What a call tells that reads what stands after a word: a value, or the code of a refusal.
+type Told<T> = Result<Result<T, u8>, Fault>;
+
+/// The value after the word. Fault: the source failed in this call.
+fn value_of<S: CharSource>(desk: &Desk, call: Call, source: &mut S) -> Told<Symbol>
+    requires { IsCall (S.characters source.old) (kept desk.now) call }
+    ensures told { Tells S.CharSource result (λ d. value_of d call) source.old source.new (kept desk.now) }
     ensures kind { IfOk result (λ value. MatchResult value IsShaped (OneOf known_codes)) }
-    ensures reads { OnlyReads S.characters S.failures S.honest S.same_ground source.old source.new }
-    ensures cause { CountsFault result (S.failures source.old) (S.failures source.new) }
 {
     let text = desk.text_called(call.viewer, call.in_menu);
     params(
@@ -374,60 +314,36 @@ fn value_of<S: CharSource>(
     )
 }
 
-/// The value after the word where it is a name, or the code of a refusal. Fault: the source failed in this call.
-fn name_of<S: CharSource>(
-    desk: &Desk,
-    call: Call,
-    source: &mut S,
-) -> Result<Result<Name, u8>, Fault>
-    requires call { IsCall (kept desk.now) call }
-    requires over { IsOver (S.characters source.old) (kept desk.now) }
-    ensures exact { IfOk result (λ name. S.honest source.old
-        → name ≡ name_of (seen (S.characters source.old) (kept desk.now)) call) }
-    ensures codes { IfOk result (λ name. IfErr name (OneOf known_codes)) }
-    ensures reads { OnlyReads S.characters S.failures S.honest S.same_ground source.old source.new }
-    ensures cause { CountsFault result (S.failures source.old) (S.failures source.new) }
+/// The name that a value is. Refused where it is none.
+#[tactic(auto, using(crate::proofs::CallLemmas::same_wanted))]
+fn as_name(value: Result<Symbol, u8>) -> Result<Name, u8>
+    requires { MatchResult value IsShaped (OneOf known_codes) }
+    ensures is { result ≡ as_name value }
+    ensures codes { IfErr result (OneOf known_codes) }
 {
-    match value_of(desk, call, source)? {
-        Ok(symbol) => Ok(name_in(&symbol).ok_or(codes::WRONG_SYMBOL)),
-        Err(code) => Ok(Err(code)),
-    }
+    name_in(&value?).ok_or(codes::WRONG_SYMBOL)
 }
 
-/// The value after the word where it is a number, or the code of a refusal. Fault: the source failed in this call.
-fn number_of<S: CharSource>(
-    desk: &Desk,
-    call: Call,
-    source: &mut S,
-) -> Result<Result<i32, u8>, Fault>
-    requires call { IsCall (kept desk.now) call }
-    requires over { IsOver (S.characters source.old) (kept desk.now) }
-    ensures exact { IfOk result (λ number. S.honest source.old
-        → number ≡ number_of (seen (S.characters source.old) (kept desk.now)) call) }
-    ensures codes { IfOk result (λ number. IfErr number (OneOf known_codes)) }
-    ensures reads { OnlyReads S.characters S.failures S.honest S.same_ground source.old source.new }
-    ensures cause { CountsFault result (S.failures source.old) (S.failures source.new) }
+/// The number that a value is. Refused where it is none.
+#[tactic(auto, using(crate::proofs::CallLemmas::same_wanted))]
+fn as_number(value: Result<Symbol, u8>) -> Result<i32, u8>
+    requires { MatchResult value IsShaped (OneOf known_codes) }
+    ensures is { result ≡ as_number value }
+    ensures codes { IfErr result (OneOf known_codes) }
 {
-    match value_of(desk, call, source)? {
-        Ok(symbol) => Ok(number_in(&symbol).ok_or(codes::WRONG_SYMBOL)),
-        Err(code) => Ok(Err(code)),
-    }
+    number_in(&value?).ok_or(codes::WRONG_SYMBOL)
 }
 
-/// The first names of the list after the word, at most 257, or the code of a refusal. Fault: the source failed in this
-/// call.
+/// The first names of the list after the word, at most 257. Fault: the source failed in this call.
 fn names_of<S: CharSource>(
     desk: &Desk,
     call: Call,
     source: &mut S,
-) -> Result<Result<ArrayVec<Name, MOST_NAMES>, u8>, Fault>
-    requires call { IsCall (kept desk.now) call }
-    requires over { IsOver (S.characters source.old) (kept desk.now) }
-    ensures exact { IfOk result (λ names. S.honest source.old
-        → listed names ≡ first_names (names_of (seen (S.characters source.old) (kept desk.now)) call)) }
+) -> Told<ArrayVec<Name, MOST_NAMES>>
+    requires { IsCall (S.characters source.old) (kept desk.now) call }
+    ensures told { TellsAs S.CharSource listed result (λ d. first_names (names_of d call))
+        source.old source.new (kept desk.now) }
     ensures codes { IfOk result (λ names. IfErr names (OneOf known_codes)) }
-    ensures reads { OnlyReads S.characters S.failures S.honest S.same_ground source.old source.new }
-    ensures cause { CountsFault result (S.failures source.old) (S.failures source.new) }
 {
     let text = desk.text_called(call.viewer, call.in_menu);
     names(text, call.after, selection_place(desk), source)

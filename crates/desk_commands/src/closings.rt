@@ -1,9 +1,9 @@
 //! Viewers close, and the one that was closed last opens again.
-ghost use Rattle.std.specs.Prelude.{◌≡◌, IfOk, Ok, option_map};
+ghost use Rattle.std.specs.Prelude.{◌≡◌, Ok, option_map};
 ghost use Rattle.viewer_tracks.specs.Display.{left_of};
 ghost use Rattle.desktop_definitions.specs.Effects.{put_away, brought_back};
 ghost use Rattle.desktop_laws.specs.ClosingLaws.{place_kept};
-ghost use Rattle.desk_core.specs.Words.{IsOnTop, id_number, needs, IsOver, kept, Settles, Uses};
+ghost use Rattle.desk_core.specs.Words.{IsOnTop, id_number, needs, IsOver, kept, Does};
 ghost use Rattle.desk_commands.specs.Calls.{IsViewerOnTop};
 ghost use Rattle.desk_commands.specs.Words.{Track as ATrack, no_viewer, IsKeptPlace};
 
@@ -35,9 +35,8 @@ fn viewer_kept(kept: Option<Kept>) -> Option<ViewerId>
 /// before is gone, with the texts that nobody else shows.
 pub fn close_viewer<S: CharSource>(desk: &mut Desk, id: u16, source: &mut S) -> StepResult
     requires { IsViewerOnTop (S.characters source.old) (kept desk.old) id }
-    ensures answered { IfOk result (Settles S.CharSource (λ d. Ok (put_away d id))
-        source.old source.new (kept desk.old) (kept desk.new)) }
-    ensures uses { Uses S.CharSource result source.old source.new }
+    ensures { Does S.CharSource (λ d. Ok (put_away d id)) result
+        source.old source.new (kept desk.old) (kept desk.new) }
 {
     edits_keep_columns();
     edits_place_viewers();
@@ -67,10 +66,8 @@ fn place_kept(desk: &Desk, id: u16) -> Kept
 /// gone, with the texts that nobody else shows. Refused where none is kept.
 pub fn recall_viewer<S: CharSource>(desk: &mut Desk, source: &mut S) -> StepResult
     requires over { IsOver (S.characters source.old) (kept desk.old) }
-    ensures answered { IfOk result (Settles S.CharSource
-        (λ d. needs d.kept no_viewer λ k. Ok (brought_back d k))
-        source.old source.new (kept desk.old) (kept desk.new)) }
-    ensures uses { Uses S.CharSource result source.old source.new }
+    ensures { Does S.CharSource (λ d. needs d.kept no_viewer λ k. Ok (brought_back d k)) result
+        source.old source.new (kept desk.old) (kept desk.new) }
 {
     let Some(viewer) = desk.kept else {
         return Ok(Reply::No(codes::NO_VIEWER));

@@ -2,7 +2,7 @@
 ghost use Rattle.std.specs.Prelude.{IfOk, Ok};
 ghost use Rattle.desktop_definitions.specs.Effects.{collected};
 ghost use Rattle.desktop_laws.specs.Rewriting.{IsRewritten};
-ghost use Rattle.desk_core.specs.Words.{FailsAs, OnlyReads, IsOver, kept, Settles, Uses, IsStop};
+ghost use Rattle.desk_core.specs.Words.{FailsAs, OnlyReads, IsOver, kept, IsStop, Does};
 
 use crate::rewriting::{put_buffer, put_files, put_texts};
 use char_file::CharSource;
@@ -52,9 +52,8 @@ fn rewritten<S: CharSource>(desk: &Desk, source: &mut S) -> Result<WrittenAnew, 
 /// not be read.
 pub fn collect<S: CharSource>(desk: &mut Desk, source: &mut S) -> StepResult
     requires { IsOver (S.characters source.old) (kept desk.old) }
-    ensures answered { IfOk result (Settles S.CharSource (λ d. Ok (collected d))
-        source.old source.new (kept desk.old) (kept desk.new)) }
-    ensures uses { Uses S.CharSource result source.old source.new }
+    ensures { Does S.CharSource (λ d. Ok (collected d)) result
+        source.old source.new (kept desk.old) (kept desk.new) }
 {
     let WrittenAnew {
         texts,

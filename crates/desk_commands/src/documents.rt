@@ -7,7 +7,8 @@ ghost use Rattle.desktop_definitions.specs.Effects.{viewer_copied, viewer_grown}
 ghost use Rattle.desktop_definitions.specs.Gesture.{tool_opened};
 ghost use Rattle.desktop_laws.specs.OpeningOnLaws.{IsPlaceOf};
 ghost use Rattle.desk_core.specs.Words.{flat, AreWithin, Text as AText, ROWS, COLUMNS, IsOnTop, most_written, dropped};
-ghost use Rattle.desk_core.specs.Words.{seen, seen_text, IsKeptWhole, IsOver, kept, Settles, SettlesBringing, Uses};
+ghost use Rattle.desk_core.specs.Words.{seen, seen_text, IsKeptWhole, IsOver, kept};
+ghost use Rattle.desk_core.specs.Words.{Does, DoesBringing};
 ghost use Rattle.desk_commands.specs.Calls.{IsViewerOnTop};
 ghost use Rattle.desk_commands.specs.Words.{AreLooks, named, file_of, plain, more_written, menu_line, opening, fits};
 
@@ -81,9 +82,8 @@ fn place_of(desk: &Desk, id: u16) -> Place
 /// A copy of a file, or an empty text where there is none of that name, opens in the user track.
 pub fn open_document<S: CharSource>(desk: &mut Desk, name: &Name, source: &mut S) -> StepResult
     requires over { IsOver (S.characters source.old) (kept desk.old) }
-    ensures answered { IfOk result (Settles S.CharSource (λ d. Ok (document_opened d name.now))
-        source.old source.new (kept desk.old) (kept desk.new)) }
-    ensures uses { Uses S.CharSource result source.old source.new }
+    ensures { Does S.CharSource (λ d. Ok (document_opened d name.now)) result
+        source.old source.new (kept desk.old) (kept desk.new) }
 {
     let (x, y) = free_cell(desk, Track::User);
     open_named(desk, name, x, y, source)
@@ -92,9 +92,8 @@ pub fn open_document<S: CharSource>(desk: &mut Desk, name: &Name, source: &mut S
 /// A copy of a file opens in the system track. Refused where there is no file of that name.
 pub fn open_file<S: CharSource>(desk: &mut Desk, name: &Name, source: &mut S) -> StepResult
     requires over { IsOver (S.characters source.old) (kept desk.old) }
-    ensures answered { IfOk result (Settles S.CharSource (λ d. file_opened d name.now)
-        source.old source.new (kept desk.old) (kept desk.new)) }
-    ensures uses { Uses S.CharSource result source.old source.new }
+    ensures { Does S.CharSource (λ d. file_opened d name.now) result
+        source.old source.new (kept desk.old) (kept desk.new) }
 {
     if !desk.files.contains_key(name) {
         return Ok(Reply::No(codes::NO_FILE));
@@ -108,11 +107,8 @@ pub fn open_tool<S: CharSource>(desk: &mut Desk, x: u8, y: u8, source: &mut S) -
     requires column { x < COLUMNS }
     requires row { y < ROWS }
     requires over { IsOver (S.characters source.old) (kept desk.old) }
-    ensures answered { IfOk result (Settles S.CharSource (λ d. tool_opened d x y)
-        source.old source.new (kept desk.old) (kept desk.new)) }
-    ensures unread { IfOk result (SettlesBringing (menu_line (codes "System.Tool"))
-        (λ all. tool_opened (seen all (kept desk.old)) x y) (kept desk.old) (kept desk.new)) }
-    ensures uses { Uses S.CharSource result source.old source.new }
+    ensures { DoesBringing S.CharSource (menu_line (codes "System.Tool")) (λ all d. tool_opened d x y) result
+        source.old source.new (kept desk.old) (kept desk.new) }
 {
     let Some(name) = Name::new(b"System.Tool") else {
         unreachable!()
@@ -134,13 +130,9 @@ fn open_named<S: CharSource>(
 ) -> StepResult
     requires column { x < COLUMNS }
     requires over { IsOver (S.characters source.old) (kept desk.old) }
-    ensures answered { IfOk result (Settles S.CharSource
-        (λ d. Ok (opened_on_copy d name.now (unwrap_or (file_of d name.now) []) (x, y)))
-        source.old source.new (kept desk.old) (kept desk.new)) }
-    ensures unread { IfOk result (SettlesBringing (menu_line name.now) (λ all.
-        let d = seen all (kept desk.old) in Ok (opened_on_copy d name.now (unwrap_or (file_of d name.now) []) (x, y)))
-        (kept desk.old) (kept desk.new)) }
-    ensures uses { Uses S.CharSource result source.old source.new }
+    ensures { DoesBringing S.CharSource (menu_line name.now)
+        (λ all d. Ok (opened_on_copy d name.now (unwrap_or (file_of d name.now) []) (x, y))) result
+        source.old source.new (kept desk.old) (kept desk.new) }
 {
     let menu = menu_line(name.as_bytes());
     let len = file_len(&desk.files, name);
@@ -170,15 +162,9 @@ fn open_viewer<S: CharSource>(
         → fits (dropped (more_written (opening (seen characters (kept desk.old)) menu_text main_text (x, y))
         (length menu.now))) ≡ true }
     requires over { IsOver (S.characters source.old) (kept desk.old) }
-    ensures answered { IfOk result (Settles S.CharSource (λ d.
-        Ok (more_written (opening d (plain menu.now) (seen_text (S.characters source.old) main) (x, y))
-        (length menu.now)))
-        source.old source.new (kept desk.old) (kept desk.new)) }
-    ensures unread { IfOk result (SettlesBringing menu.now (λ all.
-        Ok (more_written (opening (seen all (kept desk.old)) (plain menu.now) (seen_text all main) (x, y))
-        (length menu.now)))
-        (kept desk.old) (kept desk.new)) }
-    ensures uses { Uses S.CharSource result source.old source.new }
+    ensures { DoesBringing S.CharSource menu.now (λ all d.
+        Ok (more_written (opening d (plain menu.now) (seen_text all main) (x, y)) (length menu.now))) result
+        source.old source.new (kept desk.old) (kept desk.new) }
 {
     edits_keep_columns();
     edits_place_viewers();
@@ -193,9 +179,8 @@ fn open_viewer<S: CharSource>(
 /// The log opens in the system track.
 pub fn open_log<S: CharSource>(desk: &mut Desk, source: &mut S) -> StepResult
     requires over { IsOver (S.characters source.old) (kept desk.old) }
-    ensures answered { IfOk result (Settles S.CharSource (λ d. Ok (log_opened d))
-        source.old source.new (kept desk.old) (kept desk.new)) }
-    ensures uses { Uses S.CharSource result source.old source.new }
+    ensures { Does S.CharSource (λ d. Ok (log_opened d)) result
+        source.old source.new (kept desk.old) (kept desk.new) }
 {
     edits_keep_columns();
     edits_place_viewers();
@@ -216,9 +201,8 @@ pub fn open_log<S: CharSource>(desk: &mut Desk, source: &mut S) -> StepResult
 /// first line. Refused where its place has one row.
 pub fn copy_viewer<S: CharSource>(desk: &mut Desk, id: u16, source: &mut S) -> StepResult
     requires { IsViewerOnTop (S.characters source.old) (kept desk.old) id }
-    ensures answered { IfOk result (Settles S.CharSource (λ d. viewer_copied d id)
-        source.old source.new (kept desk.old) (kept desk.new)) }
-    ensures uses { Uses S.CharSource result source.old source.new }
+    ensures { Does S.CharSource (λ d. viewer_copied d id) result
+        source.old source.new (kept desk.old) (kept desk.new) }
 {
     edits_keep_columns();
     edits_place_viewers();
@@ -243,9 +227,8 @@ pub fn copy_viewer<S: CharSource>(desk: &mut Desk, id: u16, source: &mut S) -> S
 /// many tracks as it may have.
 pub fn grow_viewer<S: CharSource>(desk: &mut Desk, id: u16, source: &mut S) -> StepResult
     requires { IsViewerOnTop (S.characters source.old) (kept desk.old) id }
-    ensures answered { IfOk result (Settles S.CharSource (λ d. viewer_grown d id)
-        source.old source.new (kept desk.old) (kept desk.new)) }
-    ensures uses { Uses S.CharSource result source.old source.new }
+    ensures { Does S.CharSource (λ d. viewer_grown d id) result
+        source.old source.new (kept desk.old) (kept desk.new) }
 {
     let track = track_from(place_of(desk, id).x);
     if desk.tracks.levels(track) == DEPTH {

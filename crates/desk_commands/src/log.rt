@@ -1,14 +1,14 @@
 //! Lines of the log, which is text 0.
-ghost use Rattle.std.specs.Prelude.{◌≡◌, ◌+◌, ◌<◌, ◌≤◌, ◌^◌, ◌++◌, ℕ, List, [], ◌∷◌, length, map, slice_get, Some, Ok};
-ghost use Rattle.std.specs.Prelude.{IfOk, OnOk};
+ghost use Rattle.std.specs.Prelude.{◌≡◌, ◌+◌, ◌<◌, ◌≤◌, ◌^◌, ◌++◌, ℕ, List, ◌∷◌, length, map, slice_get, Some, Ok};
+ghost use Rattle.std.specs.Prelude.{IfOk};
 ghost use Rattle.std.specs.Fmt.{decimal};
 ghost use Rattle.screen_pictures.specs.Bytes.{space};
 ghost use Rattle.desktop_definitions.specs.Log.{line, logged, all_logged, log_shown, log_end_shown};
 ghost use Rattle.desktop_definitions.specs.Effects.{size_line, storing_line, log_cleared, directory_logged};
-ghost use Rattle.desk_commands.specs.Lines.{bytes_of_lines, total};
-ghost use Rattle.desk_core.specs.Words.{keys_of, FailsAs, OnlyReads, flat, most_written, text_in, seen, seen_table};
-ghost use Rattle.desk_core.specs.Words.{IsOver, IsBuilt, IsChanged, kept, IsStop, Settles, Uses};
-ghost use Rattle.desk_commands.specs.Words.{default_look, run, held, deleting_line, IsExtended, IsStanding};
+ghost use Rattle.desk_commands.specs.Lines.{bytes_of_lines, total, CanLog, Logs, Shows};
+ghost use Rattle.desk_core.specs.Words.{keys_of, flat, text_in, seen_table};
+ghost use Rattle.desk_core.specs.Words.{IsOver, IsBuilt, kept, Does};
+ghost use Rattle.desk_commands.specs.Words.{default_look, run, deleting_line};
 
 use arrayvec::ArrayVec;
 use char_file::CharSource;
@@ -109,9 +109,8 @@ fn buffer_of_line(alloc: Global, first: u32, count: u32) -> Result<Buffer, NoMem
 /// The log becomes empty. NoMemory where an allocation is refused, Fault where a character could not be read.
 pub fn clear_log<S: CharSource>(desk: &mut Desk, source: &mut S) -> StepResult
     requires over { IsOver (S.characters source.old) (kept desk.old) }
-    ensures answered { IfOk result (Settles S.CharSource (λ d. Ok (log_cleared d))
-        source.old source.new (kept desk.old) (kept desk.new)) }
-    ensures uses { Uses S.CharSource result source.old source.new }
+    ensures { Does S.CharSource (λ d. Ok (log_cleared d)) result
+        source.old source.new (kept desk.old) (kept desk.new) }
 {
     let len = log_len(desk);
     if len > 0 {
@@ -124,9 +123,8 @@ pub fn clear_log<S: CharSource>(desk: &mut Desk, source: &mut S) -> StepResult
 /// NoMemory where an allocation is refused, Fault where a character could not be read.
 pub fn log_directory<S: CharSource>(desk: &mut Desk, source: &mut S) -> StepResult
     requires over { IsOver (S.characters source.old) (kept desk.old) }
-    ensures answered { IfOk result (Settles S.CharSource (λ d. Ok (directory_logged d))
-        source.old source.new (kept desk.old) (kept desk.new)) }
-    ensures uses { Uses S.CharSource result source.old source.new }
+    ensures { Does S.CharSource (λ d. Ok (directory_logged d)) result
+        source.old source.new (kept desk.old) (kept desk.new) }
 {
     let made = directory_lines(desk.alloc, &desk.files)?;
     let lines = made.as_slice();
@@ -155,13 +153,9 @@ pub fn log_lines<S: CharSource>(
     lines: &[LogLine],
     source: &mut S,
 ) -> Result<(), Stop>
-    requires stands { IsStanding (S.characters source.old) (kept desk.old) }
-    requires room { desk.old.written + total lines.now ≤ most_written }
-    requires short { held (seen [] (kept desk.old)) + total lines.now < 2 ^ 32 }
-    ensures logged { OnOk result (IsExtended (S.honest source.old) (S.characters source.old)
-        (S.characters source.new) (kept desk.old) (kept desk.new)
-        (λ d. all_logged d (bytes_of_lines lines.now)) (total lines.now)) }
-    ensures uses { Uses S.CharSource result source.old source.new }
+    requires { CanLog (S.characters source.old) (kept desk.old) (total lines.now) }
+    ensures { Logs S.CharSource (λ d. all_logged d (bytes_of_lines lines.now)) (total lines.now) result
+        source.old source.new (kept desk.old) (kept desk.new) }
 {
     for line in lines {
         log_line(desk, line.as_slice(), source)?;
@@ -172,12 +166,9 @@ pub fn log_lines<S: CharSource>(
 /// Puts a line in at the end of the log, and each viewer of the log in a track shows its end. NoMemory where an
 /// allocation is refused, Fault where a character could not be read.
 pub fn log_line<S: CharSource>(desk: &mut Desk, line: &[u8], source: &mut S) -> Result<(), Stop>
-    requires stands { IsStanding (S.characters source.old) (kept desk.old) }
-    requires room { desk.old.written + length line.now ≤ most_written }
-    requires short { held (seen [] (kept desk.old)) + length line.now < 2 ^ 32 }
-    ensures logged { OnOk result (IsExtended (S.honest source.old) (S.characters source.old)
-        (S.characters source.new) (kept desk.old) (kept desk.new) (λ d. logged d line.now) (length line.now)) }
-    ensures uses { Uses S.CharSource result source.old source.new }
+    requires { CanLog (S.characters source.old) (kept desk.old) (length line.now) }
+    ensures { Logs S.CharSource (λ d. logged d line.now) (length line.now) result
+        source.old source.new (kept desk.old) (kept desk.new) }
 {
     let end = log_len(desk);
     let mut buffer = buffer_of_line(desk.alloc, desk.written, line.len() as u32)?;
@@ -192,10 +183,7 @@ pub fn log_line<S: CharSource>(desk: &mut Desk, line: &[u8], source: &mut S) -> 
 /// this call.
 fn show_log_end<S: CharSource>(desk: &mut Desk, source: &mut S) -> Result<(), Stop>
     requires built { IsBuilt (length (S.characters source.old)) (kept desk.old) }
-    ensures changed { OnOk result (IsChanged (S.honest source.old) (S.characters source.old) (kept desk.old)
-        (kept desk.new) (log_end_shown (seen (S.characters source.old) (kept desk.old))) 0 0) }
-    ensures reads { OnlyReads S.characters S.failures S.honest S.same_ground source.old source.new }
-    ensures faults { FailsAs Stop.Fault IsStop result (S.failures source.old) (S.failures source.new) }
+    ensures { Shows S.CharSource log_end_shown result source.old source.new (kept desk.old) (kept desk.new) }
 {
     for at in 0..viewer_count(desk) {
         let id = viewer_at(desk, at);
@@ -223,10 +211,7 @@ fn viewer_at(desk: &Desk, at: usize) -> u16
 /// this call.
 fn show_log_in<S: CharSource>(desk: &mut Desk, id: u16, source: &mut S) -> Result<(), Stop>
     requires built { IsBuilt (length (S.characters source.old)) (kept desk.old) }
-    ensures changed { OnOk result (IsChanged (S.honest source.old) (S.characters source.old) (kept desk.old)
-        (kept desk.new) (log_shown (seen (S.characters source.old) (kept desk.old)) id) 0 0) }
-    ensures reads { OnlyReads S.characters S.failures S.honest S.same_ground source.old source.new }
-    ensures faults { FailsAs Stop.Fault IsStop result (S.failures source.old) (S.failures source.new) }
+    ensures { Shows S.CharSource (λ d. log_shown d id) result source.old source.new (kept desk.old) (kept desk.new) }
 {
     if desk.main_of(id) == 0 && desk.tracks.contains(ViewerId(id)) {
         let end = log_len(desk);

@@ -1,9 +1,9 @@
 //! What commands set in looks: a selector (bit 0 the font, bit 1 the colour, bit 2 the vertical offset), and a look of
 //! which it takes a field.
-ghost use Rattle.std.specs.Prelude.{◌≡◌, IfOk, Ok};
+ghost use Rattle.std.specs.Prelude.{◌≡◌, Ok};
 ghost use Rattle.desktop_definitions.specs.Looks.{font_set, colour_set, offset_set, SetsLook};
 ghost use Rattle.desktop_definitions.specs.Effects.{look_set, selection_set};
-ghost use Rattle.desk_core.specs.Words.{needs, IsOver, kept, Settles, Uses};
+ghost use Rattle.desk_core.specs.Words.{needs, IsOver, kept, Does};
 ghost use Rattle.desk_commands.specs.Words.{bad_value};
 
 use char_file::CharSource;
@@ -77,9 +77,8 @@ pub fn set_look<S: CharSource>(
 ) -> StepResult
     requires sets { SetsLook new }
     requires over { IsOver (S.characters source.old) (kept desk.old) }
-    ensures answered { IfOk result (Settles S.CharSource (λ d. needs new bad_value λ set. Ok (look_set d set))
-        source.old source.new (kept desk.old) (kept desk.new)) }
-    ensures uses { Uses S.CharSource result source.old source.new }
+    ensures { Does S.CharSource (λ d. needs new bad_value λ set. Ok (look_set d set)) result
+        source.old source.new (kept desk.old) (kept desk.new) }
 {
     let Some((selector, look)) = new else {
         return Ok(Reply::No(codes::BAD_VALUE));
@@ -97,9 +96,8 @@ pub fn change_look<S: CharSource>(
 ) -> StepResult
     requires sets { SetsLook new }
     requires over { IsOver (S.characters source.old) (kept desk.old) }
-    ensures answered { IfOk result (Settles S.CharSource (λ d. needs new bad_value (selection_set d))
-        source.old source.new (kept desk.old) (kept desk.new)) }
-    ensures uses { Uses S.CharSource result source.old source.new }
+    ensures { Does S.CharSource (λ d. needs new bad_value (selection_set d)) result
+        source.old source.new (kept desk.old) (kept desk.new) }
 {
     let Some((selector, look)) = new else {
         return Ok(Reply::No(codes::BAD_VALUE));

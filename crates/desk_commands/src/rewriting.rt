@@ -1,13 +1,10 @@
 //! Texts that are written anew: their characters go behind those that were written anew before them, and the new texts
 //! name them there. The old texts stay.
-ghost use Rattle.std.specs.Prelude.{◌≡◌, ◌+◌, ◌<◌, ◌≤◌, ◌^◌, ◌++◌, length, IfOk, OnOk};
-ghost use Rattle.std.specs.List.Sorted.{IsStrictlySortedBy};
+ghost use Rattle.std.specs.Prelude.{◌≡◌, ◌+◌, ◌<◌, ◌≤◌, ◌^◌, length};
 ghost use Rattle.piece_ring.specs.Flat.{characters_of};
-ghost use Rattle.desktop_laws.specs.TableLaws.{kept_lengths};
-ghost use Rattle.desktop_laws.specs.Rewriting.{laid, laid_table, flats, bytes_in};
-ghost use Rattle.desk_core.specs.Words.{FailsAs, OnlyReads, flat, bytes, nat_cmp, keys_of, IsStop};
-ghost use Rattle.desk_commands.specs.Words.{name_cmp, AllWithin};
-ghost use Rattle.desk_commands.specs.Rewriting.{CanPut};
+ghost use Rattle.desk_core.specs.Words.{flat, bytes, nat_cmp};
+ghost use Rattle.desk_commands.specs.Words.{name_cmp};
+ghost use Rattle.desk_commands.specs.Rewriting.{CanPut, CanPutAll, Adds, Rewrites, RewritesAll};
 
 use char_file::CharSource;
 use desk_core::files::Files;
@@ -36,11 +33,8 @@ fn pieces_in(buffer: &Buffer) -> Cursor<'_>
 fn put_piece<S: CharSource>(piece: Piece, made: &mut Vec<u8>, source: &mut S) -> Result<(), Stop>
     requires offsets { piece.off + piece.len < 2 ^ 32 }
     requires inside { piece.off + piece.len ≤ length (S.characters source.old) }
-    ensures read { OnOk result (S.honest source.old
-        → made.new.items ≡ made.old.items ++ bytes (S.characters source.old) (characters_of piece)) }
-    ensures longer { OnOk result (length made.new.items ≡ length made.old.items + piece.len) }
-    ensures reads { OnlyReads S.characters S.failures S.honest S.same_ground source.old source.new }
-    ensures faults { FailsAs Stop.Fault IsStop result (S.failures source.old) (S.failures source.new) }
+    ensures { Adds S.CharSource (bytes (S.characters source.old) (characters_of piece)) piece.len result
+        source.old source.new made.old.items made.new.items }
 {
     for i in 0..piece.len {
         let byte = source.char_at(piece.off + i)?;
@@ -58,12 +52,7 @@ fn put_pieces<S: CharSource>(
     source: &mut S,
 ) -> Result<Buffer, Stop>
     requires { CanPut (length (S.characters source.old)) (flat left.left) made.old.items }
-    ensures laid { IfOk result (λ buffer. flat buffer ≡ laid (length made.old.items) (flat left.entry.left)) }
-    ensures read { OnOk result (S.honest source.old
-        → made.new.items ≡ made.old.items ++ bytes (S.characters source.old) (flat left.entry.left)) }
-    ensures longer { OnOk result (length made.new.items ≡ length made.old.items + length (flat left.entry.left)) }
-    ensures reads { OnlyReads S.characters S.failures S.honest S.same_ground source.old source.new }
-    ensures faults { FailsAs Stop.Fault IsStop result (S.failures source.old) (S.failures source.new) }
+    ensures { Rewrites S.CharSource (flat left.entry.left) result source.old source.new made.old.items made.new.items }
 {
     let mut buffer = Buffer::new(alloc)?;
     while let Some(piece) = left.next_piece() {
@@ -88,12 +77,7 @@ pub fn put_buffer<S: CharSource>(
     source: &mut S,
 ) -> Result<Buffer, Stop>
     requires { CanPut (length (S.characters source.old)) (flat buffer.now) made.old.items }
-    ensures laid { IfOk result (λ new. flat new ≡ laid (length made.old.items) (flat buffer.now)) }
-    ensures read { OnOk result (S.honest source.old
-        → made.new.items ≡ made.old.items ++ bytes (S.characters source.old) (flat buffer.now)) }
-    ensures longer { OnOk result (length made.new.items ≡ length made.old.items + length (flat buffer.now)) }
-    ensures reads { OnlyReads S.characters S.failures S.honest S.same_ground source.old source.new }
-    ensures faults { FailsAs Stop.Fault IsStop result (S.failures source.old) (S.failures source.new) }
+    ensures { Rewrites S.CharSource (flat buffer.now) result source.old source.new made.old.items made.new.items }
 {
     put_pieces(alloc, pieces_in(buffer), made, source)
 }
@@ -106,12 +90,7 @@ fn put_text<S: CharSource>(
     source: &mut S,
 ) -> Result<Text, Stop>
     requires { CanPut (length (S.characters source.old)) (flat text.now) made.old.items }
-    ensures laid { IfOk result (λ new. flat new ≡ laid (length made.old.items) (flat text.now)) }
-    ensures read { OnOk result (S.honest source.old
-        → made.new.items ≡ made.old.items ++ bytes (S.characters source.old) (flat text.now)) }
-    ensures longer { OnOk result (length made.new.items ≡ length made.old.items + length (flat text.now)) }
-    ensures reads { OnlyReads S.characters S.failures S.honest S.same_ground source.old source.new }
-    ensures faults { FailsAs Stop.Fault IsStop result (S.failures source.old) (S.failures source.new) }
+    ensures { Rewrites S.CharSource (flat text.now) result source.old source.new made.old.items made.new.items }
 {
     let mut buffer = put_pieces(alloc, pieces_of(text), made, source)?;
     let mut new = Text::new(alloc)?;
@@ -126,16 +105,9 @@ pub fn put_texts<S: CharSource>(
     made: &mut Vec<u8>,
     source: &mut S,
 ) -> Result<BTreeMap<u16, Text>, Stop>
-    requires rising { IsStrictlySortedBy nat_cmp (keys_of texts.now.entries) }
-    requires inside { AllWithin (length (S.characters source.old)) texts.now.entries }
-    requires room { length made.old.items + kept_lengths texts.now.entries < 2 ^ 32 }
-    ensures laid { IfOk result (λ new. flats new.entries
-        ≡ laid_table (length made.old.items) (flats texts.now.entries)) }
-    ensures read { OnOk result (S.honest source.old
-        → made.new.items ≡ made.old.items ++ bytes_in (S.characters source.old) (flats texts.now.entries)) }
-    ensures longer { OnOk result (length made.new.items ≡ length made.old.items + kept_lengths texts.now.entries) }
-    ensures reads { OnlyReads S.characters S.failures S.honest S.same_ground source.old source.new }
-    ensures faults { FailsAs Stop.Fault IsStop result (S.failures source.old) (S.failures source.new) }
+    requires { CanPutAll nat_cmp (length (S.characters source.old)) texts.now.entries made.old.items }
+    ensures { RewritesAll S.CharSource texts.now.entries (λ new. new.entries) result
+        source.old source.new made.old.items made.new.items }
 {
     let mut new = BTreeMap::new(alloc);
     for (number, text) in texts {
@@ -152,16 +124,9 @@ pub fn put_files<S: CharSource>(
     made: &mut Vec<u8>,
     source: &mut S,
 ) -> Result<Files, Stop>
-    requires rising { IsStrictlySortedBy name_cmp (keys_of files.now.entries) }
-    requires inside { AllWithin (length (S.characters source.old)) files.now.entries }
-    requires room { length made.old.items + kept_lengths files.now.entries < 2 ^ 32 }
-    ensures laid { IfOk result (λ new. flats new.entries
-        ≡ laid_table (length made.old.items) (flats files.now.entries)) }
-    ensures read { OnOk result (S.honest source.old
-        → made.new.items ≡ made.old.items ++ bytes_in (S.characters source.old) (flats files.now.entries)) }
-    ensures longer { OnOk result (length made.new.items ≡ length made.old.items + kept_lengths files.now.entries) }
-    ensures reads { OnlyReads S.characters S.failures S.honest S.same_ground source.old source.new }
-    ensures faults { FailsAs Stop.Fault IsStop result (S.failures source.old) (S.failures source.new) }
+    requires { CanPutAll name_cmp (length (S.characters source.old)) files.now.entries made.old.items }
+    ensures { RewritesAll S.CharSource files.now.entries (λ new. new.entries) result
+        source.old source.new made.old.items made.new.items }
 {
     let mut new = BTreeMap::new(alloc);
     for (name, text) in files {

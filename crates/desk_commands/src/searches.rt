@@ -2,8 +2,8 @@
 ghost use Rattle.std.specs.Prelude.{◌≡◌, ◌+◌, ◌<◌, ◌≤◌, length, take, slice_range, IfOk, IfSome, Ok, if◌then◌else◌};
 ghost use Rattle.desktop_definitions.specs.Effects.{found_at, pattern_after, searched};
 ghost use Rattle.desktop_laws.specs.SearchLaws.{start_in};
-ghost use Rattle.desk_core.specs.Words.{CountsFault, OnlyReads, flat, AreWithin, bytes, needs, seen, IsOver};
-ghost use Rattle.desk_core.specs.Words.{kept, Settles, Uses};
+ghost use Rattle.desk_core.specs.Words.{CountsFault, OnlyReads, flat, AreWithin, bytes, needs, IsOver};
+ghost use Rattle.desk_core.specs.Words.{kept, Does, TellsAs};
 ghost use Rattle.desk_commands.specs.Calls.{IsViewerOnTop};
 ghost use Rattle.desk_commands.specs.Words.{no_caret, most_pattern, put_at_caret};
 
@@ -95,11 +95,9 @@ fn copied(bytes: &[u8]) -> Pattern
 /// failed in this call.
 fn pattern_after<S: CharSource>(desk: &Desk, source: &mut S) -> Result<Pattern, Fault>
     requires over { IsOver (S.characters source.old) (kept desk.now) }
-    ensures exact { IfOk result (λ pattern. S.honest source.old
-        → pattern.items ≡ pattern_after (seen (S.characters source.old) (kept desk.now))) }
+    ensures told { TellsAs S.CharSource (λ pattern. pattern.items) result pattern_after
+        source.old source.new (kept desk.now) }
     ensures few { IfOk result (λ pattern. length pattern.items ≤ most_pattern) }
-    ensures reads { OnlyReads S.characters S.failures S.honest S.same_ground source.old source.new }
-    ensures cause { CountsFault result (S.failures source.old) (S.failures source.new) }
 {
     let Some(selection) = desk.newest() else {
         return Ok(copied(desk.pattern.as_slice()));
@@ -113,9 +111,8 @@ fn pattern_after<S: CharSource>(desk: &Desk, source: &mut S) -> Result<Pattern, 
 /// stays.
 pub fn search<S: CharSource>(desk: &mut Desk, id: u16, source: &mut S) -> StepResult
     requires { IsViewerOnTop (S.characters source.old) (kept desk.old) id }
-    ensures answered { IfOk result (Settles S.CharSource (λ d. searched d id)
-        source.old source.new (kept desk.old) (kept desk.new)) }
-    ensures uses { Uses S.CharSource result source.old source.new }
+    ensures { Does S.CharSource (λ d. searched d id) result
+        source.old source.new (kept desk.old) (kept desk.new) }
 {
     let pattern = pattern_after(desk, source)?;
     if pattern.is_empty() {
@@ -141,10 +138,8 @@ fn start_in(desk: &Desk, id: u16) -> u32
 /// What was deleted last is put in at the caret. Refused without a caret.
 pub fn recall_deleted<S: CharSource>(desk: &mut Desk, source: &mut S) -> StepResult
     requires over { IsOver (S.characters source.old) (kept desk.old) }
-    ensures answered { IfOk result (Settles S.CharSource
-        (λ d. needs d.caret no_caret λ c. Ok (put_at_caret d d.deleted c))
-        source.old source.new (kept desk.old) (kept desk.new)) }
-    ensures uses { Uses S.CharSource result source.old source.new }
+    ensures { Does S.CharSource (λ d. needs d.caret no_caret λ c. Ok (put_at_caret d d.deleted c)) result
+        source.old source.new (kept desk.old) (kept desk.new) }
 {
     desk.put_buffer(true, source)
 }

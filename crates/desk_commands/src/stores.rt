@@ -4,8 +4,8 @@ ghost use Rattle.command_table.specs.Deciding.{is_among, can_be_deleted};
 ghost use Rattle.desktop_laws.specs.StoreLaws.{can_go};
 ghost use Rattle.desktop_definitions.specs.Effects.{menu_name, stored, stored_as, without_file};
 ghost use Rattle.desk_commands.specs.Lines.{bytes_of_lines};
-ghost use Rattle.desk_core.specs.Words.{CountsFault, OnlyReads, most_held, unless, lengths, seen, seen_table};
-ghost use Rattle.desk_core.specs.Words.{IsOver, keys_of, kept, Settles, Uses};
+ghost use Rattle.desk_core.specs.Words.{most_held, unless, lengths, seen_table};
+ghost use Rattle.desk_core.specs.Words.{IsOver, keys_of, kept, Does, Tells};
 ghost use Rattle.desk_commands.specs.Calls.{IsViewerOnTop};
 ghost use Rattle.desk_commands.specs.Words.{files_deleted, deleting_line, too_many_files, has_room, main_of};
 
@@ -88,9 +88,8 @@ fn deleting_lines(alloc: Global, names: &[Name]) -> Result<Vec<LogLine>, NoMemor
 pub fn delete_files<S: CharSource>(desk: &mut Desk, names: &[Name], source: &mut S) -> StepResult
     requires few { length names.now ≤ 257 }
     requires over { IsOver (S.characters source.old) (kept desk.old) }
-    ensures answered { IfOk result (Settles S.CharSource (λ d. files_deleted d names.now)
-        source.old source.new (kept desk.old) (kept desk.new)) }
-    ensures uses { Uses S.CharSource result source.old source.new }
+    ensures { Does S.CharSource (λ d. files_deleted d names.now) result
+        source.old source.new (kept desk.old) (kept desk.new) }
 {
     if !can_be_deleted(&desk.files, names) {
         return Ok(Reply::No(codes::NO_FILE));
@@ -110,9 +109,8 @@ pub fn delete_files<S: CharSource>(desk: &mut Desk, names: &[Name], source: &mut
 /// where that symbol is no name, and where there is no room for one more file.
 pub fn store<S: CharSource>(desk: &mut Desk, id: u16, source: &mut S) -> StepResult
     requires { IsViewerOnTop (S.characters source.old) (kept desk.old) id }
-    ensures answered { IfOk result (Settles S.CharSource (λ d. stored d id)
-        source.old source.new (kept desk.old) (kept desk.new)) }
-    ensures uses { Uses S.CharSource result source.old source.new }
+    ensures { Does S.CharSource (λ d. stored d id) result
+        source.old source.new (kept desk.old) (kept desk.new) }
 {
     match menu_name(desk, id, source)? {
         Some(name) => store_as(desk, id, &name, source),
@@ -123,10 +121,7 @@ pub fn store<S: CharSource>(desk: &mut Desk, id: u16, source: &mut S) -> StepRes
 /// The first symbol of a viewer's menu. None where it is no name. Fault: the source failed in this call.
 fn menu_name<S: CharSource>(desk: &Desk, id: u16, source: &mut S) -> Result<Option<Name>, Fault>
     requires { IsViewerOnTop (S.characters source.old) (kept desk.now) id }
-    ensures exact { IfOk result (λ name. S.honest source.old
-        → name ≡ menu_name (seen (S.characters source.old) (kept desk.now)) id) }
-    ensures reads { OnlyReads S.characters S.failures S.honest S.same_ground source.old source.new }
-    ensures cause { CountsFault result (S.failures source.old) (S.failures source.new) }
+    ensures { Tells S.CharSource result (λ d. menu_name d id) source.old source.new (kept desk.now) }
 {
     let symbol = symbol_at(desk.text_called(id, true), 0, source)?;
     Ok(name_in(&symbol))
@@ -136,10 +131,9 @@ fn menu_name<S: CharSource>(desk: &Desk, id: u16, source: &mut S) -> Result<Opti
 /// one more file.
 fn store_as<S: CharSource>(desk: &mut Desk, id: u16, name: &Name, source: &mut S) -> StepResult
     requires { IsViewerOnTop (S.characters source.old) (kept desk.old) id }
-    ensures answered { IfOk result (Settles S.CharSource
-        (λ d. unless (has_room d.files name.now) too_many_files (Ok (stored_as d name.now (main_of d id))))
-        source.old source.new (kept desk.old) (kept desk.new)) }
-    ensures uses { Uses S.CharSource result source.old source.new }
+    ensures { Does S.CharSource
+        (λ d. unless (has_room d.files name.now) too_many_files (Ok (stored_as d name.now (main_of d id)))) result
+        source.old source.new (kept desk.old) (kept desk.new) }
 {
     if !has_room(&desk.files, name) {
         return Ok(Reply::No(codes::TOO_MANY_FILES));

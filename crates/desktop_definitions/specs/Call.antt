@@ -44,12 +44,18 @@ unfoldable pub value_of : Desktop → Call → Result Symbol ℕ
 value_of d call =
     value bytes_of (text_called d call.viewer call.in_menu) call.after (selection_place d) (menu_at_marker d)
 
--- the value, where it is a name, and where it is a number
+-- a value, where it is a name, and where it is a number
+abbrev pub as_name : Result Symbol ℕ → Result (List ℕ) ℕ
+as_name told = given told λ symbol. needs (name_in symbol) wrong_symbol λ name. Ok name
+
+abbrev pub as_number : Result Symbol ℕ → Result ℤ ℕ
+as_number told = given told λ symbol. needs (number_in symbol) wrong_symbol λ z. Ok z
+
 unfoldable pub name_of : Desktop → Call → Result (List ℕ) ℕ
-name_of d call = given (value_of d call) λ symbol. needs (name_in symbol) wrong_symbol λ name. Ok name
+name_of d call = as_name (value_of d call)
 
 unfoldable pub number_of : Desktop → Call → Result ℤ ℕ
-number_of d call = given (value_of d call) λ symbol. needs (number_in symbol) wrong_symbol λ z. Ok z
+number_of d call = as_number (value_of d call)
 
 -- the names of a list
 unfoldable pub names_of : Desktop → Call → Result (List (List ℕ)) ℕ

@@ -16,7 +16,7 @@ mod region;
 mod reply;
 mod viewer;
 
-pub use call::Call;
+pub use call::{Call, NameCommand, NumberCommand, ViewerCommand};
 pub use entry::{Entry, MenuName};
 pub use laws::constants_are_defined;
 pub use limits::{

@@ -96,7 +96,8 @@ use Rattle.desktop_definitions.specs.declared.reply.Reply.{Reply}
 use Rattle.desktop_definitions.specs.declared.reply.Reply.TheVariants.{Done, No}
 use Rattle.desktop_definitions.specs.Call.{text_called, seen_at_marker, meant, name_of, number_of as number_called}
 use Rattle.desktop_definitions.specs.Call.{names_of}
-use Rattle.desktop_definitions.specs.Commands.{command_at, commanded, called}
+use Rattle.desktop_definitions.specs.Commands.{command_at, commanded, called, done_with_name, done_with_number}
+use Rattle.desktop_definitions.specs.Commands.{done_with_viewer}
 use Rattle.desktop_definitions.specs.Step.{filed, fits, marked, settled, raw, step_in}
 use Rattle.desktop_definitions.specs.Sound.{IsShaped, IsSound, IsCaret, IsKeptPlace, times_there}
 use Rattle.desktop_laws.specs.LookedLaws.{look_at_looks, relooked_is_look, copied_looks, taken_looks, typed_looks}
@@ -465,7 +466,7 @@ module _ (d : Desktop) (shaped : IsShaped d) where
 
   commanded_shaped : (command : Command) (call : Call) → IsOnTop call.viewer d.columns
       → IfOk (commanded d command call) IsShaped
-  unfolding commanded
+  unfolding commanded done_with_name done_with_number done_with_viewer
   commanded_shaped EditOpen call placed =
       by_value IsShaped (name_of d call) (λ name. Ok (document_opened d name))
       (λ name is. document_opened_shaped d shaped name)

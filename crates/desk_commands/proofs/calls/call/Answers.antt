@@ -1,4 +1,4 @@
-use Rattle.std.proofs.Common.{◌∙◌, List, length, sym, ap, subst}
+use Rattle.std.proofs.Common.{rules, ◌∙◌, List, length, sym, ap, subst}
 use Rattle.std.specs.Prelude.{Some}
 use Rattle.piece_ring.specs.declared.piece.Piece.{Piece}
 use Rattle.piece_ring.specs.Flat.{flat}
@@ -15,7 +15,7 @@ use Rattle.desktop_definitions.specs.Seen.{seen}
 use Rattle.desktop_laws.specs.RowLaws.{known_no_command}
 use Rattle.desktop_laws.specs.CallLaws.{called_place, called_read}
 use Rattle.desk_core.specs.Kept.{kept}
-use Rattle.desk_commands.proofs.ReadFirst.{settles_after, refused_after}
+use Rattle.desk_commands.proofs.ReadFirst.{does_after, refused_after}
 use Rattle.desk_commands.proofs.CallLemmas.{called_by, called_none}
 use Rattle.desk_commands.proofs.calls.call.Goals as goal
 
@@ -27,35 +27,38 @@ called-requires g c =
     subst (λ (t : List Piece). IsPlace (length old) (flat t, c.args.pos)) (sym c.text_called.ensures)
     (called_place old d c.args.id c.args.in_menu c.args.pos c.requires.over c.requires.place)
 
-pub returns-in_default-clause-answered : goal.returns-in_default-clause-answered
-returns-in_default-clause-answered g c =
-    let s = g.S.CharSource in
-    let old = s.characters c.args.source.now in
-    let d = kept c.args.desk.now in
-    refused_after s (λ (x : Desktop). called (version_number c.args.version) x c.args.id c.args.in_menu c.args.pos)
-    no_command _ _ d
-    c.in_ok-found.ensures.reads c.requires.over known_no_command
-    (λ h. called_none (version_number c.args.version) (seen old d) c.args.id c.args.in_menu c.args.pos
-    c.in_ok-found.found
-    c.in_default.is
-    (c.in_ok-found.ensures.call h
-    ∙ ap (λ (t : List Piece). called_at (version_number c.args.version) (bytes old (flat t)) c.args.pos)
-    c.text_called.ensures
-    ∙ called_read (version_number c.args.version) old d c.args.id c.args.in_menu c.args.pos))
+pub returns-in_default : goal.returns-in_default
+returns-in_default g c = record {
+  answered =
+      let s = g.S.CharSource in
+      let old = s.characters c.args.source.now in
+      let d = kept c.args.desk.now in
+      refused_after s (λ (x : Desktop). called (version_number c.args.version) x c.args.id c.args.in_menu c.args.pos)
+      no_command _ _ d
+      c.in_ok-found.ensures.reads c.requires.over known_no_command
+      (λ h. called_none (version_number c.args.version) (seen old d) c.args.id c.args.in_menu c.args.pos
+      c.in_ok-found.found
+      c.in_default.is
+      (c.in_ok-found.ensures.call h
+      ∙ ap (λ (t : List Piece). called_at (version_number c.args.version) (bytes old (flat t)) c.args.pos)
+      c.text_called.ensures
+      ∙ called_read (version_number c.args.version) old d c.args.id c.args.in_menu c.args.pos));
+  uses = search (rules, g.met.S.CharSource.ground_self, g.met.S.CharSource.ground_through);
+}
 
-pub returns-clause-answered : goal.returns-clause-answered
+pub returns : goal.returns
 unfolding called
-returns-clause-answered g c =
+returns g c =
     let s = g.S.CharSource in
     let old = s.characters c.args.source.now in
     let d = kept c.args.desk.now in
-    settles_after s (called_by c.args.id c.args.in_menu)
+    does_after s g.met.S.CharSource.ground_through (called_by c.args.id c.args.in_menu)
     (λ (x : Desktop). command_at (version_number c.args.version) (bytes_of (text_called x c.args.id c.args.in_menu))
     c.args.pos)
     (Some (c.in-Some.command, c.in-Some.after)) _ _ c.do_command.new.source d (kept c.do_command.new.desk)
-    c.do_command.result c.in_ok-found.ensures.reads
+    c.do_command.result c.in_ok-found.ensures.reads c.in_ok-found.ensures.cause
     (λ h. sym c.in-Some.is ∙ c.in_ok-found.ensures.call h
     ∙ ap (λ (t : List Piece). called_at (version_number c.args.version) (bytes old (flat t)) c.args.pos)
     c.text_called.ensures
     ∙ called_read (version_number c.args.version) old d c.args.id c.args.in_menu c.args.pos)
-    c.do_command.ensures.answered
+    c.do_command.ensures

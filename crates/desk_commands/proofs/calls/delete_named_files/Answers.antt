@@ -1,5 +1,5 @@
 use Rattle.std.specs.Prelude.{ℕ, List, Result, Ok}
-use Rattle.std.proofs.Common.{sym, ap, ◌∙◌}
+use Rattle.std.proofs.Common.{rules, sym, ap, ◌∙◌}
 use Rattle.command_table.specs.Parameters.{listed, first_names}
 use Rattle.desktop_definitions.specs.Desktop.{Desktop}
 use Rattle.desktop_definitions.specs.Seen.{seen}
@@ -8,28 +8,32 @@ use Rattle.desktop_definitions.specs.Needs.{given}
 use Rattle.desktop_definitions.specs.Effects.{files_deleted}
 use Rattle.desktop_laws.specs.StoreLaws.{deleted_by_first}
 use Rattle.desk_core.specs.Kept.{kept}
-use Rattle.desk_commands.proofs.ReadFirst.{refused_after, settles_there}
+use Rattle.desk_commands.proofs.ReadFirst.{refused_after, does_there}
 use Rattle.desk_commands.proofs.calls.delete_named_files.Goals as goal
 
-pub returns-in-Ok-clause-answered : goal.returns-in-Ok-clause-answered
-returns-in-Ok-clause-answered g c =
-    let read = c.in_ok-names.ensures in
+pub returns-in-Ok : goal.returns-in-Ok
+returns-in-Ok g c =
+    let read = c.in_ok-names.ensures.told in
     let d = seen (g.S.CharSource.characters c.args.source.now) (kept c.args.desk.now) in
-    settles_there g.S.CharSource (λ (x : Desktop) (r : Result (List (List ℕ)) ℕ). given r (files_deleted x))
+    does_there g.S.CharSource g.met.S.CharSource.ground_through
+    (λ (x : Desktop) (r : Result (List (List ℕ)) ℕ). given r (files_deleted x))
     (λ (x : Desktop). first_names (names_of x c.args.call)) (Ok c.in-Ok.names.items)
     (λ (x : Desktop). given (names_of x c.args.call) (files_deleted x)) _ _ _
-    (kept c.args.desk.now) _ _ read.reads (λ h. sym (ap listed c.in-Ok.is) ∙ read.exact h)
+    (kept c.args.desk.now) _ _ read.reads read.cause (λ h. sym (ap listed c.in-Ok.is) ∙ read.exact h)
     (λ e. ap (λ (r : Result (List (List ℕ)) ℕ). given r (files_deleted d)) e
     ∙ deleted_by_first d (c.requires.over.whole.sound (g.S.CharSource.characters c.args.source.now)).shaped.files.few
-    (names_of d c.args.call)) (rw c.as_slice.ensures.value at c.delete_files.ensures.answered)
+    (names_of d c.args.call)) (rw c.as_slice.ensures.value at c.delete_files.ensures)
 
-pub returns-in-Err-clause-answered : goal.returns-in-Err-clause-answered
-returns-in-Err-clause-answered g c =
-    let read = c.in_ok-names.ensures in
-    let d = seen (g.S.CharSource.characters c.args.source.now) (kept c.args.desk.now) in
-    refused_after g.S.CharSource (λ (x : Desktop). given (names_of x c.args.call) (files_deleted x)) c.in-Err.code _ _
-    (kept c.args.desk.now) read.reads c.requires.over (rw c.in-Err.is at read.codes)
-    (λ h. sym (deleted_by_first d
-    (c.requires.over.whole.sound (g.S.CharSource.characters c.args.source.now)).shaped.files.few
-    (names_of d c.args.call))
-    ∙ ap (λ (r : Result (List (List ℕ)) ℕ). given r (files_deleted d)) (sym (read.exact h) ∙ ap listed c.in-Err.is))
+pub returns-in-Err : goal.returns-in-Err
+returns-in-Err g c = record {
+  answered =
+      let read = c.in_ok-names.ensures.told in
+      let d = seen (g.S.CharSource.characters c.args.source.now) (kept c.args.desk.now) in
+      refused_after g.S.CharSource (λ (x : Desktop). given (names_of x c.args.call) (files_deleted x)) c.in-Err.code _ _
+      (kept c.args.desk.now) read.reads c.requires.over (rw c.in-Err.is at c.in_ok-names.ensures.codes)
+      (λ h. sym (deleted_by_first d
+      (c.requires.over.whole.sound (g.S.CharSource.characters c.args.source.now)).shaped.files.few
+      (names_of d c.args.call))
+      ∙ ap (λ (r : Result (List (List ℕ)) ℕ). given r (files_deleted d)) (sym (read.exact h) ∙ ap listed c.in-Err.is));
+  uses = search (rules, g.met.S.CharSource.ground_self, g.met.S.CharSource.ground_through);
+}

@@ -9,14 +9,18 @@ use Rattle.desk_commands.proofs.CallLemmas.{call_place}
 use Rattle.desk_commands.proofs.calls.names_of.Goals as goal
 
 pub names-requires-clause-text : goal.names-requires-clause-text
-names-requires-clause-text g c = rw c.text_called-text.ensures (call_place c.requires.over c.requires.call)
+names-requires-clause-text g c = rw c.text_called-text.ensures (call_place c.requires)
 
 pub names-requires-clause-sel : goal.names-requires-clause-sel
 names-requires-clause-sel g c = rw c.selection_place.ensures (place_stands _ _ c.requires.over)
 
-pub returns-clause-exact : goal.returns-clause-exact
-returns-clause-exact g c =
-    IfOk-weaker c.names.result _ _ (λ r fact h. fact h
-    ∙ ap first_names ((λ k. names (bytes (g.S.CharSource.characters c.args.source.now))
-    (flat (c.text_called-text.ensures k)) c.args.call.after (c.selection_place.ensures k))
-    ∙ names_read _ (kept c.args.desk.now) c.args.call)) c.names.ensures.names
+pub returns-clause-told : goal.returns-clause-told
+returns-clause-told g c = record {
+  exact =
+      IfOk-weaker c.names.result _ _ (λ r fact h. fact h
+      ∙ ap first_names ((λ k. names (bytes (g.S.CharSource.characters c.args.source.now))
+      (flat (c.text_called-text.ensures k)) c.args.call.after (c.selection_place.ensures k))
+      ∙ names_read _ (kept c.args.desk.now) c.args.call)) c.names.ensures.names;
+  reads = c.names.ensures.reads;
+  cause = c.names.ensures.cause;
+}

@@ -9,7 +9,7 @@ use Rattle.desk_commands.proofs.CallLemmas.{call_place}
 use Rattle.desk_commands.proofs.calls.value_of.Goals as goal
 
 pub params-requires-clause-text : goal.params-requires-clause-text
-params-requires-clause-text g c = rw c.text_called-text.ensures (call_place c.requires.over c.requires.call)
+params-requires-clause-text g c = rw c.text_called-text.ensures (call_place c.requires)
 
 pub params-requires-clause-sel : goal.params-requires-clause-sel
 params-requires-clause-sel g c = rw c.selection_place.ensures (place_stands _ _ c.requires.over)
@@ -17,9 +17,13 @@ params-requires-clause-sel g c = rw c.selection_place.ensures (place_stands _ _ 
 pub params-requires-clause-menu : goal.params-requires-clause-menu
 params-requires-clause-menu g c = rw c.menu_at_marker.ensures (menu_stands _ _ c.requires.over)
 
-pub returns-clause-exact : goal.returns-clause-exact
-returns-clause-exact g c =
-    IfOk-weaker c.params.result _ _ (λ r fact h. fact h
-    ∙ (λ k. value (bytes (g.S.CharSource.characters c.args.source.now)) (flat (c.text_called-text.ensures k))
-    c.args.call.after (c.selection_place.ensures k) (c.menu_at_marker.ensures k))
-    ∙ value_read _ (kept c.args.desk.now) c.args.call) c.params.ensures.value
+pub returns-clause-told : goal.returns-clause-told
+returns-clause-told g c = record {
+  exact =
+      IfOk-weaker c.params.result _ _ (λ r fact h. fact h
+      ∙ (λ k. value (bytes (g.S.CharSource.characters c.args.source.now)) (flat (c.text_called-text.ensures k))
+      c.args.call.after (c.selection_place.ensures k) (c.menu_at_marker.ensures k))
+      ∙ value_read _ (kept c.args.desk.now) c.args.call) c.params.ensures.value;
+  reads = c.params.ensures.reads;
+  cause = c.params.ensures.cause;
+}

@@ -1,4 +1,4 @@
-use Rattle.std.proofs.Common.{◌==◌, Some, subst, ◌∙◌}
+use Rattle.std.proofs.Common.{rules, ◌==◌, Some, subst, ◌∙◌}
 use Rattle.desktop_definitions.specs.Opening.{dropped}
 use Rattle.desktop_definitions.specs.Viewers.{unmarked, without_viewer}
 use Rattle.desktop_definitions.specs.Sound.{IsKeptPlace}
@@ -7,18 +7,21 @@ use Rattle.desktop_laws.specs.ClosingLaws.{closed_answered}
 use Rattle.desk_core.specs.Kept.{kept}
 use Rattle.desk_commands.proofs.closings.close_viewer.Goals as goal
 
-pub returns-clause-answered : goal.returns-clause-answered
-returns-clause-answered g c =
-    let d = kept c.args.desk.now in
-    let v = c.args.id in
-    let hold = over_columns _ d c.requires.over in
-    closed_answered _ _ d c.requires.over v c.requires.placed
-    (c.edits_keep_columns.ensures.closed d.columns v hold c.requires.placed)
-    (λ w. c.edits_place_viewers.ensures.closed d.columns v w hold c.requires.placed)
-    (subst IsKeptPlace c.place_kept.ensures.value c.place_kept.ensures.place)
-    (kept c.let_go.new.self)
-    (c.let_go.ensures ∙ (λ k. dropped (without_viewer
-    ((c.unmark_viewer.ensures ∙ (λ i. unmarked (λ w. w == v) (record d {
-      columns = c.close.ensures.closed i;
-      kept = Some (c.place_kept.ensures.value i);
-    }))) k) (c.viewer_kept-gone.ensures k))))
+pub returns : goal.returns
+returns g c = record {
+  answered =
+      let d = kept c.args.desk.now in
+      let v = c.args.id in
+      let hold = over_columns _ d c.requires.over in
+      closed_answered _ _ d c.requires.over v c.requires.placed
+      (c.edits_keep_columns.ensures.closed d.columns v hold c.requires.placed)
+      (λ w. c.edits_place_viewers.ensures.closed d.columns v w hold c.requires.placed)
+      (subst IsKeptPlace c.place_kept.ensures.value c.place_kept.ensures.place)
+      (kept c.let_go.new.self)
+      (c.let_go.ensures ∙ (λ k. dropped (without_viewer
+      ((c.unmark_viewer.ensures ∙ (λ i. unmarked (λ w. w == v) (record d {
+        columns = c.close.ensures.closed i;
+        kept = Some (c.place_kept.ensures.value i);
+      }))) k) (c.viewer_kept-gone.ensures k))));
+  uses = search (rules, g.met.S.CharSource.ground_self, g.met.S.CharSource.ground_through);
+}

@@ -1,4 +1,4 @@
-use Rattle.std.proofs.Common.{ℕ, None, ◌∙◌, ap}
+use Rattle.std.proofs.Common.{rules, ℕ, None, ◌∙◌, ap}
 use Rattle.viewer_tracks.specs.Display.{left_of}
 use Rattle.desktop_definitions.specs.Opening.{dropped}
 use Rattle.desktop_definitions.specs.Viewers.{opened_at}
@@ -8,25 +8,31 @@ use Rattle.desktop_laws.specs.ClosingLaws.{kept_fresh, none_kept_answered, recal
 use Rattle.desk_core.specs.Kept.{kept}
 use Rattle.desk_commands.proofs.closings.recall_viewer.Goals as goal
 
-pub returns-in_default-clause-answered : goal.returns-in_default-clause-answered
-returns-in_default-clause-answered g c =
-    none_kept_answered _ _ (kept c.args.desk.now) c.requires.over c.in_default.is
+pub returns-in_default : goal.returns-in_default
+returns-in_default g c = record {
+  answered =
+      none_kept_answered _ _ (kept c.args.desk.now) c.requires.over c.in_default.is;
+  uses = search (rules, g.met.S.CharSource.ground_self, g.met.S.CharSource.ground_through);
+}
 
 pub open_at-requires-clause-fresh : goal.open_at-requires-clause-fresh
 open_at-requires-clause-fresh g c =
     kept_fresh (g.S.CharSource.characters c.args.source.now) (kept c.args.desk.now) c.in-Some.viewer
     c.requires.over c.in-Some.is
 
-pub returns-clause-answered : goal.returns-clause-answered
+pub returns : goal.returns
 unfolding brought_back
-returns-clause-answered g c =
-    let d = kept c.args.desk.now in
-    let k = c.in-Some.viewer in
-    let hold = over_columns _ d c.requires.over in
-    recalled_answered _ _ d c.requires.over k c.in-Some.is
-    (c.edits_keep_columns.ensures.opened d.columns k.viewer (left_of k.track) k.top hold
-    (kept_fresh _ d k c.requires.over c.in-Some.is))
-    (λ w. c.edits_place_viewers.ensures.opened d.columns k.viewer (left_of k.track) k.top w hold)
-    (kept c.open_at.new.self)
-    (c.open_at.ensures
-    ∙ ap (λ (x : ℕ). dropped (opened_at (record d { kept = None }) k.viewer (x, k.top))) c.left.ensures)
+returns g c = record {
+  answered =
+      let d = kept c.args.desk.now in
+      let k = c.in-Some.viewer in
+      let hold = over_columns _ d c.requires.over in
+      recalled_answered _ _ d c.requires.over k c.in-Some.is
+      (c.edits_keep_columns.ensures.opened d.columns k.viewer (left_of k.track) k.top hold
+      (kept_fresh _ d k c.requires.over c.in-Some.is))
+      (λ w. c.edits_place_viewers.ensures.opened d.columns k.viewer (left_of k.track) k.top w hold)
+      (kept c.open_at.new.self)
+      (c.open_at.ensures
+      ∙ ap (λ (x : ℕ). dropped (opened_at (record d { kept = None }) k.viewer (x, k.top))) c.left.ensures);
+  uses = search (rules, g.met.S.CharSource.ground_self, g.met.S.CharSource.ground_through);
+}

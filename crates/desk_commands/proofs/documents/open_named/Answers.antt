@@ -1,5 +1,5 @@
 use Rattle.std.specs.Prelude.{⊤}
-use Rattle.std.proofs.Common.{◌≡◌, ℕ, List, Ok, false, sym, ap, subst, ◌∙◌}
+use Rattle.std.proofs.Common.{rules, ◌≡◌, ℕ, List, Ok, false, sym, ap, subst, ◌∙◌}
 use Rattle.std.proofs.lemmas.Result.{IfOk-weaker}
 use Rattle.piece_ring.specs.Offsets.{AreWithin}
 use Rattle.desktop_definitions.specs.Change.{more_written}
@@ -16,18 +16,33 @@ use Rattle.desktop_definitions.specs.Looks.{AreLooks}
 use Rattle.desktop_laws.specs.OpeningOnLaws.{file_looks}
 use Rattle.desk_commands.proofs.documents.open_named.Goals as goal
 
-pub returns-then-not-opening_fits-clause-answered : goal.returns-then-not-opening_fits-clause-answered
-returns-then-not-opening_fits-clause-answered g c =
-    let old = g.S.CharSource.characters c.args.source.now in
-    let d = kept c.args.desk.now in
-    let line = c.menu_line-menu.ensures ∙ ap menu_line c.as_bytes.ensures.value in
-    let long = c.len.ensures.value in
-    copy_full old d c.args.name.now c.menu_line-menu.result.items line (c.args.x, c.args.y) _ c.requires.over
-    (λ characters menu main menu_long main_long.
-    subst (λ (n : ℕ). fits (dropped (more_written (opening (seen characters d) menu main (c.args.x, c.args.y)) n))
-    ≡ false) long
-    (sym (c.opening_fits.ensures.fits characters menu main (menu_long ∙ sym long)
-    (main_long ∙ sym c.file_len-len.ensures)) ∙ c.if-not-opening_fits.true))
+pub returns-then-not-opening_fits : goal.returns-then-not-opening_fits
+returns-then-not-opening_fits g c = record {
+  answered =
+      let old = g.S.CharSource.characters c.args.source.now in
+      let d = kept c.args.desk.now in
+      let line = c.menu_line-menu.ensures ∙ ap menu_line c.as_bytes.ensures.value in
+      let long = c.len.ensures.value in
+      copy_full old d c.args.name.now c.menu_line-menu.result.items line (c.args.x, c.args.y) _ c.requires.over
+      (λ characters menu main menu_long main_long.
+      subst (λ (n : ℕ). fits (dropped (more_written (opening (seen characters d) menu main (c.args.x, c.args.y)) n))
+      ≡ false) long
+      (sym (c.opening_fits.ensures.fits characters menu main (menu_long ∙ sym long)
+      (main_long ∙ sym c.file_len-len.ensures)) ∙ c.if-not-opening_fits.true));
+  unread =
+      λ all long.
+      let d = kept c.args.desk.now in
+      let line = c.menu_line-menu.ensures ∙ ap menu_line c.as_bytes.ensures.value in
+      let sized = c.len.ensures.value in
+      (copy_full all d c.args.name.now c.menu_line-menu.result.items line (c.args.x, c.args.y) ⊤
+      (over_all c.requires.over all long)
+      (λ characters menu main menu_long main_long.
+      subst (λ (n : ℕ). fits (dropped (more_written (opening (seen characters d) menu main (c.args.x, c.args.y)) n))
+      ≡ false) sized
+      (sym (c.opening_fits.ensures.fits characters menu main (menu_long ∙ sym sized)
+      (main_long ∙ sym c.file_len-len.ensures)) ∙ c.if-not-opening_fits.true))).exact tt;
+  uses = search (rules, g.met.S.CharSource.ground_self, g.met.S.CharSource.ground_through);
+}
 
 pub open_viewer-requires-clause-within : goal.open_viewer-requires-clause-within
 open_viewer-requires-clause-within g c =
@@ -39,36 +54,24 @@ open_viewer-requires-clause-looks g c =
     let d = kept c.args.desk.now in
     subst AreLooks (sym c.in_ok-main.ensures) (file_looks d c.args.name.now c.requires.over.whole)
 
-pub returns-clause-answered : goal.returns-clause-answered
-returns-clause-answered g c =
-    let old = g.S.CharSource.characters c.args.source.now in
-    let d = kept c.args.desk.now in
-    let line = c.as_slice.ensures.value ∙ c.menu_line-menu.ensures ∙ ap menu_line c.as_bytes.ensures.value in
-    IfOk-weaker c.open_viewer.result _ _ (λ reply answered. row_as (seen old d) _ answered
-    (λ k. Ok (copy_row old d c.args.name.now c.as_slice.result.now line (c.args.x, c.args.y) c.in_ok-main.main
-    c.in_ok-main.ensures k)))
-    c.open_viewer.ensures.answered
-
-pub returns-then-not-opening_fits-clause-unread : goal.returns-then-not-opening_fits-clause-unread
-returns-then-not-opening_fits-clause-unread g c = λ all long.
-    let d = kept c.args.desk.now in
-    let line = c.menu_line-menu.ensures ∙ ap menu_line c.as_bytes.ensures.value in
-    let sized = c.len.ensures.value in
-    (copy_full all d c.args.name.now c.menu_line-menu.result.items line (c.args.x, c.args.y) ⊤
-    (over_all c.requires.over all long)
-    (λ characters menu main menu_long main_long.
-    subst (λ (n : ℕ). fits (dropped (more_written (opening (seen characters d) menu main (c.args.x, c.args.y)) n))
-    ≡ false) sized
-    (sym (c.opening_fits.ensures.fits characters menu main (menu_long ∙ sym sized)
-    (main_long ∙ sym c.file_len-len.ensures)) ∙ c.if-not-opening_fits.true))).exact tt
-
-pub returns-clause-unread : goal.returns-clause-unread
-returns-clause-unread g c =
-    let d = kept c.args.desk.now in
-    let after = kept c.open_viewer.new.desk in
-    let line = c.as_slice.ensures.value ∙ c.menu_line-menu.ensures ∙ ap menu_line c.as_bytes.ensures.value in
-    IfOk-weaker c.open_viewer.result _ _ (λ reply is all long.
-    ap (λ (bytes : List ℕ). (seen (grown all bytes reply) after, reply)) (sym line) ∙ is all long
-    ∙ (λ k. settled (seen all d) (Ok (sym (copy_row all d c.args.name.now c.as_slice.result.now line
-    (c.args.x, c.args.y) c.in_ok-main.main c.in_ok-main.ensures) k))))
-    c.open_viewer.ensures.unread
+pub returns : goal.returns
+returns g c = record {
+  answered =
+      let old = g.S.CharSource.characters c.args.source.now in
+      let d = kept c.args.desk.now in
+      let line = c.as_slice.ensures.value ∙ c.menu_line-menu.ensures ∙ ap menu_line c.as_bytes.ensures.value in
+      IfOk-weaker c.open_viewer.result _ _ (λ reply answered. row_as (seen old d) _ answered
+      (λ k. Ok (copy_row old d c.args.name.now c.as_slice.result.now line (c.args.x, c.args.y) c.in_ok-main.main
+      c.in_ok-main.ensures k)))
+      c.open_viewer.ensures.answered;
+  unread =
+      let d = kept c.args.desk.now in
+      let after = kept c.open_viewer.new.desk in
+      let line = c.as_slice.ensures.value ∙ c.menu_line-menu.ensures ∙ ap menu_line c.as_bytes.ensures.value in
+      IfOk-weaker c.open_viewer.result _ _ (λ reply is all long.
+      ap (λ (bytes : List ℕ). (seen (grown all bytes reply) after, reply)) (sym line) ∙ is all long
+      ∙ (λ k. settled (seen all d) (Ok (sym (copy_row all d c.args.name.now c.as_slice.result.now line
+      (c.args.x, c.args.y) c.in_ok-main.main c.in_ok-main.ensures) k))))
+      c.open_viewer.ensures.unread;
+  uses = search (rules, g.met.S.CharSource.ground_self, g.met.S.CharSource.ground_through);
+}

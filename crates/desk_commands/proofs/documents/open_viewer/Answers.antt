@@ -1,5 +1,5 @@
 use Rattle.std.specs.Prelude.{⊤}
-use Rattle.std.proofs.Common.{◌≡◌, ◌+◌, ◌++◌, ℕ, refl, ap, ◌∙◌, arith}
+use Rattle.std.proofs.Common.{rules, ◌≡◌, ◌+◌, ◌++◌, ℕ, refl, ap, ◌∙◌, arith}
 use Rattle.desktop_definitions.specs.Desktop.{KeptDesktop}
 use Rattle.desktop_definitions.specs.Opening.{new_id}
 use Rattle.desktop_laws.specs.OpeningDone.{new_fresh, can_open, can_open_more, opened_desk, written_opened}
@@ -28,30 +28,32 @@ overflow_add-desk g c =
     = ap (λ (x : KeptDesktop). x.written) opened ∙ written_opened d c.in_ok-text.text c.args.main cell in
     omega (arith, written, c.requires.room)
 
-pub returns-clause-answered : goal.returns-clause-answered
-returns-clause-answered g c =
-    let d = kept c.args.desk.now in
-    let cell : ℕ × ℕ = (c.args.x, c.args.y) in
-    let hold = whole_columns d c.requires.over.whole in
-    answered_there (opened_counted d (kept c.open_on.new.desk) _ _ c.in_ok-text.text c.args.main cell _
-    c.in_ok-number.ensures.texts c.in_ok-number.ensures.number c.in_ok-open_on.ensures)
-    (opening_answered _ _ c.args.menu.now _ d _ cell c.requires.over c.in_ok-append.ensures.added c.in_ok-text.ensures
-    (record {
-      hold = c.edits_keep_columns.ensures.opened d.columns (new_id d) c.args.x c.args.y hold
-          (new_fresh d c.requires.over.whole);
-      places = λ w. c.edits_place_viewers.ensures.opened d.columns (new_id d) c.args.x c.args.y w hold;
-    }) c.args.main c.requires.within c.requires.looks c.requires.fits)
-
-pub returns-clause-unread : goal.returns-clause-unread
-returns-clause-unread g c = λ all long.
-    let d = kept c.args.desk.now in
-    let cell : ℕ × ℕ = (c.args.x, c.args.y) in
-    let hold = whole_columns d c.requires.over.whole in
-    (answered_there (opened_counted d (kept c.open_on.new.desk) _ _ c.in_ok-text.text c.args.main cell _
-    c.in_ok-number.ensures.texts c.in_ok-number.ensures.number c.in_ok-open_on.ensures)
-    (opening_answered ⊤ all c.args.menu.now (all ++ c.args.menu.now) d _ cell (over_all c.requires.over all long) refl
-    c.in_ok-text.ensures (record {
-      hold = c.edits_keep_columns.ensures.opened d.columns (new_id d) c.args.x c.args.y hold
-          (new_fresh d c.requires.over.whole);
-      places = λ w. c.edits_place_viewers.ensures.opened d.columns (new_id d) c.args.x c.args.y w hold;
-    }) c.args.main c.requires.within c.requires.looks c.requires.fits)).exact tt
+pub returns : goal.returns
+returns g c = record {
+  answered =
+      let d = kept c.args.desk.now in
+      let cell : ℕ × ℕ = (c.args.x, c.args.y) in
+      let hold = whole_columns d c.requires.over.whole in
+      answered_there (opened_counted d (kept c.open_on.new.desk) _ _ c.in_ok-text.text c.args.main cell _
+      c.in_ok-number.ensures.texts c.in_ok-number.ensures.number c.in_ok-open_on.ensures)
+      (opening_answered _ _ c.args.menu.now _ d _ cell c.requires.over c.in_ok-append.ensures.added c.in_ok-text.ensures
+      (record {
+        hold = c.edits_keep_columns.ensures.opened d.columns (new_id d) c.args.x c.args.y hold
+            (new_fresh d c.requires.over.whole);
+        places = λ w. c.edits_place_viewers.ensures.opened d.columns (new_id d) c.args.x c.args.y w hold;
+      }) c.args.main c.requires.within c.requires.looks c.requires.fits);
+  unread =
+      λ all long.
+      let d = kept c.args.desk.now in
+      let cell : ℕ × ℕ = (c.args.x, c.args.y) in
+      let hold = whole_columns d c.requires.over.whole in
+      (answered_there (opened_counted d (kept c.open_on.new.desk) _ _ c.in_ok-text.text c.args.main cell _
+      c.in_ok-number.ensures.texts c.in_ok-number.ensures.number c.in_ok-open_on.ensures)
+      (opening_answered ⊤ all c.args.menu.now (all ++ c.args.menu.now) d _ cell (over_all c.requires.over all long) refl
+      c.in_ok-text.ensures (record {
+        hold = c.edits_keep_columns.ensures.opened d.columns (new_id d) c.args.x c.args.y hold
+            (new_fresh d c.requires.over.whole);
+        places = λ w. c.edits_place_viewers.ensures.opened d.columns (new_id d) c.args.x c.args.y w hold;
+      }) c.args.main c.requires.within c.requires.looks c.requires.fits)).exact tt;
+  uses = search (rules, g.met.S.CharSource.ground_self, g.met.S.CharSource.ground_through);
+}

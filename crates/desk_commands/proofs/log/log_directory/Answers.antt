@@ -1,4 +1,4 @@
-use Rattle.std.proofs.Common.{◌∙◌, List, [], ℕ, refl, length, ap, sym, arith}
+use Rattle.std.proofs.Common.{rules, ◌∙◌, List, [], ℕ, refl, length, ap, sym, arith}
 use Rattle.std.proofs.lemmas.List.{length-map}
 use Rattle.arrayvec.specs.ArrayVec.{ArrayVec}
 use Rattle.desktop_definitions.specs.Seen.{seen}
@@ -18,29 +18,39 @@ total-count-requires g c =
     let same = ap length c.as_slice-lines.ensures.value in
     omega (arith, few, long, same)
 
-pub returns-then-not-fits_more-clause-answered : goal.returns-then-not-fits_more-clause-answered
-returns-then-not-fits_more-clause-answered g c =
-    let old = g.S.CharSource.characters c.args.source.now in
-    directory_full _ old (kept c.args.desk.now) c.requires.over
-    (bytes_of_lines c.as_slice-lines.result.now) c.total-count.result
-    (ap bytes_of_lines c.as_slice-lines.ensures.value ∙ c.in_ok-made.ensures old)
-    (c.total-count.ensures.value ∙ sym (line_bytes_map (λ (l : ArrayVec ℕ). l.items) c.as_slice-lines.result.now))
-    (sym (c.fits_more.ensures old) ∙ c.if-not-fits_more.true)
+pub returns-then-not-fits_more : goal.returns-then-not-fits_more
+returns-then-not-fits_more g c = record {
+  answered =
+      let old = g.S.CharSource.characters c.args.source.now in
+      directory_full _ old (kept c.args.desk.now) c.requires.over
+      (bytes_of_lines c.as_slice-lines.result.now) c.total-count.result
+      (ap bytes_of_lines c.as_slice-lines.ensures.value ∙ c.in_ok-made.ensures old)
+      (c.total-count.ensures.value ∙ sym (line_bytes_map (λ (l : ArrayVec ℕ). l.items) c.as_slice-lines.result.now))
+      (sym (c.fits_more.ensures old) ∙ c.if-not-fits_more.true);
+  uses = search (rules, g.met.S.CharSource.ground_self, g.met.S.CharSource.ground_through);
+}
 
-pub log_lines-requires-clause-room : goal.log_lines-requires-clause-room
+pub log_lines-requires : goal.log_lines-requires
 unfolding seen
-log_lines-requires-clause-room g c =
-    let low = space_written (seen [] (kept c.args.desk.now)) c.total-count.result c.total-count.result 0
-    (sym (c.fits_more.ensures []) ∙ c.if-not-fits_more.false) in
-    omega (arith, low, c.total-count.ensures.value)
+log_lines-requires g c = record {
+  stands = search rules;
+  room =
+      let low = space_written (seen [] (kept c.args.desk.now)) c.total-count.result c.total-count.result 0
+      (sym (c.fits_more.ensures []) ∙ c.if-not-fits_more.false) in
+      omega (arith, low, c.total-count.ensures.value);
+  short = search rules;
+}
 
-pub returns-clause-answered : goal.returns-clause-answered
-returns-clause-answered g c =
-    let d = kept c.args.desk.now in
-    let lines = c.as_slice-lines.result.now in
-    directory_answered _ _ d c.requires.over (bytes_of_lines lines) (total lines)
-    (ap bytes_of_lines c.as_slice-lines.ensures.value ∙ c.in_ok-made.ensures _)
-    (sym (line_bytes_map (λ (l : ArrayVec ℕ). l.items) lines)) _ (kept c.log_lines.new.desk)
-    c.in_ok-log_lines.ensures.logged
-    (λ all. ap (λ n. has_space (seen all d) n n 0) (sym c.total-count.ensures.value) ∙ sym (c.fits_more.ensures all)
-    ∙ c.if-not-fits_more.false)
+pub returns : goal.returns
+returns g c = record {
+  answered =
+      let d = kept c.args.desk.now in
+      let lines = c.as_slice-lines.result.now in
+      directory_answered _ _ d c.requires.over (bytes_of_lines lines) (total lines)
+      (ap bytes_of_lines c.as_slice-lines.ensures.value ∙ c.in_ok-made.ensures _)
+      (sym (line_bytes_map (λ (l : ArrayVec ℕ). l.items) lines)) _ (kept c.log_lines.new.desk)
+      c.in_ok-log_lines.ensures.logged
+      (λ all. ap (λ n. has_space (seen all d) n n 0) (sym c.total-count.ensures.value) ∙ sym (c.fits_more.ensures all)
+      ∙ c.if-not-fits_more.false);
+  uses = search (rules, g.met.S.CharSource.ground_self, g.met.S.CharSource.ground_through);
+}

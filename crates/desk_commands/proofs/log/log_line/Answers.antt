@@ -1,4 +1,4 @@
-use Rattle.std.proofs.Common.{◌≡◌, ◌+◌, ◌∙◌, length, ap, sym, subst, length-append, arith}
+use Rattle.std.proofs.Common.{rules, ◌≡◌, ◌+◌, ◌∙◌, length, ap, sym, subst, length-append, arith}
 use Rattle.piece_ring.specs.Look.{default_look}
 use Rattle.piece_ring.specs.Flat.{flat}
 use Rattle.piece_ring.specs.Lengths.{length-run}
@@ -49,15 +49,18 @@ insert-requires-clause-looks g c =
     subst AreLooks (sym c.in_ok-buffer.ensures)
     (run_looks c.args.desk.now.written (length c.args.line.now) default_look default_is_look)
 
-pub returns-clause-logged : goal.returns-clause-logged
-returns-clause-logged g c =
-    let s = g.S.CharSource in
-    let reads = c.in_ok-insert.ensures.reads in
-    let again = c.in_ok-show_log_end.ensures.reads in
-    let premise = c.in_ok-append.ensures.keeps.premise in
-    line_logged (s.characters c.args.source.now) c.args.line.now (s.characters c.append.new.self)
-    (s.characters c.insert.new.source) (kept c.args.desk.now) (kept c.insert.new.self) c.log_len-end.result
-    c.in_ok-buffer.buffer c.requires.stands c.in_ok-append.ensures.added (λ h. premise.1 h) reads.as_long
-    (λ h. reads.same (premise.1 h)) c.in_ok-buffer.ensures c.log_len-end.ensures c.in_ok-insert.ensures.changed
-    (s.characters c.show_log_end.new.source) (kept c.show_log_end.new.desk) (λ h. reads.still (premise.1 h))
-    again.as_long (λ h. again.same (reads.still (premise.1 h))) c.in_ok-show_log_end.ensures.changed
+pub returns : goal.returns
+returns g c = record {
+  logged =
+      let s = g.S.CharSource in
+      let reads = c.in_ok-insert.ensures.reads in
+      let again = c.in_ok-show_log_end.ensures.reads in
+      let premise = c.in_ok-append.ensures.keeps.premise in
+      line_logged (s.characters c.args.source.now) c.args.line.now (s.characters c.append.new.self)
+      (s.characters c.insert.new.source) (kept c.args.desk.now) (kept c.insert.new.self) c.log_len-end.result
+      c.in_ok-buffer.buffer c.requires.stands c.in_ok-append.ensures.added (λ h. premise.1 h) reads.as_long
+      (λ h. reads.same (premise.1 h)) c.in_ok-buffer.ensures c.log_len-end.ensures c.in_ok-insert.ensures.changed
+      (s.characters c.show_log_end.new.source) (kept c.show_log_end.new.desk) (λ h. reads.still (premise.1 h))
+      again.as_long (λ h. again.same (reads.still (premise.1 h))) c.in_ok-show_log_end.ensures.changed;
+  uses = search (rules, g.met.S.CharSource.ground_self, g.met.S.CharSource.ground_through);
+}

@@ -1,4 +1,4 @@
-use Rattle.std.proofs.Common.{◌+◌, ◌∙◌, List, ℕ, length, Some, Ok, arith, ap, sym, subst}
+use Rattle.std.proofs.Common.{rules, ◌+◌, ◌∙◌, List, ℕ, length, Some, Ok, arith, ap, sym, subst}
 use Rattle.std.proofs.lemmas.Option.{slice_get-get_or}
 use Rattle.desktop_definitions.specs.Log.{logged}
 use Rattle.desktop_definitions.specs.Changed.{IsExtended}
@@ -26,9 +26,12 @@ loop-line-preserved g c =
           (Ok c.in_ok-log_line.field-0) (λ wrong. absurd cc) i.grown c.in_ok-log_line.ensures.uses;
     }
 
-pub returns-clause-logged : goal.returns-clause-logged
-returns-clause-logged g c =
-    let s = g.S.CharSource in
-    logging_whole (s.characters c.args.source.now) (s.characters c.loop-line.source) (kept c.args.desk.now)
-    (kept c.loop-line.desk) (λ l. l.items) c.args.lines.now c.loop-line.line-index
-    (let past = c.loop-line-test.false in omega (arith, past)) c.loop-line.invariant.logging
+pub returns : goal.returns
+returns g c = record {
+  logged =
+      let s = g.S.CharSource in
+      logging_whole (s.characters c.args.source.now) (s.characters c.loop-line.source) (kept c.args.desk.now)
+      (kept c.loop-line.desk) (λ l. l.items) c.args.lines.now c.loop-line.line-index
+      (let past = c.loop-line-test.false in omega (arith, past)) c.loop-line.invariant.logging;
+  uses = search (rules, g.met.S.CharSource.ground_self, g.met.S.CharSource.ground_through);
+}

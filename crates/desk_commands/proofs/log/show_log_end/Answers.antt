@@ -1,4 +1,4 @@
-use Rattle.std.proofs.Common.{arith, ◌∙◌}
+use Rattle.std.proofs.Common.{rules, arith, ◌∙◌}
 use Rattle.char_file.proofs.Reading.{read_on}
 use Rattle.desktop_laws.specs.LogLaws.{shown_more, shown_whole}
 use Rattle.desk_core.specs.Kept.{kept}
@@ -18,7 +18,11 @@ loop-at-preserved g c =
       calm = c.in_ok-show_log_in.ensures.faults.calm (λ wrong. absurd cc) ∙ i.calm;
     }
 
-pub returns-clause-changed : goal.returns-clause-changed
-returns-clause-changed g c =
-    shown_whole (g.S.CharSource.characters c.args.source.now) (kept c.args.desk.now) (kept c.loop-at.desk) c.loop-at.at
-    (omega (arith, c.loop-at-test.false, c.viewer_count-at-end.ensures)) c.loop-at.invariant.shown
+pub returns : goal.returns
+returns g c = record {
+  changed =
+      shown_whole (g.S.CharSource.characters c.args.source.now) (kept c.args.desk.now) (kept c.loop-at.desk) c.loop-at.at
+      (omega (arith, c.loop-at-test.false, c.viewer_count-at-end.ensures)) c.loop-at.invariant.shown;
+  reads = c.loop-at.invariant.reads;
+  faults = search rules;
+}

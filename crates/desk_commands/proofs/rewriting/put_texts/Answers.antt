@@ -7,14 +7,12 @@ pub put_text-requires : goal.put_text-requires
 put_text-requires g c = one_ready c.in-Some.ensures.steps c.loop-number.invariant c.requires.room
 
 pub loop-number-preserved : goal.loop-number-preserved
-loop-number-preserved g c = let done = c.in_ok-moved.ensures in
+loop-number-preserved g c =
     put_further c.in-Some.ensures.steps g.S.CharSource g.met.S.CharSource.ground_through c.in_ok-moved.moved
-    nat_cmp_total c.requires.rising c.loop-number.invariant done.laid done.read done.longer done.reads
-    (done.faults.calm (λ wrong. absurd cc)) refl c.in_ok-insert.ensures.entries
+    nat_cmp_total c.requires.rising c.loop-number.invariant c.in_ok-moved.ensures refl c.in_ok-insert.ensures.entries
 
 -- the same where an old value is dropped
 pub loop-number-preserved-in_ok-insert : goal.loop-number-preserved-in_ok-insert
-loop-number-preserved-in_ok-insert g c = let done = c.in_ok-moved.ensures in
+loop-number-preserved-in_ok-insert g c =
     put_further c.in-Some.ensures.steps g.S.CharSource g.met.S.CharSource.ground_through c.in_ok-moved.moved
-    nat_cmp_total c.requires.rising c.loop-number.invariant done.laid done.read done.longer done.reads
-    (done.faults.calm (λ wrong. absurd cc)) refl c.in_ok-insert.ensures.entries
+    nat_cmp_total c.requires.rising c.loop-number.invariant c.in_ok-moved.ensures refl c.in_ok-insert.ensures.entries

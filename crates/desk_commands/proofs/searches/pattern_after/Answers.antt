@@ -1,4 +1,4 @@
-use Rattle.std.proofs.Common.{◌≤◌, ◌∙◌, List, length, take, ap, sym, subst, arith}
+use Rattle.std.proofs.Common.{rules, ◌≤◌, ◌∙◌, List, length, take, ap, sym, subst, arith}
 use Rattle.std.specs.Prelude.{slice_range}
 use Rattle.std.proofs.lemmas.Result.{IfOk-weaker}
 use Rattle.piece_ring.specs.declared.piece.Piece.{Piece}
@@ -13,11 +13,15 @@ use Rattle.desktop_laws.specs.SearchLaws.{pattern_old, pattern_selected}
 use Rattle.desk_core.specs.Kept.{kept}
 use Rattle.desk_commands.proofs.searches.pattern_after.Goals as goal
 
-pub returns-in_default-clause-exact : goal.returns-in_default-clause-exact
-returns-in_default-clause-exact g c h =
-    c.copied.ensures ∙ c.as_slice.ensures.value
-    ∙ pattern_old (g.S.CharSource.characters c.args.source.now) (kept c.args.desk.now)
-    (sym c.newest.ensures ∙ c.in_default.is)
+pub returns-in_default-clause-told : goal.returns-in_default-clause-told
+returns-in_default-clause-told g c = record {
+  exact =
+      λ h. c.copied.ensures ∙ c.as_slice.ensures.value
+      ∙ pattern_old (g.S.CharSource.characters c.args.source.now) (kept c.args.desk.now)
+      (sym c.newest.ensures ∙ c.in_default.is);
+  reads = search (rules, g.met.S.CharSource.ground_self);
+  cause = search rules;
+}
 
 pub main_text-text-requires-clause-placed : goal.main_text-text-requires-clause-placed
 main_text-text-requires-clause-placed g c =
@@ -48,12 +52,17 @@ first_bytes-requires-clause-offsets g c =
     (text_within (length old) d (viewer_or_none d.viewers c.in-Some.selection.viewer).main
     (over_built old d c.requires.over).within)
 
-pub returns-clause-exact : goal.returns-clause-exact
-returns-clause-exact g c =
-    let old = g.S.CharSource.characters c.args.source.now in
-    let d = kept c.args.desk.now in
-    let s = c.in-Some.selection in
-    IfOk-weaker c.first_bytes.result _ _
-    (λ pattern is h. is h
-    ∙ ap (λ (b : List Piece). take most_pattern (slice_range (bytes old (flat b)) s.beg s.end)) c.main_text-text.ensures
-    ∙ pattern_selected old d s (sym c.newest.ensures ∙ c.in-Some.is)) c.first_bytes.ensures.bytes
+pub returns-clause-told : goal.returns-clause-told
+returns-clause-told g c = record {
+  exact =
+      let old = g.S.CharSource.characters c.args.source.now in
+      let d = kept c.args.desk.now in
+      let s = c.in-Some.selection in
+      IfOk-weaker c.first_bytes.result _ _
+      (λ pattern is h. is h
+      ∙ ap (λ (b : List Piece). take most_pattern (slice_range (bytes old (flat b)) s.beg s.end))
+      c.main_text-text.ensures
+      ∙ pattern_selected old d s (sym c.newest.ensures ∙ c.in-Some.is)) c.first_bytes.ensures.bytes;
+  reads = c.first_bytes.ensures.reads;
+  cause = c.first_bytes.ensures.cause;
+}

@@ -18,11 +18,15 @@ symbol_at-requires g c =
     subst (λ (t : List Piece). IsPlace (length old) (flat t, 0)) (sym c.text_called.ensures)
     (called_place old d c.args.id true 0 c.requires.over (omega arith))
 
-pub returns-clause-exact : goal.returns-clause-exact
+pub returns : goal.returns
 unfolding seen
-returns-clause-exact g c =
-    let old = g.S.CharSource.characters c.args.source.now in
-    let d = kept c.args.desk.now in
-    λ h. c.name_in.ensures ∙ ap name_in (c.in_ok-symbol.ensures.symbol h
-    ∙ (λ k. (symbol (bytes old (flat (c.text_called.ensures k))) 0).0)
-    ∙ ap (λ (t : Text ℕ). (symbol (bytes_of t) 0).0) (sym (called_text_seen old d c.args.id true)))
+returns g c = record {
+  exact =
+      let old = g.S.CharSource.characters c.args.source.now in
+      let d = kept c.args.desk.now in
+      λ h. c.name_in.ensures ∙ ap name_in (c.in_ok-symbol.ensures.symbol h
+      ∙ (λ k. (symbol (bytes old (flat (c.text_called.ensures k))) 0).0)
+      ∙ ap (λ (t : Text ℕ). (symbol (bytes_of t) 0).0) (sym (called_text_seen old d c.args.id true)));
+  reads = c.in_ok-symbol.ensures.reads;
+  cause = c.in_ok-symbol.ensures.cause;
+}

@@ -1,5 +1,5 @@
 use Rattle.std.specs.Prelude.{⊤}
-use Rattle.std.proofs.Common.{◌≡◌, ◌∙◌, ◌+◌, length, [], ap, sym, arith}
+use Rattle.std.proofs.Common.{rules, ◌≡◌, ◌∙◌, ◌+◌, length, [], ap, sym, arith}
 use Rattle.piece_ring.specs.Flat.{flat}
 use Rattle.desktop_definitions.specs.Viewers.{main_of}
 use Rattle.desktop_definitions.specs.Seen.{seen}
@@ -11,13 +11,16 @@ use Rattle.desk_core.specs.Kept.{kept}
 use Rattle.desk_commands.proofs.StoringLemmas.{copy_stands, copy_short, copy_answered}
 use Rattle.desk_commands.proofs.stores.store_as.Goals as goal
 
-pub returns-then-not-has_room-clause-answered : goal.returns-then-not-has_room-clause-answered
-returns-then-not-has_room-clause-answered g c =
-    let s = g.S.CharSource in
-    let old = s.characters c.args.source.now in
-    let d = kept c.args.desk.now in
-    storing_refused (s.honest c.args.source.now) old d c.requires.over c.args.name.now (main_of (seen old d) c.args.id)
-    (sym (c.has_room.ensures old) ∙ c.if-not-has_room.true)
+pub returns-then-not-has_room : goal.returns-then-not-has_room
+returns-then-not-has_room g c = record {
+  answered =
+      let s = g.S.CharSource in
+      let old = s.characters c.args.source.now in
+      let d = kept c.args.desk.now in
+      storing_refused (s.honest c.args.source.now) old d c.requires.over c.args.name.now (main_of (seen old d) c.args.id)
+      (sym (c.has_room.ensures old) ∙ c.if-not-has_room.true);
+  uses = search (rules, g.met.S.CharSource.ground_self, g.met.S.CharSource.ground_through);
+}
 
 pub fits_more-requires-clause-more : goal.fits_more-requires-clause-more
 fits_more-requires-clause-more g c =
@@ -34,76 +37,80 @@ fits_more-requires-clause-fewer g c =
     let sum = c.length_of.ensures [] [] in
     omega (arith, small, sum)
 
-pub returns-then-not-fits_more-clause-answered : goal.returns-then-not-fits_more-clause-answered
-returns-then-not-fits_more-clause-answered g c =
-    let s = g.S.CharSource in
-    let old = s.characters c.args.source.now in
-    let d = kept c.args.desk.now in
-    let all = c.len-2.result + c.len-3.result in
-    let gone = c.length_of.result in
-    storing_full (s.honest c.args.source.now) old d c.requires.over c.args.name.now (main_of (seen old d) c.args.id)
-    c.storing_line-line.result.items c.len.result gone all
-    (sym (c.has_room.ensures old) ∙ c.if-not-has_room.false)
-    (c.len.ensures ∙ ap (λ pieces. length (flat pieces)) c.main_text-text.ensures
-    ∙ sym (kept_main_long old d c.args.id))
-    c.storing_line-line.ensures
-    (omega (arith, c.len.ensures, c.len-2.ensures, c.len-3.ensures.value)) c.length_of.ensures
-    (ap (λ n. has_space (seen old d) n all gone) (sym c.len-4.ensures.value)
-    ∙ sym (c.fits_more.ensures old) ∙ c.if-not-fits_more.true)
+pub returns-then-not-fits_more : goal.returns-then-not-fits_more
+returns-then-not-fits_more g c = record {
+  answered =
+      let s = g.S.CharSource in
+      let old = s.characters c.args.source.now in
+      let d = kept c.args.desk.now in
+      let all = c.len-2.result + c.len-3.result in
+      let gone = c.length_of.result in
+      storing_full (s.honest c.args.source.now) old d c.requires.over c.args.name.now (main_of (seen old d) c.args.id)
+      c.storing_line-line.result.items c.len.result gone all
+      (sym (c.has_room.ensures old) ∙ c.if-not-has_room.false)
+      (c.len.ensures ∙ ap (λ pieces. length (flat pieces)) c.main_text-text.ensures
+      ∙ sym (kept_main_long old d c.args.id))
+      c.storing_line-line.ensures
+      (omega (arith, c.len.ensures, c.len-2.ensures, c.len-3.ensures.value)) c.length_of.ensures
+      (ap (λ n. has_space (seen old d) n all gone) (sym c.len-4.ensures.value)
+      ∙ sym (c.fits_more.ensures old) ∙ c.if-not-fits_more.true);
+  uses = search (rules, g.met.S.CharSource.ground_self, g.met.S.CharSource.ground_through);
+}
 
-pub log_line-requires-clause-stands : goal.log_line-requires-clause-stands
-log_line-requires-clause-stands g c =
-    let old = g.S.CharSource.characters c.args.source.now in
-    copy_stands ⊤ old (kept c.args.desk.now) c.requires.over c.args.name.now c.args.id c.storing_line-line.result.items
-    c.len.result c.length_of.result (c.len-2.result + c.len-3.result)
-    (sym (c.has_room.ensures old) ∙ c.if-not-has_room.false)
-    (c.len.ensures ∙ ap (λ pieces. length (flat pieces)) c.main_text-text.ensures) c.storing_line-line.ensures
-    (omega (arith, c.len.ensures, c.len-2.ensures, c.len-3.ensures.value)) c.length_of.ensures
-    c.put.new.files.entries c.in_ok-copy.copy c.in_ok-put.ensures.put c.in_ok-put.ensures.valid
-    (c.in_ok-copy.ensures ∙ ap flat c.main_text-text.ensures)
-
-pub log_line-requires-clause-room : goal.log_line-requires-clause-room
+pub log_line-requires : goal.log_line-requires
 unfolding seen
-log_line-requires-clause-room g c =
-    let low = space_written (seen [] (kept c.args.desk.now)) c.len-4.result (c.len-2.result + c.len-3.result)
-    c.length_of.result (sym (c.fits_more.ensures []) ∙ c.if-not-fits_more.false) in
-    let long = ap length c.as_slice.ensures.value in
-    omega (arith, low, long, c.len-4.ensures.value)
+log_line-requires g c = record {
+  stands =
+      let old = g.S.CharSource.characters c.args.source.now in
+      copy_stands ⊤ old (kept c.args.desk.now) c.requires.over c.args.name.now c.args.id c.storing_line-line.result.items
+      c.len.result c.length_of.result (c.len-2.result + c.len-3.result)
+      (sym (c.has_room.ensures old) ∙ c.if-not-has_room.false)
+      (c.len.ensures ∙ ap (λ pieces. length (flat pieces)) c.main_text-text.ensures) c.storing_line-line.ensures
+      (omega (arith, c.len.ensures, c.len-2.ensures, c.len-3.ensures.value)) c.length_of.ensures
+      c.put.new.files.entries c.in_ok-copy.copy c.in_ok-put.ensures.put c.in_ok-put.ensures.valid
+      (c.in_ok-copy.ensures ∙ ap flat c.main_text-text.ensures);
+  room =
+      let low = space_written (seen [] (kept c.args.desk.now)) c.len-4.result (c.len-2.result + c.len-3.result)
+      c.length_of.result (sym (c.fits_more.ensures []) ∙ c.if-not-fits_more.false) in
+      let long = ap length c.as_slice.ensures.value in
+      omega (arith, low, long, c.len-4.ensures.value);
+  short =
+      let old = g.S.CharSource.characters c.args.source.now in
+      let d = kept c.args.desk.now in
+      let all = c.len-2.result + c.len-3.result in
+      let gone = c.length_of.result in
+      let low = copy_short ⊤ old d c.requires.over c.args.name.now c.args.id c.storing_line-line.result.items
+      c.len.result gone all (sym (c.has_room.ensures old) ∙ c.if-not-has_room.false)
+      (c.len.ensures ∙ ap (λ pieces. length (flat pieces)) c.main_text-text.ensures) c.storing_line-line.ensures
+      (omega (arith, c.len.ensures, c.len-2.ensures, c.len-3.ensures.value)) c.length_of.ensures
+      c.put.new.files.entries c.in_ok-copy.copy c.in_ok-put.ensures.put c.in_ok-put.ensures.valid
+      (c.in_ok-copy.ensures ∙ ap flat c.main_text-text.ensures)
+      (ap (λ n. has_space (seen [] d) n all gone) (sym c.len-4.ensures.value)
+      ∙ sym (c.fits_more.ensures []) ∙ c.if-not-fits_more.false) in
+      let long = ap length c.as_slice.ensures.value in
+      omega (arith, low, long);
+}
 
-pub log_line-requires-clause-short : goal.log_line-requires-clause-short
-log_line-requires-clause-short g c =
-    let old = g.S.CharSource.characters c.args.source.now in
-    let d = kept c.args.desk.now in
-    let all = c.len-2.result + c.len-3.result in
-    let gone = c.length_of.result in
-    let low = copy_short ⊤ old d c.requires.over c.args.name.now c.args.id c.storing_line-line.result.items
-    c.len.result gone all (sym (c.has_room.ensures old) ∙ c.if-not-has_room.false)
-    (c.len.ensures ∙ ap (λ pieces. length (flat pieces)) c.main_text-text.ensures) c.storing_line-line.ensures
-    (omega (arith, c.len.ensures, c.len-2.ensures, c.len-3.ensures.value)) c.length_of.ensures
-    c.put.new.files.entries c.in_ok-copy.copy c.in_ok-put.ensures.put c.in_ok-put.ensures.valid
-    (c.in_ok-copy.ensures ∙ ap flat c.main_text-text.ensures)
-    (ap (λ n. has_space (seen [] d) n all gone) (sym c.len-4.ensures.value)
-    ∙ sym (c.fits_more.ensures []) ∙ c.if-not-fits_more.false) in
-    let long = ap length c.as_slice.ensures.value in
-    omega (arith, low, long)
-
-pub returns-clause-answered : goal.returns-clause-answered
-returns-clause-answered g c =
-    let s = g.S.CharSource in
-    let old = s.characters c.args.source.now in
-    let d = kept c.args.desk.now in
-    let all = c.len-2.result + c.len-3.result in
-    let gone = c.length_of.result in
-    let line = c.as_slice.result.now in
-    let long = ap length c.as_slice.ensures.value in
-    let made : length line ≡ c.len-4.result = long ∙ sym c.len-4.ensures.value in
-    copy_answered (s.honest c.args.source.now) old d c.requires.over c.args.name.now c.args.id line c.len.result gone
-    all (sym (c.has_room.ensures old) ∙ c.if-not-has_room.false)
-    (c.len.ensures ∙ ap (λ pieces. length (flat pieces)) c.main_text-text.ensures)
-    (c.as_slice.ensures.value ∙ c.storing_line-line.ensures)
-    (omega (arith, long, c.len.ensures, c.len-2.ensures, c.len-3.ensures.value)) c.length_of.ensures
-    c.put.new.files.entries c.in_ok-copy.copy c.in_ok-put.ensures.put c.in_ok-put.ensures.valid
-    (c.in_ok-copy.ensures ∙ ap flat c.main_text-text.ensures) (s.characters c.log_line.new.source)
-    (kept c.log_line.new.desk) c.in_ok-log_line.ensures.logged
-    (λ among. ap (λ n. has_space (seen among d) n all gone) made
-    ∙ sym (c.fits_more.ensures among) ∙ c.if-not-fits_more.false)
+pub returns : goal.returns
+returns g c = record {
+  answered =
+      let s = g.S.CharSource in
+      let old = s.characters c.args.source.now in
+      let d = kept c.args.desk.now in
+      let all = c.len-2.result + c.len-3.result in
+      let gone = c.length_of.result in
+      let line = c.as_slice.result.now in
+      let long = ap length c.as_slice.ensures.value in
+      let made : length line ≡ c.len-4.result = long ∙ sym c.len-4.ensures.value in
+      copy_answered (s.honest c.args.source.now) old d c.requires.over c.args.name.now c.args.id line c.len.result gone
+      all (sym (c.has_room.ensures old) ∙ c.if-not-has_room.false)
+      (c.len.ensures ∙ ap (λ pieces. length (flat pieces)) c.main_text-text.ensures)
+      (c.as_slice.ensures.value ∙ c.storing_line-line.ensures)
+      (omega (arith, long, c.len.ensures, c.len-2.ensures, c.len-3.ensures.value)) c.length_of.ensures
+      c.put.new.files.entries c.in_ok-copy.copy c.in_ok-put.ensures.put c.in_ok-put.ensures.valid
+      (c.in_ok-copy.ensures ∙ ap flat c.main_text-text.ensures) (s.characters c.log_line.new.source)
+      (kept c.log_line.new.desk) c.in_ok-log_line.ensures.logged
+      (λ among. ap (λ n. has_space (seen among d) n all gone) made
+      ∙ sym (c.fits_more.ensures among) ∙ c.if-not-fits_more.false);
+  uses = search (rules, g.met.S.CharSource.ground_self, g.met.S.CharSource.ground_through);
+}
