@@ -8,6 +8,7 @@ use Rattle.desktop_definitions.specs.Seen.{seen}
 use Rattle.desktop_definitions.specs.Step.{settled}
 use Rattle.desktop_definitions.specs.Sound.{IsOver}
 use Rattle.desktop_definitions.specs.Outcome.{IsAnswered}
+use Rattle.desk_core.specs.declared.stop.Stop.{Stop}
 use Rattle.desk_core.specs.Row.{Uses, Does, DoesUnread}
 use Rattle.desk_core.proofs.UnreadLemmas.{over_all}
 
@@ -24,7 +25,10 @@ module _ {S : Type 0} (s : Ghosts S) (ground_self : (a : S) → s.same_ground a 
   pub does_still : (row : Desktop → Result Desktop ℕ) (before after : KeptDesktop) (reply : Reply)
       → IsOver (s.characters source) before → Answers row before after reply
       → Does s row (Ok reply) source source before after
-  does_still row before after reply over answers = record { answered = answers (s.honest source) (s.characters source) over; uses = uses_none reply }
+  does_still row before after reply over answers = record {
+    answered = answers (s.honest source) (s.characters source) over;
+    uses = uses_none reply;
+  }
 
   pub does_unread : {calm : Type 0} (row : Desktop → Result Desktop ℕ) (before after : KeptDesktop) (reply : Reply)
       → IsOver (s.characters source) before → Answers row before after reply
@@ -34,3 +38,9 @@ module _ {S : Type 0} (s : Ghosts S) (ground_self : (a : S) → s.same_ground a 
     unread = λ calm all long. (answers ⊤ all (over_all over all long)).exact tt;
     uses = uses_none reply;
   }
+
+-- what holds where no character is read holds under a premise that says so
+pub unread_where : {S : Type 0} (s : Ghosts S) {calm known : Type 0} {row : Desktop → Result Desktop ℕ} {old new : S}
+    {before after : KeptDesktop} {result : Result Reply Stop} → (known → calm)
+    → DoesUnread s calm row result old new before after → DoesUnread s known row result old new before after
+unread_where s why does = record { answered = does.answered; unread = λ k. does.unread (why k); uses = does.uses }

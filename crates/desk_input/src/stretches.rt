@@ -53,6 +53,19 @@ pub fn take_looks<S: CharSource>(desk: &mut Desk, id: u16, pos: u32, source: &mu
     Ok(Reply::Done)
 }
 
+/// The look of the character at `pos` in a viewer's main text, of the last one at its end, and `DEFAULT_LOOK` where
+/// there is none.
+fn look_at(desk: &Desk, id: u16, pos: u32) -> Look
+    requires { pos ≤ length (flat (kept_main (kept desk.now) id)) }
+    ensures { result ≡ look_at pos (flat (kept_main (kept desk.now) id)) }
+{
+    let number = desk.main_of(id);
+    match desk.texts.get(&number) {
+        Some(text) => text.attributes(pos),
+        None => DEFAULT_LOOK,
+    }
+}
+
 /// A stretch goes into the deleted buffer, and the caret to where it was, which is shown. Refused where it is
 /// empty.
 pub fn take_out<S: CharSource>(desk: &mut Desk, drawn: Selection, source: &mut S) -> StepResult
@@ -86,17 +99,4 @@ pub fn send_to_caret<S: CharSource>(desk: &mut Desk, drawn: Selection, source: &
     select(&mut desk.selections, drawn)?;
     desk.put_at_caret(caret, &mut copy, source)?;
     Ok(Reply::Done)
-}
-
-/// The look of the character at `pos` in a viewer's main text, of the last one at its end, and `DEFAULT_LOOK` where
-/// there is none.
-fn look_at(desk: &Desk, id: u16, pos: u32) -> Look
-    requires { pos ≤ length (flat (kept_main (kept desk.now) id)) }
-    ensures { result ≡ look_at pos (flat (kept_main (kept desk.now) id)) }
-{
-    let number = desk.main_of(id);
-    match desk.texts.get(&number) {
-        Some(text) => text.attributes(pos),
-        None => DEFAULT_LOOK,
-    }
 }

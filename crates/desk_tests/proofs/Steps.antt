@@ -53,7 +53,8 @@ unfolding region_at resized carried text_position scrolled_to_row scrolled_to_sh
     columns_changed called menu_position word_begin called_at commands command_named is_name_byte is_letter is_digit
     logged all_logged value_of name_of number_called names_of file_opened document_opened log_opened put_away
     brought_back viewer_copied log_cleared directory_logged files_deleted stored look_set selection_set searched
-    commanded done_with_name done_with_number done_with_viewer names_on value names form symbol is_blank is_inside numeral digits free_row empty_desktop collected
+    commanded done_with_name done_with_number done_with_viewer names_on value names form symbol is_blank is_inside
+    numeral digits free_row empty_desktop collected
 steps_are_done = refl
 
 -- the first version of the table has no word for what gives characters up

@@ -179,7 +179,8 @@ done_with d RightLeft s = taken_out d s
 done_with d RightMiddle s = sent_to_caret d s
 done_with d keys s = Ok d
 
--- which cells say where it is done: in a text the right button draws, and the other keys mean the cell where they went up
+-- which cell says where it is done: in a text the right button draws between both, and other keys mean the one where
+-- they went up
 unfoldable pub pointed : ℕ → Desktop → Region → Keys → ℕ → ℕ → ℕ → ℕ → Result Desktop ℕ
 pointed version d Filler keys x0 y0 x1 y1 = done_in_filler d keys x0 y0
 pointed version d (Menu v) keys x0 y0 x1 y1 = done_in_menu version d keys v x1 y1

@@ -10,8 +10,8 @@ use Rattle.desk_core.specs.declared.stop.Stop.{Stop}
 use Rattle.desk_core.specs.Row.{Settles, Uses}
 
 module _ {S : Type 0} (s : Ghosts S) where
-  -- Reply and desktop are those of the event in a version of the table of commands, also over a source that isn't honest
-  -- where the event reads no character.
+  -- Reply and desktop are those of the event in a version of the table of commands, also over a source that isn't
+  -- honest where the event reads no character.
   pub record DoesEvent (version : ℕ) (event : Event) (result : Result Reply Stop) (old new : S)
       (before after : KeptDesktop) : Type 0 where
     pub answered : IfOk result (Settles s (λ d. raw version d event) old new before after)

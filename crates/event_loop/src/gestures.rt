@@ -1,14 +1,13 @@
 //! What the mouse does, by the region in which its keys went down. A gesture that isn't in the table is done and
 //! changes nothing.
-ghost use Rattle.std.specs.Prelude.{◌≡◌, ◌<◌, true, IfOk};
+ghost use Rattle.std.specs.Prelude.{◌≡◌, ◌<◌, true};
 ghost use Rattle.event_bytes.specs.declared.event.Event.TheVariants.{Point};
 ghost use Rattle.desktop_definitions.specs.declared.region.Region.TheVariants.{Filler, Menu, Bar, Body};
 ghost use Rattle.desktop_definitions.specs.Gesture.{menu_position, text_position, stretch_drawn, pointed};
 ghost use Rattle.desktop_definitions.specs.Gesture.{done_in_filler, done_in_menu, done_in_bar, done_at, done_with};
 ghost use Rattle.desktop_definitions.specs.Commands.{called};
 ghost use Rattle.desktop_definitions.specs.Unread.{gesture_needs_no_byte, gesture_brings};
-ghost use Rattle.desk_core.specs.Words.{COLUMNS, ROWS, IsOnTop, seen, IsOver, kept, Settles, Uses};
-ghost use Rattle.desk_core.specs.Words.{SettlesBringing, Does, DoesUnread};
+ghost use Rattle.desk_core.specs.Words.{COLUMNS, ROWS, IsOnTop, IsOver, kept, Does, DoesUnread, DoesBringing};
 ghost use Rattle.desk_commands.specs.Words.{version_number};
 ghost use Rattle.desk_input.specs.Reads.{IsRow, IsPlace};
 ghost use Rattle.event_loop.specs.Doing.{DoesEvent};
@@ -75,11 +74,8 @@ fn point_filler<S: CharSource>(
 ) -> StepResult
     requires over { IsOver (S.characters source.old) (kept desk.old) }
     requires cell { (cell.0 < COLUMNS) × (cell.1 < ROWS) }
-    ensures answered { IfOk result (Settles S.CharSource (λ d. done_in_filler d keys cell.0 cell.1)
-        source.old source.new (kept desk.old) (kept desk.new)) }
-    ensures unread { IfOk result (SettlesBringing (gesture_brings Filler keys)
-        (λ all. done_in_filler (seen all (kept desk.old)) keys cell.0 cell.1) (kept desk.old) (kept desk.new)) }
-    ensures uses { Uses S.CharSource result source.old source.new }
+    ensures { DoesBringing S.CharSource (gesture_brings Filler keys) (λ all d. done_in_filler d keys cell.0 cell.1) result
+        source.old source.new (kept desk.old) (kept desk.new) }
 {
     match keys {
         Keys::Middle => open_tool(desk, cell.0, cell.1, source),
@@ -166,7 +162,12 @@ fn point_text<S: CharSource>(
 {
     match gesture.keys {
         Keys::Left | Keys::LeftMiddle | Keys::LeftRight | Keys::Middle => point_cell(
-            desk, version, gesture.keys, id, gesture.to, source,
+            desk,
+            version,
+            gesture.keys,
+            id,
+            gesture.to,
+            source,
         ),
         Keys::Right | Keys::RightLeft | Keys::RightMiddle => draw(desk, id, gesture, source),
         _ => Ok(Reply::Done),

@@ -16,8 +16,8 @@ pub returns : goal.returns
 returns g c = record {
   answered =
       let start = c.in_ok-start.ensures.told in
-      org_answered _ _ _ _ _ c.args.id c.in-Some.start _ c.requires.at.over (rw c.in-Some.is at c.in_ok-start.ensures.within).place
-      start.reads.as_long start.reads.same c.begin_at.ensures
+      org_answered _ _ _ _ _ c.args.id c.in-Some.start _ c.requires.at.over
+      (rw c.in-Some.is at c.in_ok-start.ensures.within).place start.reads.as_long start.reads.same c.begin_at.ensures
       (λ h. row_some _ c.args.id c.args.row c.in-Some.start (sym c.in-Some.is ∙ start.exact h));
   uses = search (rules, g.met.S.CharSource.ground_self, g.met.S.CharSource.ground_through);
 }

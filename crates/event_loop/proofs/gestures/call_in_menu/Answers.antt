@@ -4,8 +4,7 @@ use Rattle.desktop_definitions.specs.Desktop.{Desktop}
 use Rattle.desktop_definitions.specs.Gesture.{menu_position}
 use Rattle.desktop_definitions.specs.Commands.{called}
 use Rattle.desk_core.specs.Kept.{kept}
-use Rattle.desk_commands.proofs.ReadFirst.{over_after}
-use Rattle.event_loop.proofs.ReadThen.{does_after}
+use Rattle.desk_commands.proofs.ReadFirst.{over_after, does_after}
 use Rattle.event_loop.proofs.gestures.call_in_menu.Goals as goal
 
 pub call-requires-clause-over : goal.call-requires-clause-over
@@ -17,4 +16,4 @@ returns g c =
     let told = c.in_ok-pos.ensures.told in
     does_after g.S.CharSource g.met.S.CharSource.ground_through
     (λ (x : Desktop) (p : ℕ). called (version_number c.args.version) x c.args.id true p)
-    (λ x. menu_position x c.args.id c.args.x) told.reads told.cause told.exact c.call.ensures
+    (λ x. menu_position x c.args.id c.args.x) c.in_ok-pos.pos _ _ _ _ _ _ told.reads told.cause told.exact c.call.ensures

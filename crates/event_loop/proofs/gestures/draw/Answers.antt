@@ -2,8 +2,7 @@ use Rattle.desktop_definitions.specs.declared.viewer.Selection.{Selection}
 use Rattle.desktop_definitions.specs.Desktop.{Desktop}
 use Rattle.desktop_definitions.specs.Gesture.{stretch_drawn, done_with}
 use Rattle.desk_core.specs.Kept.{kept}
-use Rattle.desk_commands.proofs.ReadFirst.{over_after}
-use Rattle.event_loop.proofs.ReadThen.{does_after}
+use Rattle.desk_commands.proofs.ReadFirst.{over_after, does_after}
 use Rattle.event_loop.proofs.gestures.draw.Goals as goal
 
 pub point_stretch-requires : goal.point_stretch-requires
@@ -18,4 +17,4 @@ returns g c =
     does_after g.S.CharSource g.met.S.CharSource.ground_through
     (λ (x : Desktop) (s : Selection). done_with x c.args.gesture.keys s)
     (λ x. stretch_drawn x c.args.id c.args.gesture.from.0 c.args.gesture.from.1 c.args.gesture.to.0 c.args.gesture.to.1)
-    told.reads told.cause told.exact c.point_stretch.ensures
+    c.in_ok-drawn.drawn _ _ _ _ _ _ told.reads told.cause told.exact c.point_stretch.ensures
