@@ -10,6 +10,7 @@ ghost use Rattle.desk_commands.specs.Words.{no_caret, most_pattern, put_at_caret
 use arrayvec::ArrayVec;
 use char_file::{CharSource, Fault};
 use desk_core::desk::{Desk, PATTERN};
+use desk_core::edits::DeskBuffer;
 use desk_core::stop::StepResult;
 use desk_core::views::position_in;
 use desktop_definitions::{Reply, Selection, codes};
@@ -146,5 +147,5 @@ pub fn recall_deleted<S: CharSource>(desk: &mut Desk, source: &mut S) -> StepRes
         source.old source.new (kept desk.old) (kept desk.new)) }
     ensures uses { Uses S.CharSource result source.old source.new }
 {
-    desk.put_buffer(true, source)
+    desk.put_buffer(DeskBuffer::Deleted, source)
 }
