@@ -10,6 +10,7 @@ ghost use Rattle.desk_commands.specs.Words.{no_caret, most_pattern, put_at_caret
 use arrayvec::ArrayVec;
 use char_file::{CharSource, Fault};
 use desk_core::desk::{Desk, PATTERN};
+use desk_core::edits::DeskBuffer;
 use desk_core::stop::StepResult;
 use desk_core::views::position_in;
 use desktop_definitions::{Reply, Selection, codes};
@@ -141,5 +142,5 @@ pub fn recall_deleted<S: CharSource>(desk: &mut Desk, source: &mut S) -> StepRes
     ensures { Does S.CharSource (λ d. needs d.caret no_caret λ c. Ok (put_at_caret d d.deleted c)) result
         source.old source.new (kept desk.old) (kept desk.new) }
 {
-    desk.put_buffer(true, source)
+    desk.put_buffer(DeskBuffer::Deleted, source)
 }

@@ -7,6 +7,7 @@ pub mod TextLemmas
 pub mod ViewLemmas
 pub mod PositionLemmas
 pub mod MarkLemmas
+pub mod BufferLemmas
 pub mod StretchLemmas
 pub mod ReadLemmas
 pub mod UnreadLemmas

@@ -22,13 +22,15 @@ use Rattle.desktop_definitions.specs.Sound.{IsKeptWhole, IsBuilt, IsOver}
 use Rattle.desktop_definitions.specs.Outcome.{IsAnswered, reply_codes}
 use Rattle.desktop_laws.specs.RowLaws.{over_built, main_kept}
 use Rattle.desktop_laws.specs.MarkLaws.{with_selection_changed}
-use Rattle.desktop_laws.specs.SearchLaws.{buffer_small, buffer_looks}
 use Rattle.desktop_laws.specs.RowPartLaws.{kept_main, kept_caret, kept_newest, copy_long, copy_looks, text_within}
 use Rattle.desktop_laws.specs.KeyLaws.{refusal_answered, main_small, copy_changed}
 use Rattle.desk_core.specs.Mouse.{position_in, start_of_row}
 use Rattle.desk_core.specs.Positions.{IsPosition, CanGo}
 use Rattle.desktop_laws.specs.PlaceLaws.{on_top_placed}
 use Rattle.desk_core.proofs.PositionLemmas.{start_read}
+use Rattle.desk_core.specs.declared.edits.DeskBuffer.{DeskBuffer}
+use Rattle.desk_core.specs.Buffers.{buffer_of}
+use Rattle.desk_core.proofs.BufferLemmas.{buffer_within, buffer_small, buffer_looks}
 
 -- ---- what stands
 
@@ -93,21 +95,16 @@ selected_built {old} {d} s over at some is =
 
 -- ---- both buffers
 
-buffer_within : (old : List ℕ) (d : KeptDesktop) (deleted : Bool) → IsOver old d
-    → AreWithin (length old) (flat (if deleted then d.deleted else d.copied))
-buffer_within old d true over = (over_built old d over).within.deleted
-buffer_within old d false over = (over_built old d over).within.copied
-
-pub buffer_goes : {old : List ℕ} {d : KeptDesktop} {copy : List Piece} (deleted : Bool) (v : ℕ) → IsOver old d
-    → flat copy ≡ flat (if deleted then d.deleted else d.copied) → CanGo (length old) d v copy
-buffer_goes {old} {d} {copy} deleted v over is = record {
+pub buffer_goes : {old : List ℕ} {d : KeptDesktop} {copy : List Piece} (buffer : DeskBuffer) (v : ℕ) → IsOver old d
+    → flat copy ≡ flat (buffer_of d buffer) → CanGo (length old) d v copy
+buffer_goes {old} {d} {copy} buffer v over is = record {
   short =
       let main = main_small old d v over in
-      let small = buffer_small old d deleted over in
+      let small = buffer_small old d buffer over in
       let long = ap length is in
       omega (arith, main, small, long);
-  within = subst (AreWithin (length old)) (sym is) (buffer_within old d deleted over);
-  looks = subst AreLooks (sym is) (buffer_looks old d deleted over);
+  within = subst (AreWithin (length old)) (sym is) (buffer_within old d buffer over);
+  looks = subst AreLooks (sym is) (buffer_looks old d buffer over);
 }
 
 -- ---- refusals

@@ -3,6 +3,7 @@ pub mod Positions
 pub mod Stops
 pub mod Movable
 pub mod Row
+pub mod Buffers
 pub mod Reads
 pub mod Mouse
 pub mod Words

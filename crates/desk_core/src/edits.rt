@@ -7,6 +7,7 @@ ghost use Rattle.desk_core.specs.Words.{stretch, newest, kept_main, CanGo, run, 
 ghost use Rattle.desk_core.specs.Words.{most_written, most_held, numbered, viewer_or_none, seen, seen_text};
 ghost use Rattle.desk_core.specs.Words.{IsKeptWhole, IsBuilt, IsOver, IsChanged, kept, IsPosition, IsStop, needs};
 ghost use Rattle.desk_core.specs.Words.{IsOpenAt, DoesUnread};
+ghost use Rattle.desk_core.specs.Buffers.{buffer_of};
 
 use crate::desk::Desk;
 use crate::stop::{NoMemory, StepResult, Stop};
@@ -174,6 +175,15 @@ fn is_space(written: usize, held: usize, fewer: usize) -> bool
     written <= MOST_WRITTEN as usize && held <= MOST_HELD as usize + fewer
 }
 
+/// Which buffer of a desktop.
+#[derive(Clone, Copy, Debug, PartialEq, Eq)]
+pub enum DeskBuffer {
+    /// What a key copied or cut last.
+    Copied,
+    /// What a gesture took out last.
+    Deleted,
+}
+
 /// A buffer of `count` characters in one look, which stand together from the offset `first` on.
 pub fn buffer_of_run(alloc: Global, first: u32, count: u32, look: Look) -> Result<Buffer, NoMemory>
     requires some { 0 < count }
@@ -191,18 +201,17 @@ pub fn buffer_of_run(alloc: Global, first: u32, count: u32, look: Look) -> Resul
 }
 
 impl Desk {
-    /// A copy of what was deleted last, or else of what was copied last, is put in at the caret. Refused without a
-    /// caret.
-    pub fn put_buffer<S: CharSource>(&mut self, deleted: bool, source: &mut S) -> StepResult
+    /// A copy of a buffer is put in at the caret. Refused without a caret.
+    pub fn put_buffer<S: CharSource>(&mut self, buffer: DeskBuffer, source: &mut S) -> StepResult
         requires over { IsOver (S.characters source.old) (kept self.old) }
         ensures { DoesUnread S.CharSource (is_none (kept self.old).caret ≡ true) (λ d. needs d.caret no_caret λ c.
-            Ok (put_at_caret d (if deleted then d.deleted else d.copied) c)) result
+            Ok (put_at_caret d (buffer_of d buffer) c)) result
             source.old source.new (kept self.old) (kept self.new) }
     {
         let Some(caret) = self.caret_place() else {
             return Ok(Reply::No(codes::NO_CARET));
         };
-        let buffer = self.buffer(deleted);
+        let buffer = self.buffer(buffer);
         if !self.fits_more(0, buffer.len() as usize, 0) {
             return Ok(Reply::No(codes::FULL));
         }
@@ -214,10 +223,13 @@ impl Desk {
 }
 
 impl Desk {
-    /// What was deleted last, or else what was copied last.
-    fn buffer(&self, deleted: bool) -> &Buffer
-        ensures { result.now ≡ (if deleted then (kept self.now).deleted else (kept self.now).copied) }
+    /// The buffer of that name.
+    fn buffer(&self, buffer: DeskBuffer) -> &Buffer
+        ensures { result.now ≡ buffer_of (kept self.now) buffer }
     {
-        if deleted { &self.deleted } else { &self.copied }
+        match buffer {
+            DeskBuffer::Copied => &self.copied,
+            DeskBuffer::Deleted => &self.deleted,
+        }
     }
 }

@@ -7,7 +7,7 @@ ghost use Rattle.desk_core.specs.Words.{newest, IsOver, kept, DoesUnread};
 
 use char_file::CharSource;
 use desk_core::desk::Desk;
-use desk_core::edits::buffer_of_run;
+use desk_core::edits::{DeskBuffer, buffer_of_run};
 use desk_core::stop::StepResult;
 use desktop_definitions::{Reply, Selection, codes};
 use event_bytes::{Key, TypedBytes};
@@ -43,7 +43,7 @@ pub fn press<S: CharSource>(desk: &mut Desk, key: Key, source: &mut S) -> StepRe
     match key {
         Key::Back => take_back(desk, source),
         Key::Copy => copy(desk, source),
-        Key::Paste => desk.put_buffer(false, source),
+        Key::Paste => desk.put_buffer(DeskBuffer::Copied, source),
         Key::Cut => cut(desk, source),
         Key::Escape => escape(desk, source),
     }

@@ -37,8 +37,8 @@ use Rattle.desktop_definitions.specs.Outcome.{IsAnswered}
 use Rattle.desktop_laws.specs.RowLaws.{has_space, rest_answered, fewer_answered, full_rest_answered, over_built}
 use Rattle.desktop_laws.specs.RowLaws.{unchanged, changed_as, changed_further}
 use Rattle.desktop_laws.specs.RowPartLaws.{kept_main, kept_main_seen, kept_caret, put_at_caret_counts}
-use Rattle.desktop_laws.specs.KeyLaws.{row_as, main_there_seen, copied_small, deleted_small}
-use Rattle.desktop_laws.specs.LookedLaws.{looks_stay, shape_stays, kept_copied_looks, kept_deleted_looks}
+use Rattle.desktop_laws.specs.KeyLaws.{row_as, main_there_seen}
+use Rattle.desktop_laws.specs.LookedLaws.{looks_stay, shape_stays}
 use Rattle.desktop_laws.specs.LookedLaws.{within_stays}
 use Rattle.desktop_definitions.specs.Looks.{AreLooks}
 
@@ -373,24 +373,6 @@ pub put_none : (old : List ℕ) (d : KeptDesktop) (text : Text ℕ) → d.caret 
     → put_row (seen old d) text ≡ Err no_caret
 unfolding seen
 put_none old d text none = rw none refl
-
--- either buffer as it is seen
-pub buffer_seen : (old : List ℕ) (d : KeptDesktop) (deleted : Bool)
-    → seen_text old (if deleted then d.deleted else d.copied)
-    ≡ (if deleted then (seen old d).deleted else (seen old d).copied)
-unfolding seen
-buffer_seen old d true = refl
-buffer_seen old d false = refl
-
-pub buffer_small : (old : List ℕ) (d : KeptDesktop) (deleted : Bool) → IsOver old d
-    → length (flat (if deleted then d.deleted else d.copied)) ≤ most_held
-buffer_small old d true over = deleted_small old d over
-buffer_small old d false over = copied_small old d over
-
-pub buffer_looks : (old : List ℕ) (d : KeptDesktop) (deleted : Bool) → IsOver old d
-    → AreLooks (flat (if deleted then d.deleted else d.copied))
-buffer_looks old d true over = kept_deleted_looks (length old) d (over_built old d over)
-buffer_looks old d false over = kept_copied_looks (length old) d (over_built old d over)
 
 module _ (H : Type 0) (old : List ℕ) (d : KeptDesktop) (buffer : List Piece) (text : Text ℕ) (over : IsOver old d)
     (text_is : seen_text old buffer ≡ text) where

@@ -3,9 +3,10 @@ use Rattle.piece_ring.specs.declared.piece.Piece.{Piece}
 use Rattle.piece_ring.specs.Flat.{flat}
 use Rattle.desktop_definitions.specs.Seen.{seen, seen_text}
 use Rattle.desktop_laws.specs.RowLaws.{has_space, known_no_caret, over_built}
-use Rattle.desktop_laws.specs.SearchLaws.{put_none, put_full, put_answered, buffer_seen}
+use Rattle.desktop_laws.specs.SearchLaws.{put_none, put_full, put_answered}
 use Rattle.desk_core.specs.Kept.{kept}
 use Rattle.desk_core.proofs.StretchLemmas.{refused_row, buffer_goes}
+use Rattle.desk_core.proofs.BufferLemmas.{buffer_seen}
 use Rattle.desk_core.proofs.UnreadLemmas.{refusal_is}
 use Rattle.desk_core.proofs.desk.Desk.put_buffer.Goals as goal
 
@@ -25,7 +26,7 @@ returns-then-not-fits_more g c = record {
       let old = g.S.CharSource.characters c.args.source.now in
       let d = kept c.args.self.now in
       put_full _ old d c.buffer-buffer.result.now _ c.requires.over
-      (ap (seen_text old) c.buffer-buffer.ensures ∙ buffer_seen old d c.args.deleted) c.in-Some.caret
+      (ap (seen_text old) c.buffer-buffer.ensures ∙ buffer_seen old d c.args.buffer) c.in-Some.caret
       (sym c.in-Some.ensures.is) c.in-Some.ensures.stands.placed
       (ap (λ n. has_space (seen old d) 0 n 0) (sym c.len.ensures)
       ∙ sym (c.fits_more.ensures old) ∙ c.if-not-fits_more.true);
@@ -41,7 +42,7 @@ put_at_caret-requires-clause-at g c = record {
 
 pub put_at_caret-requires-clause-goes : goal.put_at_caret-requires-clause-goes
 put_at_caret-requires-clause-goes g c =
-    buffer_goes c.args.deleted _ c.requires.over (c.in_ok-copy_to.ensures.added
+    buffer_goes c.args.buffer _ c.requires.over (c.in_ok-copy_to.ensures.added
     ∙ ap (λ (l : List Piece). flat l ++ flat c.buffer-buffer.result.now) c.in_ok-copy.ensures
     ∙ ap flat c.buffer-buffer.ensures)
 
@@ -52,7 +53,7 @@ returns g c = record {
       let d = kept c.args.self.now in
       let reads = c.in_ok-put_at_caret.ensures.reads in
       put_answered _ old d c.buffer-buffer.result.now _ c.requires.over
-      (ap (seen_text old) c.buffer-buffer.ensures ∙ buffer_seen old d c.args.deleted) c.in-Some.caret
+      (ap (seen_text old) c.buffer-buffer.ensures ∙ buffer_seen old d c.args.buffer) c.in-Some.caret
       (sym c.in-Some.ensures.is) _ _ c.copy_to.new.other reads.as_long reads.same
       (c.in_ok-copy_to.ensures.added
       ∙ ap (λ (l : List Piece). flat l ++ flat c.buffer-buffer.result.now) c.in_ok-copy.ensures)
