@@ -8,12 +8,8 @@ use Rattle.std.specs.Map.{set_value}
 use Rattle.std.specs.Ordering.{nat_cmp}
 use Rattle.std.specs.BTreeMap.{is_at}
 use Rattle.std.proofs.Math.Seq.{drop-cons}
-use Rattle.std.proofs.lemmas.Bool.{cases_eq, ne_eqb}
+use Rattle.std.proofs.lemmas.Bool.{cases_eq}
 use Rattle.std.proofs.lemmas.List.{length-set, get_or-set_same, get_or-set_other, get_or_read, take_all, drop_all}
-use Rattle.piece_ring.specs.Text.{Text}
-use Rattle.readers_scanners.specs.Reading.{bytes}
-use Rattle.text_frames.specs.declared.frame.Frame.{Frame}
-use Rattle.text_frames.specs.Rules.{frame_from, cleared, changed_org, shown_org, IsFollowed, IsBrought}
 use Rattle.desktop_definitions.specs.declared.viewer.Viewer.{Viewer}
 use Rattle.desktop_definitions.specs.Viewers.{bare_viewer, viewer_in, viewer_or_none}
 use Rattle.desktop_laws.specs.ShapeLaws.{at_here, at_other, IsMoved, AreMoved}
@@ -145,18 +141,3 @@ all_moved n long at olds nows end is = record {
   as_long = is.as_long;
   each = λ k d low. is.done k d (omega (arith, low, end));
 }
-
--- ---- where a frame begins
-
-pub followed_org : (H : Type 0) (characters : List ℕ) (text : Text ℕ) (p more fewer : ℕ) (old new : Frame)
-    → 0 < more + fewer → IsFollowed H characters text p more fewer old new → H
-    → new.org ≡ changed_org (bytes characters text) p more fewer old.org
-followed_org H characters text p more fewer old new some is h =
-    ap (λ (f : Frame). f.org) (is.exact h)
-    ∙ ap (λ b. (let f : Frame = cond b old
-    (frame_from (cleared old) (changed_org (bytes characters text) p more fewer old.org)) in f.org))
-    (ne_eqb (more + fewer) 0 (λ none. omega (arith, some, none)))
-
-pub brought_org : (H : Type 0) (characters : List ℕ) (text : Text ℕ) (h p : ℕ) (old new : Frame)
-    → IsBrought H characters text h p old new → H → new.org ≡ shown_org (bytes characters text) h p old.org
-brought_org H characters text rows p old new is h = ap (λ (f : Frame). f.org) (is.exact h)

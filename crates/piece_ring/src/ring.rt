@@ -4,12 +4,12 @@
 //! character's offset and look alone. How a text is cut into pieces isn't promised, but for the cut
 //! that `split_at` makes, the pieces that `push` puts in, which `Cursor::next_piece` gives back, and
 //! how many `add` makes.
-ghost use Rattle.std.specs.Prelude.{◌≡◌, ◌+◌, ◌^◌, ◌<◌, ◌≤◌, ◌∷◌, ◌++◌, [], length, take, drop, IfOk, IfErr, OnOk};
-ghost use Rattle.std.specs.Prelude.{OnErr};
+ghost use Rattle.std.specs.Prelude.{◌≡◌, ◌+◌, ◌^◌, ◌<◌, ◌≤◌, ◌∷◌, ◌++◌, [], length, take, IfOk, IfErr, OnOk};
 ghost use Rattle.piece_ring.specs.Cut.{IsCutAt};
-ghost use Rattle.piece_ring.specs.Flat.{flat, characters_of, IsWhole};
+ghost use Rattle.piece_ring.specs.Flat.{flat, characters_of};
 ghost use Rattle.piece_ring.specs.Finger.{IsFingerAt, IsSettledAt};
 ghost use Rattle.piece_ring.specs.Merging.{AddsAtMost, IsMergedAt};
+ghost use Rattle.piece_ring.specs.Promises.{ChangesTo, HasRoomFor, IsCursorAt};
 ghost use Rattle.piece_ring.specs.Text.{stretch, inserted, deleted, looks_changed};
 
 use crate::back_cursor::BackCursor;
@@ -92,9 +92,9 @@ impl Ring {
         requires order { beg ≤ end }
         requires within { end ≤ length (flat self.old.pieces) }
         ensures taken { IfOk result (λ r. flat r.pieces ≡ stretch beg end (flat self.old.pieces)) }
-        ensures rest { OnOk result (flat self.new.pieces ≡ deleted beg end (flat self.old.pieces)) }
+        ensures text { ChangesTo (deleted beg end (flat self.old.pieces)) result
+            (flat self.old.pieces) (flat self.new.pieces) }
         ensures settled { OnOk result (IsSettledAt self.new beg) }
-        ensures refused { OnErr result (flat self.new.pieces ≡ flat self.old.pieces) }
     {
         let mut taken = Ring::new(self.alloc)?;
         if beg < end {
@@ -112,11 +112,10 @@ impl Ring {
     pub fn splice(&mut self, pos: u32, other: Ring) -> Result<(), (NoMemory, Ring)>
         requires within { pos ≤ length (flat self.old.pieces) }
         requires fits { length (flat self.old.pieces) + length (flat other.pieces) < 2 ^ 32 }
-        ensures text { OnOk result (flat self.new.pieces
-            ≡ inserted pos (flat other.pieces) (flat self.old.pieces)) }
+        ensures text { ChangesTo (inserted pos (flat other.pieces) (flat self.old.pieces)) result
+            (flat self.old.pieces) (flat self.new.pieces) }
         ensures settled { OnOk result (IsSettledAt self.new pos) }
         ensures merged { OnOk result (IsMergedAt self.new.pieces (pos + length (flat other.pieces))) }
-        ensures refused { OnErr result (flat self.new.pieces ≡ flat self.old.pieces) }
         ensures returned { IfErr result (λ e. flat e.1.pieces ≡ flat other.pieces) }
     {
         if other.list.len == 0 {
@@ -155,13 +154,11 @@ impl Ring {
     /// Puts a piece at the end, where it becomes one with the last piece if it continues it. If memory
     /// is refused the text stays.
     pub fn add(&mut self, piece: Piece) -> Result<(), NoMemory>
-        requires whole { IsWhole piece }
-        requires fits { length (flat self.old.pieces) + piece.len < 2 ^ 32 }
-        ensures text { OnOk result (flat self.new.pieces
-            ≡ flat self.old.pieces ++ characters_of piece) }
+        requires { HasRoomFor piece self.old.pieces }
+        ensures text { ChangesTo (flat self.old.pieces ++ characters_of piece) result
+            (flat self.old.pieces) (flat self.new.pieces) }
         ensures settled { OnOk result (IsSettledAt self.new (length (flat self.old.pieces))) }
         ensures pieces { OnOk result (AddsAtMost self.old.pieces piece self.new.pieces) }
-        ensures refused { OnErr result (flat self.new.pieces ≡ flat self.old.pieces) }
     {
         let one = Stretch::of_piece(&self.alloc, piece)?;
         let end = self.list.end();
@@ -173,10 +170,8 @@ impl Ring {
     /// Puts a piece at the end as it is, also where it could be one with the piece before it. If memory is refused the
     /// pieces stay.
     pub fn push(&mut self, piece: Piece) -> Result<(), NoMemory>
-        requires whole { IsWhole piece }
-        requires fits { length (flat self.old.pieces) + piece.len < 2 ^ 32 }
-        ensures pieces { OnOk result (self.new.pieces ≡ self.old.pieces ++ piece ∷ []) }
-        ensures refused { OnErr result (self.new.pieces ≡ self.old.pieces) }
+        requires { HasRoomFor piece self.old.pieces }
+        ensures { ChangesTo (self.old.pieces ++ piece ∷ []) result self.old.pieces self.new.pieces }
     {
         let alone = Stretch::of_piece(&self.alloc, piece)?;
         let end = self.list.end();
@@ -200,11 +195,10 @@ impl Ring {
     pub fn set_looks(&mut self, beg: u32, end: u32, sel: u8, look: Look) -> Result<(), NoMemory>
         requires order { beg ≤ end }
         requires within { end ≤ length (flat self.old.pieces) }
-        ensures text { OnOk result (flat self.new.pieces
-            ≡ looks_changed beg end sel look (flat self.old.pieces)) }
+        ensures text { ChangesTo (looks_changed beg end sel look (flat self.old.pieces)) result
+            (flat self.old.pieces) (flat self.new.pieces) }
         ensures settled { OnOk result (IsSettledAt self.new beg) }
         ensures merged { OnOk result (IsMergedAt self.new.pieces end) }
-        ensures refused { OnErr result (flat self.new.pieces ≡ flat self.old.pieces) }
     {
         if beg == end {
             self.list.settle(&self.alloc, beg);
@@ -221,9 +215,7 @@ impl Ring {
     /// more than there are pieces.
     pub fn cursor(&self, pos: u32) -> Cursor<'_>
         requires { pos ≤ length (flat self.now.pieces) }
-        ensures text { flat result.left ≡ drop pos (flat self.now.pieces) }
-        ensures whole { pos ≡ 0 → result.left ≡ self.now.pieces }
-        ensures few { result.walked ≤ length self.now.pieces }
+        ensures at { IsCursorAt pos self.now.pieces result }
         ensures near { IsFingerAt self.now pos → result.walked ≡ 0 }
     {
         if pos == self.list.len {

@@ -1,6 +1,7 @@
 //! The buffer.
-ghost use Rattle.std.specs.Prelude.{◌≡◌, ◌+◌, ◌^◌, ◌<◌, ◌≤◌, ◌∷◌, ◌++◌, [], length, drop, IfOk, OnOk, OnErr};
-ghost use Rattle.piece_ring.specs.Flat.{flat, characters_of, IsWhole};
+ghost use Rattle.std.specs.Prelude.{◌≡◌, ◌+◌, ◌^◌, ◌<◌, ◌≤◌, ◌∷◌, ◌++◌, [], length, IfOk};
+ghost use Rattle.piece_ring.specs.Flat.{flat, characters_of};
+ghost use Rattle.piece_ring.specs.Promises.{ChangesTo, HasRoomFor, IsCursorAt};
 
 use crate::{NoMemory, Piece};
 use piece_ring::{Cursor, Ring};
@@ -55,9 +56,7 @@ impl Buffer {
     /// A cursor before the character at `pos`, or at the end.
     pub fn cursor(&self, pos: u32) -> Cursor<'_>
         requires { pos ≤ length (flat self.now) }
-        ensures text { flat result.left ≡ drop pos (flat self.now) }
-        ensures whole { pos ≡ 0 → result.left ≡ self.now }
-        ensures few { result.walked ≤ length self.now }
+        ensures { IsCursorAt pos self.now result }
     {
         self.ring.cursor(pos)
     }
@@ -65,8 +64,7 @@ impl Buffer {
     /// Adds its characters to another buffer, at the end, and keeps them. If memory is refused the other buffer stays.
     pub fn copy_to(&self, other: &mut Buffer) -> Result<(), NoMemory>
         requires fits { length (flat other.old) + length (flat self.now) < 2 ^ 32 }
-        ensures added { OnOk result (flat other.new ≡ flat other.old ++ flat self.now) }
-        ensures refused { OnErr result (flat other.new ≡ flat other.old) }
+        ensures added { ChangesTo (flat other.old ++ flat self.now) result (flat other.old) (flat other.new) }
     {
         let copy = self.ring.copy(0, self.ring.len())?;
         other.append(copy)
@@ -81,10 +79,8 @@ impl Buffer {
 
     /// Adds a piece at the end. If memory is refused the buffer stays.
     pub fn add(&mut self, piece: Piece) -> Result<(), NoMemory>
-        requires whole { IsWhole piece }
-        requires fits { length (flat self.old) + piece.len < 2 ^ 32 }
-        ensures added { OnOk result (flat self.new ≡ flat self.old ++ characters_of piece) }
-        ensures refused { OnErr result (flat self.new ≡ flat self.old) }
+        requires { HasRoomFor piece self.old }
+        ensures added { ChangesTo (flat self.old ++ characters_of piece) result (flat self.old) (flat self.new) }
     {
         self.ring.add(piece)
     }
@@ -92,10 +88,8 @@ impl Buffer {
     /// Puts a piece at the end as it is, also where it could be one with the piece before it. If memory is refused the
     /// pieces stay.
     pub fn push(&mut self, piece: Piece) -> Result<(), NoMemory>
-        requires whole { IsWhole piece }
-        requires fits { length (flat self.old) + piece.len < 2 ^ 32 }
-        ensures pieces { OnOk result (self.new ≡ self.old ++ piece ∷ []) }
-        ensures refused { OnErr result (self.new ≡ self.old) }
+        requires { HasRoomFor piece self.old }
+        ensures { ChangesTo (self.old ++ piece ∷ []) result self.old self.new }
     {
         self.ring.push(piece)
     }
@@ -104,8 +98,7 @@ impl Buffer {
     /// refused the buffer stays.
     pub fn take(&mut self) -> Result<Ring, NoMemory>
         ensures taken { IfOk result (λ r. flat r.pieces ≡ flat self.old) }
-        ensures left { OnOk result (flat self.new ≡ []) }
-        ensures refused { OnErr result (flat self.new ≡ flat self.old) }
+        ensures left { ChangesTo [] result (flat self.old) (flat self.new) }
     {
         let none = Ring::new(self.ring.alloc())?;
         Ok(replace(&mut self.ring, none))
@@ -123,8 +116,7 @@ impl Buffer {
     /// ring is gone.
     pub fn append(&mut self, ring: Ring) -> Result<(), NoMemory>
         requires fits { length (flat self.old) + length (flat ring.pieces) < 2 ^ 32 }
-        ensures added { OnOk result (flat self.new ≡ flat self.old ++ flat ring.pieces) }
-        ensures refused { OnErr result (flat self.new ≡ flat self.old) }
+        ensures added { ChangesTo (flat self.old ++ flat ring.pieces) result (flat self.old) (flat self.new) }
     {
         let end = self.ring.len();
         match self.ring.splice(end, ring) {

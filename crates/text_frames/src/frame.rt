@@ -1,9 +1,8 @@
-//! A frame, and the rules by which it follows its text.
-ghost use Rattle.std.specs.Prelude.{◌≡◌, ◌⊎◌, ◌+◌, ◌^◌, ◌<◌, ◌≤◌, ◌==◌, Some, length};
-ghost use Rattle.std.specs.Prelude.{IfOk, IfSome, OnOk, OnErr, if◌then◌else◌};
-ghost use Rattle.readers_scanners.specs.Words.{CountsFault, OnlyReads, flat, AreWithin, bytes};
+//! A frame, and where it begins after a change of its text.
+ghost use Rattle.std.specs.Prelude.{◌≡◌, ◌⊎◌, ◌+◌, ◌<◌, ◌≤◌, Some, length, IfOk};
+ghost use Rattle.readers_scanners.specs.Words.{ReadsOrFails, flat, AreWithin, bytes};
 ghost use Rattle.text_frames.specs.Cells.{IsPositionAt, IsCellOf};
-ghost use Rattle.text_frames.specs.Rules.{moved, changed_org, shown_org, IsFollowed, IsBrought};
+ghost use Rattle.text_frames.specs.Rules.{moved, changed_org, shown_org};
 
 use crate::lines::{ends_between, line_above, line_start};
 use crate::place::{self, cell_in, column_below};
@@ -56,64 +55,6 @@ impl Frame {
         self.org = org;
     }
 
-    /// Follows a change of its text: at `p` so many characters were inserted, or so many from `p` on deleted. `text` is
-    /// the changed text. The frame loses its caret and its selection. `org` stays where it is at most `p`; else it goes
-    /// with its character, or to `p` where that was deleted, and from there to the start of its line. Where nothing was
-    /// inserted or deleted nothing changes. `Fault`: the source failed in this call; the frame is as it was.
-    pub fn update<S: CharSource>(
-        &mut self,
-        text: &Text,
-        p: u32,
-        inserted: u32,
-        deleted: u32,
-        source: &mut S,
-    ) -> Result<(), Fault>
-        requires one { (inserted ≡ 0) ⊎ (deleted ≡ 0) }
-        requires place { p + inserted ≤ length (flat text.now) }
-        requires org { self.old.org + inserted ≤ length (flat text.now) + deleted }
-        requires offsets { AreWithin (length (S.characters source.old)) (flat text.now) }
-        ensures followed { OnOk result (IsFollowed (S.honest source.old) (S.characters source.old) (flat text.now)
-            p inserted deleted self.old self.new) }
-        ensures refused { OnErr result (self.new ≡ self.old) }
-        ensures reads { OnlyReads S.characters S.failures S.honest S.same_ground source.old source.new }
-        ensures cause { CountsFault result (S.failures source.old) (S.failures source.new) }
-    {
-        if inserted == 0 && deleted == 0 {
-            return Ok(());
-        }
-        let followed = org_after(self.org, text, p, inserted, deleted, source)?;
-        self.org = followed;
-        self.caret = None;
-        self.selection = None;
-        Ok(())
-    }
-
-    /// Brings the position `p` into the `h` rows shown: where it is above `org`, or its line isn't in one of these
-    /// rows, `org` becomes the start of the line that stands `h / 2` lines above that of `p`, 0 where there are fewer.
-    /// The text is read from `org` to `p`, or to less than 512 characters past the end of these rows, and then from `p`
-    /// back to that start. `Fault`: the source failed in this call; the frame is as it was.
-    pub fn show<S: CharSource>(
-        &mut self,
-        text: &Text,
-        h: u8,
-        p: u32,
-        source: &mut S,
-    ) -> Result<(), Fault>
-        requires rows { h ≤ 31 }
-        requires place { p ≤ length (flat text.now) }
-        requires org { self.old.org ≤ length (flat text.now) }
-        requires offsets { AreWithin (length (S.characters source.old)) (flat text.now) }
-        ensures brought { OnOk result (IsBrought (S.honest source.old) (S.characters source.old) (flat text.now)
-            h p self.old self.new) }
-        ensures refused { OnErr result (self.new ≡ self.old) }
-        ensures reads { OnlyReads S.characters S.failures S.honest S.same_ground source.old source.new }
-        ensures cause { CountsFault result (S.failures source.old) (S.failures source.new) }
-    {
-        let org = org_to_show(self.org, text, h, p, source)?;
-        self.org = org;
-        Ok(())
-    }
-
     /// The position at the cell of the column `col` and the row `row`, counted from 0: of the character whose cells
     /// hold the column; past the last character of a line the line's end; in a row without a line the text's end. A
     /// column past the frame's is one of the line all the same. `Fault`: the source failed in this call.
@@ -128,8 +69,7 @@ impl Frame {
         requires offsets { AreWithin (length (S.characters source.old)) (flat text.now) }
         ensures position { IfOk result (IsPositionAt (S.honest source.old) (S.characters source.old) (flat text.now)
             self.now.org col row) }
-        ensures reads { OnlyReads S.characters S.failures S.honest S.same_ground source.old source.new }
-        ensures cause { CountsFault result (S.failures source.old) (S.failures source.new) }
+        ensures source { ReadsOrFails S.CharSource result source.old source.new }
     {
         let pos = place::position_at(text, self.org, col, row, source)?;
         Ok(pos)
@@ -153,8 +93,7 @@ impl Frame {
         requires offsets { AreWithin (length (S.characters source.old)) (flat text.now) }
         ensures cell { IfOk result (IsCellOf (S.honest source.old) (S.characters source.old) (flat text.now)
             w h self.now.org p) }
-        ensures reads { OnlyReads S.characters S.failures S.honest S.same_ground source.old source.new }
-        ensures cause { CountsFault result (S.failures source.old) (S.failures source.new) }
+        ensures source { ReadsOrFails S.CharSource result source.old source.new }
     {
         if p < self.org {
             return Ok(None);
@@ -165,8 +104,10 @@ impl Frame {
     }
 }
 
-/// Where a frame that began at `org` begins after a change of its text, as `update` has it. `Fault`: the source failed
-/// in this call.
+/// Where a frame that began at `org` begins after a change of its text: at `p` so many characters were inserted, or so
+/// many from `p` on deleted. `text` is the changed text. `org` stays where it is at most `p`; else it goes with its
+/// character, or to `p` where that was deleted, and from there to the start of its line. `Fault`: the source failed in
+/// this call.
 pub fn org_after<S: CharSource>(
     org: u32,
     text: &Text,
@@ -182,8 +123,7 @@ pub fn org_after<S: CharSource>(
     ensures exact { IfOk result (λ new. S.honest source.old
         → new ≡ changed_org (bytes (S.characters source.old) (flat text.now)) p inserted deleted org) }
     ensures range { IfOk result (λ new. new ≤ length (flat text.now)) }
-    ensures reads { OnlyReads S.characters S.failures S.honest S.same_ground source.old source.new }
-    ensures cause { CountsFault result (S.failures source.old) (S.failures source.new) }
+    ensures source { ReadsOrFails S.CharSource result source.old source.new }
 {
     if org <= p {
         return Ok(org);
@@ -212,8 +152,10 @@ fn place_after(org: u32, p: u32, inserted: u32, deleted: u32, len: u32) -> u32
     }
 }
 
-/// Where a frame of `h` rows that began at `org` begins so that the position `p` is shown, as `show` has it. `Fault`:
-/// the source failed in this call.
+/// Where a frame of `h` rows that began at `org` begins so that the position `p` is shown: at `org` where the line of
+/// `p` is in one of its rows, else at the start of the line that stands `h / 2` lines above that of `p`, or at 0 where
+/// there are fewer. The text is read from `org` to `p`, or to less than 512 characters past the end of these rows, and
+/// then from `p` back to that start. `Fault`: the source failed in this call.
 pub fn org_to_show<S: CharSource>(
     org: u32,
     text: &Text,
@@ -227,8 +169,7 @@ pub fn org_to_show<S: CharSource>(
     ensures exact { IfOk result (λ new. S.honest source.old
         → new ≡ shown_org (bytes (S.characters source.old) (flat text.now)) h p org) }
     ensures range { IfOk result (λ new. new ≤ length (flat text.now)) }
-    ensures reads { OnlyReads S.characters S.failures S.honest S.same_ground source.old source.new }
-    ensures cause { CountsFault result (S.failures source.old) (S.failures source.new) }
+    ensures source { ReadsOrFails S.CharSource result source.old source.new }
 {
     if p < org {
         let start = line_above(text, h / 2, p, source)?;

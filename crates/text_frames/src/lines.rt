@@ -1,6 +1,7 @@
 //! Where lines start, read from a position backwards, and how many end on the way to one.
 ghost use Rattle.std.specs.Prelude.{◌≡◌, ◌+◌, ◌-◌, ◌<◌, ◌≤◌, nat_lt, length, IfOk, IfSome, MatchOption, OnOk};
-ghost use Rattle.readers_scanners.specs.Words.{CountsFault, OnlyReads, flat, AreWithin, bytes};
+ghost use Rattle.readers_scanners.specs.Words.{ReadsOrFails, flat, AreWithin, bytes};
+ghost use Rattle.text_frames.specs.Walks.{CanWalk};
 ghost use Rattle.text_frames.specs.Lines.{line_start, line_above, ends_between};
 ghost use Rattle.text_frames.specs.Cells.{row_start};
 
@@ -19,8 +20,7 @@ pub fn line_start<S: CharSource>(text: &Text, pos: u32, source: &mut S) -> Resul
     ensures start { IfOk result (λ start. S.honest source.old
         → start ≡ line_start (bytes (S.characters source.old) (flat text.now)) pos) }
     ensures range { IfOk result (λ start. start ≤ pos) }
-    ensures reads { OnlyReads S.characters S.failures S.honest S.same_ground source.old source.new }
-    ensures cause { CountsFault result (S.failures source.old) (S.failures source.new) }
+    ensures source { ReadsOrFails S.CharSource result source.old source.new }
 {
     let mut reader = BackReader::open(text, pos);
     let start = to_line_start(&mut reader, source)?;
@@ -36,8 +36,7 @@ fn to_line_start<S: CharSource>(reader: &mut BackReader<'_>, source: &mut S) -> 
     ensures range { IfOk result (λ start. start ≤ reader.old.position) }
     ensures moves { IfOk result (λ start. reader.new.position ≡ start - 1) }
     ensures text { OnOk result (reader.new.text ≡ reader.old.text) }
-    ensures reads { OnlyReads S.characters S.failures S.honest S.same_ground source.old source.new }
-    ensures cause { CountsFault result (S.failures source.old) (S.failures source.new) }
+    ensures source { ReadsOrFails S.CharSource result source.old source.new }
 {
     for at in (0..reader.pos()).rev() {
         let byte = reader.previous_byte(source)?;
@@ -56,13 +55,11 @@ pub(crate) fn line_above<S: CharSource>(
     pos: u32,
     source: &mut S,
 ) -> Result<u32, Fault>
-    requires within { pos ≤ length (flat text.now) }
-    requires offsets { AreWithin (length (S.characters source.old)) (flat text.now) }
+    requires { CanWalk (S.characters source.old) (flat text.now) 0 pos }
     ensures start { IfOk result (λ start. S.honest source.old
         → start ≡ line_above (bytes (S.characters source.old) (flat text.now)) lines pos) }
     ensures range { IfOk result (λ start. start ≤ pos) }
-    ensures reads { OnlyReads S.characters S.failures S.honest S.same_ground source.old source.new }
-    ensures cause { CountsFault result (S.failures source.old) (S.failures source.new) }
+    ensures source { ReadsOrFails S.CharSource result source.old source.new }
 {
     let mut reader = BackReader::open(text, pos);
     for above in 0..lines {
@@ -82,15 +79,12 @@ pub(crate) fn ends_between<S: CharSource>(
     pos: u32,
     source: &mut S,
 ) -> Result<u32, Fault>
-    requires order { org ≤ pos }
-    requires within { pos ≤ length (flat text.now) }
-    requires offsets { AreWithin (length (S.characters source.old)) (flat text.now) }
-    ensures few { IfOk result (λ ends. S.honest source.old
-        → nat_lt ends h ≡ nat_lt (ends_between (bytes (S.characters source.old) (flat text.now)) org pos) h) }
+    requires { CanWalk (S.characters source.old) (flat text.now) org pos }
     ensures exact { IfOk result (λ ends. S.honest source.old → ends < h
         → ends ≡ ends_between (bytes (S.characters source.old) (flat text.now)) org pos) }
-    ensures reads { OnlyReads S.characters S.failures S.honest S.same_ground source.old source.new }
-    ensures cause { CountsFault result (S.failures source.old) (S.failures source.new) }
+    ensures few { IfOk result (λ ends. S.honest source.old
+        → nat_lt ends h ≡ nat_lt (ends_between (bytes (S.characters source.old) (flat text.now)) org pos) h) }
+    ensures source { ReadsOrFails S.CharSource result source.old source.new }
 {
     let mut reader = Reader::open(text, org);
     let mut ends = 0;
@@ -115,15 +109,12 @@ pub(crate) fn row_start<S: CharSource>(
     pos: u32,
     source: &mut S,
 ) -> Result<Option<u32>, Fault>
-    requires order { org ≤ pos }
-    requires within { pos ≤ length (flat text.now) }
-    requires offsets { AreWithin (length (S.characters source.old)) (flat text.now) }
+    requires { CanWalk (S.characters source.old) (flat text.now) org pos }
     ensures start { IfOk result (λ start. S.honest source.old → MatchOption start
         (row_start (bytes (S.characters source.old) (flat text.now)) org pos + most ≤ pos)
         (λ start. start ≡ row_start (bytes (S.characters source.old) (flat text.now)) org pos)) }
     ensures range { IfOk result (λ start. IfSome start (λ start. start ≤ pos)) }
-    ensures reads { OnlyReads S.characters S.failures S.honest S.same_ground source.old source.new }
-    ensures cause { CountsFault result (S.failures source.old) (S.failures source.new) }
+    ensures source { ReadsOrFails S.CharSource result source.old source.new }
 {
     let mut reader = BackReader::open(text, pos);
     let low = org.max(pos.saturating_sub(most as u32));

@@ -1,6 +1,6 @@
 //! The rows of a frame, read one after another.
 ghost use Rattle.std.specs.Prelude.{◌≡◌, ◌≤◌, ◌<◌, ℕ, List, ⊤, length, IfOk, OnOk};
-ghost use Rattle.readers_scanners.specs.Words.{CountsFault, OnlyReads, flat, AreWithin};
+ghost use Rattle.readers_scanners.specs.Words.{ReadsOrFails, flat, AreWithin};
 ghost use Rattle.text_frames.specs.Row.{IsRow};
 ghost use Rattle.text_frames.specs.Rows.{AreRows};
 
@@ -56,8 +56,7 @@ impl Frame {
             w self.now.org row line.items) }
         ensures read { OnOk result (AreRows (S.honest source.new) (S.characters source.new) (flat text.now)
             self.now.org rows.new) }
-        ensures reads { OnlyReads S.characters S.failures S.honest S.same_ground source.old source.new }
-        ensures cause { CountsFault result (S.failures source.old) (S.failures source.new) }
+        ensures source { ReadsOrFails S.CharSource result source.old source.new }
     {
         if row < rows.next {
             return cells_of_row(text, self.org, w, row, source);

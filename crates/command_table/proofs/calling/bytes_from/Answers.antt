@@ -20,7 +20,7 @@ loop-at-preserved g c =
       exact = λ h.
           let there =
           seen s.characters s.failures s.honest s.same_ground laws.ground_self laws.ground_through _ _ _ _ _
-          before.way c.in_ok-byte.byte c.in_ok-byte.ensures.byte h in
+          before.way c.in_ok-byte.byte c.in_ok-byte.ensures.there h in
           c.push.ensures.items ∙ one_more bs c.loop-at.window.items c.args.start c.loop-at.at c.in_ok-byte.byte
           (omega (arith, before.count)) (before.exact h) there;
     }

@@ -11,22 +11,21 @@ pub put_piece-requires-clause-inside : goal.put_piece-requires-clause-inside
 put_piece-requires-clause-inside g c =
     piece_inside c.in-Some.ensures.pieces c.in-Some.ensures.whole c.loop-piece.invariant.inside
 
-pub add-requires-clause-whole : goal.add-requires-clause-whole
-add-requires-clause-whole g c =
-    let some = c.in-Some.ensures.whole.0 in (
-      omega (arith, some),
-      omega (
-        arith,
-        piece_long c.in-Some.ensures.pieces,
-        c.requires.room,
-        c.loop-piece.invariant.longer,
-        c.len-off.ensures,
-      ),
-    )
-
-pub add-requires-clause-fits : goal.add-requires-clause-fits
-add-requires-clause-fits g c = omega
-    (arith, piece_long c.in-Some.ensures.pieces, c.requires.room, c.loop-piece.invariant.counted)
+pub add-requires : goal.add-requires
+add-requires g c =
+    let some = c.in-Some.ensures.whole.0 in record {
+      whole = (
+        omega (arith, some),
+        omega (
+          arith,
+          piece_long c.in-Some.ensures.pieces,
+          c.requires.room,
+          c.loop-piece.invariant.longer,
+          c.len-off.ensures,
+        ),
+      );
+      fits = omega (arith, piece_long c.in-Some.ensures.pieces, c.requires.room, c.loop-piece.invariant.counted);
+    }
 
 pub loop-piece-preserved : goal.loop-piece-preserved
 loop-piece-preserved g c =

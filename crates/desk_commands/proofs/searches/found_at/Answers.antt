@@ -13,7 +13,7 @@ returns-then-eq-clause-found g c h =
     let text = flat c.args.text.now in
     let bs = bytes (s.characters c.args.source.now) text in
     let there = seen s.characters s.failures s.honest s.same_ground laws.ground_self laws.ground_through _ _ _ _ _
-    now.way c.in_ok-next_byte.field-0 c.in_ok-next_byte.ensures.byte h in
+    now.way c.in_ok-next_byte.field-0 c.in_ok-next_byte.ensures.there h in
     let all = bytes_long (s.characters c.args.source.now) text in
     let long : length c.push.new.self.items ≡ length c.args.pattern.now =
     omega (arith, c.len.ensures.value, c.if-len-pattern.true) in
@@ -37,7 +37,7 @@ loop-preserved g c =
     = λ h. sought_on bs c.args.pattern.now c.args.pos c.loop.place c.loop.window.items (now.sought h)
     c.in_ok-next_byte.field-0 c.push.new.self.items c.push.ensures.items
     (seen s.characters s.failures s.honest s.same_ground laws.ground_self laws.ground_through _ _ _ _ _
-    now.way c.in_ok-next_byte.field-0 c.in_ok-next_byte.ensures.byte h) in
+    now.way c.in_ok-next_byte.field-0 c.in_ok-next_byte.ensures.there h) in
     let Way : ℕ → Type 0 = λ at. IsAt s.characters s.failures s.honest s.same_ground c.args.source.now
     c.next_byte.new.source text c.next_byte.new.self at in
     elim c.if-len-pattern.branch [

@@ -17,8 +17,8 @@ returns-clause-told g c =
           ∙ start_shown _ _ c.main_frame-frame.ensures c.main_text-text.ensures c.text_width.ensures.some
           c.rows_of.ensures.rows c.requires.at.within c.in_ok-begin.ensures.from (begin.exact h) (begin.reads.same h)
           (c.in_ok-cell.ensures.cell.exact (begin.reads.still h)) refl refl;
-      reads = read_on _ _ _ _ g.met.S.CharSource.ground_through _ _ _ begin.reads c.in_ok-cell.ensures.reads;
-      cause = c.in_ok-cell.ensures.cause ∙ begin.cause;
+      reads = read_on _ _ _ _ g.met.S.CharSource.ground_through _ _ _ begin.reads c.in_ok-cell.ensures.source.reads;
+      cause = c.in_ok-cell.ensures.source.cause ∙ begin.cause;
     }
 
 pub returns-clause-within : goal.returns-clause-within

@@ -12,8 +12,8 @@ returns-clause-told g c = record {
   exact = λ h. c.in_ok-start.ensures.start h
       ∙ share_read _ _ _ _ c.main_text-text.ensures _ c.args.row _ _ c.len.ensures c.rows_of.ensures.rows
       c.share-pos.ensures.value;
-  reads = c.in_ok-start.ensures.reads;
-  cause = c.in_ok-start.ensures.cause;
+  reads = c.in_ok-start.ensures.source.reads;
+  cause = c.in_ok-start.ensures.source.cause;
 }
 
 pub returns-clause-within : goal.returns-clause-within

@@ -26,8 +26,8 @@ returns-clause-told g c =
       exact = IfOk-weaker c.pos_at.result _ _ (λ p fact h. fact.exact h
           ∙ (λ k. position_at (bytes old (flat (c.text_called-menu.ensures k))) 0 (c.menu_column-column.ensures k) 0)
           ∙ menu_read old d c.args.id c.args.x) c.pos_at.ensures.position;
-      reads = c.pos_at.ensures.reads;
-      cause = c.pos_at.ensures.cause;
+      reads = c.pos_at.ensures.source.reads;
+      cause = c.pos_at.ensures.source.cause;
     }
 
 pub returns-clause-within : goal.returns-clause-within

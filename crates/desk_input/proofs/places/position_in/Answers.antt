@@ -15,8 +15,8 @@ pub returns-clause-told : goal.returns-clause-told
 returns-clause-told g c = record {
   exact = λ h. c.in_ok-pos.ensures.position.exact h
       ∙ position_read _ _ _ _ _ c.main_frame-frame.ensures c.main_text-text.ensures c.args.x c.args.row;
-  reads = c.in_ok-pos.ensures.reads;
-  cause = c.in_ok-pos.ensures.cause;
+  reads = c.in_ok-pos.ensures.source.reads;
+  cause = c.in_ok-pos.ensures.source.cause;
 }
 
 pub returns-clause-from : goal.returns-clause-from

@@ -16,8 +16,8 @@ loop-above-preserved g c =
         place = refl;
         same = passed.text ∙ way.same;
         reads = read_on s.characters s.failures s.honest s.same_ground laws.ground_through _ _ _ way.reads
-            passed.reads;
-        calm = passed.cause ∙ way.calm;
+            passed.source.reads;
+        calm = passed.source.cause ∙ way.calm;
       };
       range = omega (arith, moves, low, range);
       exact = λ h.

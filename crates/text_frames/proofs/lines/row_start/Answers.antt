@@ -11,7 +11,7 @@ returns-then-byte-eq-CARRIAGE_RETURN-clause-start g c h =
     let s = g.S.CharSource in let laws = g.met.S.CharSource in let before = c.loop-at.invariant in
     let bs = bytes (s.characters c.args.source.now) (flat c.args.text.now) in
     let there = seen_before s.characters s.failures s.honest s.same_ground laws.ground_self laws.ground_through
-    _ _ _ _ _ before.way c.in_ok-byte.byte _ c.in_ok-byte.ensures.moves c.in_ok-byte.ensures.byte h in
+    _ _ _ _ _ before.way c.in_ok-byte.byte _ c.in_ok-byte.ensures.moves c.in_ok-byte.ensures.there h in
     let test = c.loop-at-test.true in let low = c.max-low.ensures in
     let some : 0 < c.loop-at.at = omega (arith, test) in
     starts_at bs c.args.org c.args.pos (c.loop-at.at - 1 + 1)
@@ -30,7 +30,7 @@ loop-at-preserved g c =
       floor = omega (arith, test);
       exact = λ h.
           let there = seen_before s.characters s.failures s.honest s.same_ground laws.ground_self laws.ground_through
-          _ _ _ _ _ before.way c.in_ok-byte.byte _ c.in_ok-byte.ensures.moves c.in_ok-byte.ensures.byte h in
+          _ _ _ _ _ before.way c.in_ok-byte.byte _ c.in_ok-byte.ensures.moves c.in_ok-byte.ensures.there h in
           let some : 0 < c.loop-at.at = omega (arith, test) in
           before.exact h
           ∙ starts_before (bytes (s.characters c.args.source.now) (flat c.args.text.now)) c.loop-at.at c.in_ok-byte.byte

@@ -8,7 +8,7 @@ pub returns-then-byte-eq-CARRIAGE_RETURN-clause-start : goal.returns-then-byte-e
 returns-then-byte-eq-CARRIAGE_RETURN-clause-start g c h =
     let s = g.S.CharSource in let laws = g.met.S.CharSource in let before = c.loop-at.invariant in
     let there = seen_before s.characters s.failures s.honest s.same_ground laws.ground_self laws.ground_through
-    _ _ _ _ _ before.way c.in_ok-byte.byte _ c.in_ok-byte.ensures.moves c.in_ok-byte.ensures.byte h in
+    _ _ _ _ _ before.way c.in_ok-byte.byte _ c.in_ok-byte.ensures.moves c.in_ok-byte.ensures.there h in
     starts_here (bytes (s.characters c.args.source.now) c.args.reader.now.text) c.loop-at.at c.in_ok-byte.byte there
     c.loop-at-test.true c.if-byte-eq-CARRIAGE_RETURN.true ∙ sym (before.exact h)
 
@@ -23,7 +23,7 @@ loop-at-preserved g c =
       range = omega (arith, range);
       exact = λ h.
           let there = seen_before s.characters s.failures s.honest s.same_ground laws.ground_self laws.ground_through
-          _ _ _ _ _ before.way c.in_ok-byte.byte _ c.in_ok-byte.ensures.moves c.in_ok-byte.ensures.byte h in
+          _ _ _ _ _ before.way c.in_ok-byte.byte _ c.in_ok-byte.ensures.moves c.in_ok-byte.ensures.there h in
           before.exact h
           ∙ starts_before (bytes (s.characters c.args.source.now) c.args.reader.now.text) c.loop-at.at c.in_ok-byte.byte
           there c.loop-at-test.true c.if-byte-eq-CARRIAGE_RETURN.false;

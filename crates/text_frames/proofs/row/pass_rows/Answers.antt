@@ -8,4 +8,4 @@ loop-at-preserved g c =
     let low = c.loop-at-test.true in let len = c.len-len.ensures in let above = c.if-here-row.false in
     skip_on s.characters s.failures s.honest s.same_ground laws.ground_self laws.ground_through _ _ _ _ _ _ _ _ _ _
     c.loop-at.here.column c.in_ok-byte.byte _ _ c.loop-at.invariant (omega (arith, above)) (omega (arith, low, len))
-    read.byte read.moves read.text read.reads read.cause c.pass.ensures.row c.pass.ensures.column
+    read.there read.moves read.text read.reads read.cause c.pass.ensures.row c.pass.ensures.column

@@ -6,7 +6,7 @@ pub loop-at-init : goal.loop-at-init
 loop-at-init g c =
     let s = g.S.CharSource in let laws = g.met.S.CharSource in let passed = c.in_ok-pass_rows.ensures in record {
       so_far = row_begun s.characters s.failures s.honest s.same_ground laws.ground_self laws.ground_through _ _ _ _ _ _
-          _ _ _ _ _ passed.reads passed.cause passed.read c.pos-at.ensures.position c.new-line.ensures;
+          _ _ _ _ _ passed.source.reads passed.source.cause passed.read c.pos-at.ensures.position c.new-line.ensures;
       high = passed.read.high;
     }
 
@@ -17,7 +17,7 @@ loop-at-preserved g c =
     record {
       so_far = row_on s.characters s.failures s.honest s.same_ground laws.ground_self laws.ground_through _ _ _ _ _ _ _ _
           _ _ _ _ _ _ (c.in_ok-byte.byte, c.in_ok-byte.look) _ _ _ c.loop-at.invariant.so_far c.loop-at.invariant.high
-          (omega (arith, low, len)) read.character read.moves read.text read.reads read.cause
+          (omega (arith, low, len)) read.there read.moves read.text read.reads read.cause
           c.cells_taken-count.ensures c.fill.ensures c.pass.ensures.row c.pass.ensures.column;
       high = more_high _ _ _ (sym c.is_done.ensures ∙ c.if-is_done.false);
     }
@@ -29,7 +29,7 @@ returns-then-is_done-clause-cells g c =
     row_done s.characters s.failures s.honest s.same_ground _ _ _ _ _ _ _ _ _ _ _
     (row_on s.characters s.failures s.honest s.same_ground laws.ground_self laws.ground_through _ _ _ _ _ _ _ _
     _ _ _ _ _ _ (c.in_ok-byte.byte, c.in_ok-byte.look) _ _ _ c.loop-at.invariant.so_far c.loop-at.invariant.high
-    (omega (arith, low, len)) read.character read.moves read.text read.reads read.cause
+    (omega (arith, low, len)) read.there read.moves read.text read.reads read.cause
     c.cells_taken-count.ensures c.fill.ensures c.pass.ensures.row c.pass.ensures.column)
     (sym c.is_done.ensures ∙ c.if-is_done.true)
 
@@ -40,7 +40,7 @@ returns-then-is_done-clause-read g c =
     read_on s.characters s.failures s.honest s.same_ground _ _ _ _ _ _ _ _ _ _ _
     (row_on s.characters s.failures s.honest s.same_ground laws.ground_self laws.ground_through _ _ _ _ _ _ _ _
     _ _ _ _ _ _ (c.in_ok-byte.byte, c.in_ok-byte.look) _ _ _ c.loop-at.invariant.so_far c.loop-at.invariant.high
-    (omega (arith, low, len)) read.character read.moves read.text read.reads read.cause
+    (omega (arith, low, len)) read.there read.moves read.text read.reads read.cause
     c.cells_taken-count.ensures c.fill.ensures c.pass.ensures.row c.pass.ensures.column)
     (done_high _ _ _ _ c.pass.ensures.row c.loop-at.invariant.high)
 

@@ -8,7 +8,7 @@ use Rattle.text_frames.proofs.frame.Frame.cell_of.Goals as goal
 
 pub returns-clause-cell : goal.returns-clause-cell
 returns-clause-cell g c =
-    let s = g.S.CharSource in let text = flat c.args.text.now in let reads = c.in_ok-ends.ensures.reads in
+    let s = g.S.CharSource in let text = flat c.args.text.now in let reads = c.in_ok-ends.ensures.source.reads in
     let behind = c.if-p-self.false in
     let from : c.args.self.now.org ≤ c.args.p = omega (arith, behind) in
     record {
