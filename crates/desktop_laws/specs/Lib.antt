@@ -1,3 +1,4 @@
+pub mod Rewriting
 pub mod TableLaws
 pub mod SeenLaws
 pub mod TextLaws
@@ -18,7 +19,6 @@ pub mod ChangeLaws
 pub mod EditLaws
 pub mod ViewLaws
 pub mod MarkLaws
-pub mod Rewriting
 pub mod RewritingLaws
 pub mod AlikeLaws
 pub mod CollectLaws

@@ -1,13 +1,21 @@
 -- Texts that are written anew: their characters stand one after another, in the looks that they have. Where they stand
 -- is open to a reader of the desktop, which sees bytes alone; here it is text after text, as numbers and names rise.
-use Rattle.std.specs.Prelude.{◌≡◌, ℕ, suc, ◌+◌, List, [], ◌∷◌, ◌++◌, length}
+use Rattle.std.specs.Prelude.{◌≡◌, ℕ, suc, ◌+◌, List, [], ◌∷◌, ◌++◌, length, sum_by}
+use Rattle.std.specs.Map.{values_of}
 use Rattle.piece_ring.specs.declared.piece.Piece.{Piece}
 use Rattle.piece_ring.specs.Flat.{flat}
 use Rattle.piece_ring.specs.Text.{Text}
 use Rattle.readers_scanners.specs.Reading.{bytes}
 use Rattle.desktop_definitions.specs.Tables.{Texts, Files, with_values}
 use Rattle.desktop_definitions.specs.Desktop.{KeptDesktop}
-use Rattle.desktop_laws.specs.TableLaws.{kept_lengths}
+
+-- how many characters a text has that is kept
+abbrev pub kept_length : List Piece → ℕ
+kept_length pieces = length (flat pieces)
+
+-- how many characters the texts of a table have that is kept
+abbrev pub kept_lengths : {K : Type 0} → List (K × List Piece) → ℕ
+kept_lengths table = sum_by (λ pieces. length (flat pieces)) (values_of table)
 
 -- the characters of a text at the offsets from n on, in their looks
 abbrev pub laid : ℕ → Text ℕ → Text ℕ

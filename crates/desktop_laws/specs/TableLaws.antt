@@ -1,4 +1,5 @@
 -- Laws of tables: what is done to a table is done to what is seen of it, and what a put leaves.
+pub use Rattle.desktop_laws.specs.Rewriting.{kept_length, kept_lengths}
 use Rattle.std.specs.Prelude.{◌≡◌, ℕ, ◌+◌, ◌≤◌, ◌||◌, nat_lt, Bool, true, false, cond, List, [], ◌∷◌, length}
 use Rattle.std.specs.Prelude.{sum_by, slice_index, Option, Some, None, is_some}
 use Rattle.std.specs.Option.{option_map, unwrap_or}
@@ -60,14 +61,6 @@ pub length_seen_text : (characters : List ℕ) (pieces : List Piece)
     → length (seen_text characters pieces) ≡ length (flat pieces)
 length_seen_text characters pieces = length-map {B = ℕ × Look} (flat pieces)
     (λ (c : ℕ × Look). (slice_index characters c.0, c.1))
-
--- how many characters a text has that is kept
-abbrev pub kept_length : List Piece → ℕ
-kept_length pieces = length (flat pieces)
-
--- how many characters the texts of a table have that is kept
-abbrev pub kept_lengths : {K : Type 0} → List (K × List Piece) → ℕ
-kept_lengths table = sum_by (λ pieces. length (flat pieces)) (values_of table)
 
 pub lengths_seen : {K : Type 0} (characters : List ℕ) (table : List (K × List Piece))
     → lengths (seen_table characters table) ≡ kept_lengths table
