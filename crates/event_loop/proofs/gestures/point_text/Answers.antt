@@ -1,5 +1,6 @@
 use Rattle.std.proofs.Common.{rules}
-use Rattle.desktop_definitions.specs.Gesture.{pointed}
+use Rattle.desktop_definitions.specs.Gesture.{pointed, done_with}
+use Rattle.desktop_definitions.specs.Unread.{gesture_needs_no_byte}
 use Rattle.desk_core.specs.Kept.{kept}
 use Rattle.desk_core.proofs.ArmLemmas.{rest_done}
 use Rattle.desk_input.proofs.StillLemmas.{does_unread}
@@ -11,8 +12,8 @@ unfolding pointed
 returns-in-Left g c = search rules
 
 pub returns-in-Right : goal.returns-in-Right
-unfolding pointed
-returns-in-Right g c = search rules
+unfolding pointed done_with gesture_needs_no_byte
+returns-in-Right g c = record { answered = search rules; unread = search rules; uses = c.draw.ensures.uses }
 
 pub returns-in_default : goal.returns-in_default
 returns-in_default g c =
