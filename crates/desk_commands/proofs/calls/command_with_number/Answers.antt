@@ -1,5 +1,5 @@
 use Rattle.std.specs.Prelude.{ℕ, ℤ, Result, Ok, IfErr}
-use Rattle.std.proofs.Common.{rules, ap, sym, subst, ◌∙◌}
+use Rattle.std.proofs.Common.{rules, ap, sym, subst, ◌∙◌, to_z-of_z}
 use Rattle.sector_disk.specs.Faults.{OneOf}
 use Rattle.desktop_definitions.specs.Desktop.{Desktop}
 use Rattle.desktop_definitions.specs.Outcome.{reply_codes}
@@ -16,9 +16,10 @@ unfolding number_of
 returns-in-Ok g c =
     let read = c.in_ok-value.ensures.told in
     does_after g.S.CharSource g.met.S.CharSource.ground_through
-    (λ (x : Desktop) (r : Result ℤ ℕ). given r (done_with_number x c.args.command)) (λ (x : Desktop). number_of x c.args.call)
-    (Ok c.in-Ok.number) _ _ _ (kept c.args.desk.now) _ _ read.reads read.cause
-    (λ h. sym c.in-Ok.is ∙ c.as_number.ensures ∙ ap as_number (read.exact h)) c.do_with_number.ensures
+    (λ (x : Desktop) (r : Result ℤ ℕ). given r (done_with_number x c.args.command))
+    (λ (x : Desktop). number_of x c.args.call) (Ok c.in-Ok.number) _ _ _ (kept c.args.desk.now) _ _ read.reads read.cause
+    (λ h. sym c.in-Ok.is ∙ c.as_number.ensures ∙ ap as_number (read.exact h))
+    (simp to_z-of_z at c.do_with_number.ensures)
 
 pub returns-in-Err : goal.returns-in-Err
 unfolding number_of
