@@ -17,8 +17,8 @@ unfolding name_of
 returns-in-Ok g c =
     let read = c.in_ok-value.ensures.told in
     does_after g.S.CharSource g.met.S.CharSource.ground_through
-    (λ (x : Desktop) (r : Result (List ℕ) ℕ). given r (done_with_name x c.args.command)) (λ (x : Desktop). name_of x c.args.call)
-    (Ok c.in-Ok.name) _ _ _ (kept c.args.desk.now) _ _ read.reads read.cause
+    (λ (x : Desktop) (r : Result (List ℕ) ℕ). given r (done_with_name x c.args.command))
+    (λ (x : Desktop). name_of x c.args.call) (Ok c.in-Ok.name) _ _ _ (kept c.args.desk.now) _ _ read.reads read.cause
     (λ h. sym c.in-Ok.is ∙ c.as_name.ensures ∙ ap as_name (read.exact h)) c.do_with_name.ensures
 
 pub returns-in-Err : goal.returns-in-Err

@@ -6,6 +6,7 @@ use Rattle.desktop_definitions.specs.Outcome.{reply_codes}
 use Rattle.desktop_definitions.specs.Needs.{given}
 use Rattle.desktop_definitions.specs.Call.{number_in, as_number, number_of}
 use Rattle.desktop_definitions.specs.Commands.{done_with_number}
+use Rattle.desk_core.specs.Row.{Does}
 use Rattle.desk_core.specs.Kept.{kept}
 use Rattle.desk_commands.proofs.ReadFirst.{does_after}
 use Rattle.desk_commands.proofs.CallLemmas.{known_choice, refused_given}
@@ -15,10 +16,14 @@ pub returns-in-Ok : goal.returns-in-Ok
 unfolding number_of
 returns-in-Ok g c =
     let read = c.in_ok-value.ensures.told in
+    let rest : Does g.S.CharSource (λ (x : Desktop). done_with_number x c.args.command c.in-Ok.number)
+    c.do_with_number.result c.value_of.new.source c.do_with_number.new.source (kept c.args.desk.now)
+    (kept c.do_with_number.new.desk) = search rules in
     does_after g.S.CharSource g.met.S.CharSource.ground_through
-    (λ (x : Desktop) (r : Result ℤ ℕ). given r (done_with_number x c.args.command)) (λ (x : Desktop). number_of x c.args.call)
-    (Ok c.in-Ok.number) _ _ _ (kept c.args.desk.now) _ _ read.reads read.cause
-    (λ h. sym c.in-Ok.is ∙ c.as_number.ensures ∙ ap as_number (read.exact h)) c.do_with_number.ensures
+    (λ (x : Desktop) (r : Result ℤ ℕ). given r (done_with_number x c.args.command))
+    (λ (x : Desktop). number_of x c.args.call) (Ok c.in-Ok.number) _ _ _ (kept c.args.desk.now) _ _ read.reads read.cause
+    (λ h. sym c.in-Ok.is ∙ c.as_number.ensures ∙ ap as_number (read.exact h))
+    rest
 
 pub returns-in-Err : goal.returns-in-Err
 unfolding number_of
