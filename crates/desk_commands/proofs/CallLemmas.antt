@@ -1,10 +1,12 @@
 -- What commands do, by what they take.
-use Rattle.std.specs.Prelude.{◌≡◌, ℕ, Bool, List, length, Option, Some, None, Result, Ok, Err}
+use Rattle.std.specs.Prelude.{◌≡◌, ℕ, Bool, List, length, Option, Some, None, Result, Ok, Err, IfErr, MatchResult}
 use Rattle.std.specs.Option.{ok_or}
 use Rattle.std.proofs.Common.{refl, sym, ap, ◌∙◌}
 use Rattle.sector_disk.specs.Faults.{OneOf}
 use Rattle.char_file.specs.declared.source.CharSource.{Ghosts}
 use Rattle.piece_ring.specs.Flat.{flat}
+use Rattle.readers_scanners.specs.declared.symbol.Symbol.{Symbol}
+use Rattle.readers_scanners.specs.Symbol.{IsShaped}
 use Rattle.command_table.specs.Parameters.{IsPlace}
 use Rattle.command_table.specs.declared.command.Command.{Command}
 use Rattle.desktop_definitions.specs.declared.call.ViewerCommand.{ViewerCommand}
@@ -14,6 +16,7 @@ use Rattle.desktop_definitions.specs.Limits.{no_command, wrong_symbol, no_viewer
 use Rattle.desktop_definitions.specs.Needs.{needs, given}
 use Rattle.desktop_definitions.specs.Desktop.{Desktop, KeptDesktop}
 use Rattle.desktop_definitions.specs.Change.{bytes_of}
+use Rattle.desktop_laws.specs.RowLaws.{known_wrong_symbol}
 use Rattle.desktop_laws.specs.CallLaws.{called_place}
 use Rattle.desktop_laws.specs.LookedLaws.{font_sets_look, colour_sets_look, offset_sets_look}
 use Rattle.desktop_definitions.specs.Seen.{seen}
@@ -46,10 +49,21 @@ refused_given {A = A} s read follow code old mid d reads over known is exact =
     refused_after s (λ x. given (read x) (follow x)) code old mid d reads over known
     (λ h. ap (λ (r : Result A ℕ). given r (follow (seen (s.characters old) d))) (sym (exact h) ∙ is))
 
--- what isn't wanted is refused
+-- a value that isn't wanted is refused
 pub same_wanted : {A : Type 0} (o : Option A) → ok_or o wrong_symbol ≡ needs o wrong_symbol (λ a. Ok a)
 same_wanted None = refl
 same_wanted (Some a) = refl
+
+known_needed : {A : Type 0} (o : Option A) → IfErr (needs o wrong_symbol (λ a. Ok a)) (OneOf reply_codes)
+known_needed None = known_wrong_symbol
+known_needed (Some a) = tt
+
+-- by a code that there is
+pub known_choice : {A : Type 0} (f : Symbol → Option A) (value : Result Symbol ℕ)
+    → MatchResult value IsShaped (OneOf reply_codes)
+    → IfErr (given value (λ s. needs (f s) wrong_symbol (λ a. Ok a))) (OneOf reply_codes)
+known_choice f (Err code) kind = kind
+known_choice f (Ok symbol) kind = known_needed (f symbol)
 
 -- ---- the viewer that is meant
 

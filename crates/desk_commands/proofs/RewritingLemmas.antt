@@ -23,8 +23,8 @@ use Rattle.readers_scanners.specs.Reading.{bytes}
 use Rattle.readers_scanners.proofs.Counting.{bytes-append, end_within}
 use Rattle.desktop_definitions.specs.Words.{keys_of, Look, Piece, Text, flat}
 use Rattle.desktop_definitions.specs.Sound.{AllWithin}
-use Rattle.desktop_laws.specs.TableLaws.{kept_lengths}
-use Rattle.desktop_laws.specs.Rewriting.{laid, flats, laid_table, bytes_in}
+use Rattle.desktop_definitions.specs.Sound.{kept_lengths}
+use Rattle.desktop_definitions.specs.Rewriting.{laid, flats, laid_table, bytes_in}
 use Rattle.desktop_laws.specs.RewritingLaws.{laid-append, laid-run}
 use Rattle.desk_commands.specs.Rewriting.{CanPut, Rewrites}
 

@@ -7,8 +7,8 @@ use Rattle.desktop_definitions.specs.Desktop.{KeptDesktop}
 use Rattle.desktop_definitions.specs.Sound.{IsOver}
 use Rattle.desktop_definitions.specs.Call.{text_called}
 
--- The viewer of a call stands in a track that is shown, of a desktop over these characters, and the word that was called
--- in its text.
+-- The viewer of a call stands in a track that is shown, of a desktop over these characters, and the word that was
+-- called in its text.
 pub record IsCall (characters : List ℕ) (d : KeptDesktop) (call : Call) : Type 0 where
   pub placed : IsOnTop call.viewer d.columns
   pub within : call.after ≤ length (flat (text_called d call.viewer call.in_menu))

@@ -11,8 +11,8 @@ use Rattle.piece_ring.specs.Flat.{flat}
 use Rattle.piece_ring.specs.Offsets.{AreWithin}
 use Rattle.readers_scanners.specs.Reading.{bytes}
 use Rattle.desktop_definitions.specs.Sound.{AllWithin}
-use Rattle.desktop_laws.specs.TableLaws.{kept_lengths}
-use Rattle.desktop_laws.specs.Rewriting.{laid, laid_table, flats, bytes_in}
+use Rattle.desktop_definitions.specs.Sound.{kept_lengths}
+use Rattle.desktop_definitions.specs.Rewriting.{laid, laid_table, flats, bytes_in}
 use Rattle.desk_core.specs.declared.stop.Stop.{Stop}
 use Rattle.desk_core.specs.declared.stop.Stop.TheVariants.{Fault}
 use Rattle.desk_core.specs.Words.{IsStop, keys_of}

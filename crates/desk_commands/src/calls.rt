@@ -318,8 +318,7 @@ fn value_of<S: CharSource>(desk: &Desk, call: Call, source: &mut S) -> Told<Symb
 #[tactic(auto, using(crate::proofs::CallLemmas::same_wanted))]
 fn as_name(value: Result<Symbol, u8>) -> Result<Name, u8>
     requires { MatchResult value IsShaped (OneOf known_codes) }
-    ensures is { result ≡ as_name value }
-    ensures codes { IfErr result (OneOf known_codes) }
+    ensures { result ≡ as_name value }
 {
     name_in(&value?).ok_or(codes::WRONG_SYMBOL)
 }
@@ -327,9 +326,7 @@ fn as_name(value: Result<Symbol, u8>) -> Result<Name, u8>
 /// The number that a value is. Refused where it is none.
 #[tactic(auto, using(crate::proofs::CallLemmas::same_wanted))]
 fn as_number(value: Result<Symbol, u8>) -> Result<i32, u8>
-    requires { MatchResult value IsShaped (OneOf known_codes) }
-    ensures is { result ≡ as_number value }
-    ensures codes { IfErr result (OneOf known_codes) }
+    ensures { result ≡ as_number value }
 {
     number_in(&value?).ok_or(codes::WRONG_SYMBOL)
 }

@@ -13,6 +13,9 @@ use desktop_definitions::{COLOURS, FONTS, GREATEST_OFFSET, LEAST_OFFSET, Reply, 
 use event_bytes::Name;
 use piece_ring::{DEFAULT_LOOK, Look};
 
+/// A selector, and a look of which it takes a field. None where there is no such look.
+pub type LookChange = Option<(u8, Look)>;
+
 /// The names of the fonts, by their numbers.
 const FONT_NAMES: [&[u8]; FONTS as usize] = [
     b"Oberon10.Scn.Fnt",
@@ -23,7 +26,7 @@ const FONT_NAMES: [&[u8]; FONTS as usize] = [
 ];
 
 /// The font of a name. None where there is no such font.
-pub fn font_set(name: &Name) -> Option<(u8, Look)>
+pub fn font_set(name: &Name) -> LookChange
     ensures { result ≡ font_set name.now }
 {
     let name = name.as_bytes();
@@ -38,7 +41,7 @@ pub fn font_set(name: &Name) -> Option<(u8, Look)>
 }
 
 /// The colour of a number. None where there is no such colour.
-pub fn colour_set(number: i32) -> Option<(u8, Look)>
+pub fn colour_set(number: i32) -> LookChange
     ensures { result ≡ colour_set number }
 {
     if number < 0 || number >= i32::from(COLOURS) {
@@ -54,7 +57,7 @@ pub fn colour_set(number: i32) -> Option<(u8, Look)>
 }
 
 /// That vertical offset. None where it is out of range.
-pub fn offset_set(number: i32) -> Option<(u8, Look)>
+pub fn offset_set(number: i32) -> LookChange
     ensures { result ≡ offset_set number }
 {
     if number < i32::from(LEAST_OFFSET) || number > i32::from(GREATEST_OFFSET) {
@@ -70,11 +73,7 @@ pub fn offset_set(number: i32) -> Option<(u8, Look)>
 }
 
 /// What is typed gets a look, in the fields that are set. Refused where none are.
-pub fn set_look<S: CharSource>(
-    desk: &mut Desk,
-    new: Option<(u8, Look)>,
-    source: &mut S,
-) -> StepResult
+pub fn set_look<S: CharSource>(desk: &mut Desk, new: LookChange, source: &mut S) -> StepResult
     requires sets { SetsLook new }
     requires over { IsOver (S.characters source.old) (kept desk.old) }
     ensures { Does S.CharSource (λ d. needs new bad_value λ set. Ok (look_set d set)) result
@@ -89,11 +88,7 @@ pub fn set_look<S: CharSource>(
 
 /// The newest selection gets a look, in the fields that are set, and is the newest then too. Refused where none
 /// are, and without a selection. NoMemory where an allocation is refused.
-pub fn change_look<S: CharSource>(
-    desk: &mut Desk,
-    new: Option<(u8, Look)>,
-    source: &mut S,
-) -> StepResult
+pub fn change_look<S: CharSource>(desk: &mut Desk, new: LookChange, source: &mut S) -> StepResult
     requires sets { SetsLook new }
     requires over { IsOver (S.characters source.old) (kept desk.old) }
     ensures { Does S.CharSource (λ d. needs new bad_value (selection_set d)) result

@@ -27,7 +27,7 @@ use Rattle.viewer_tracks.specs.Viewers.{Entry, IsTrack}
 use Rattle.viewer_tracks.specs.Columns.{IsStack}
 use Rattle.desktop_definitions.specs.Looks.{IsLook, AreLooks}
 use Rattle.desktop_definitions.specs.Tables.{Texts, Files, name_cmp}
-use Rattle.desktop_laws.specs.TableLaws.{kept_lengths}
+use Rattle.desktop_definitions.specs.Sound.{kept_lengths}
 use Rattle.desk_image.specs.declared.picture.ViewerPicture.{ViewerPicture}
 use Rattle.desk_image.specs.Image.{InWord, InId, AreSome, has_overlays}
 use Rattle.desk_image.specs.Fitting.{Chain, FitsPiece, FitsText, FitsFile, FitsViewer, FitsEntry, less, total, totals}

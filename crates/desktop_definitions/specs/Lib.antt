@@ -17,6 +17,7 @@ pub mod Commands
 pub mod Step
 pub mod Seen
 pub mod Sound
+pub mod Rewriting
 pub mod Shown
 pub mod Listing
 pub mod Changed

@@ -1,6 +1,6 @@
 -- What holds of every desktop, and of one that is kept together with its characters.
 use Rattle.std.specs.Prelude.{◌≡◌, ℕ, ◌+◌, ◌<◌, ◌≤◌, ◌==◌, ◌++◌, IsTrue, IsSome, is_some, All, List, length, count_by}
-use Rattle.std.specs.Prelude.{Some, Option, option_map, if◌then◌else◌}
+use Rattle.std.specs.Prelude.{sum_by, Some, Option, option_map, if◌then◌else◌}
 use Rattle.std.specs.Option.{ForSome}
 use Rattle.std.specs.List.Sorted.{IsStrictlySortedBy}
 use Rattle.std.specs.Map.{values_of}
@@ -117,6 +117,10 @@ pub record IsSound (d : Desktop) : Type 0 where
 -- each character of each text of a table is one of the first n
 abbrev pub AllWithin : {K : Type 0} → ℕ → List (K × List Piece) → Type 0
 AllWithin n table = All (λ pieces. AreWithin n (flat pieces)) (values_of table)
+
+-- how many characters the texts of a table have
+abbrev pub kept_lengths : {K : Type 0} → List (K × List Piece) → ℕ
+kept_lengths table = sum_by (λ pieces. length (flat pieces)) (values_of table)
 
 -- Each character of a desktop that is kept is one of the first n.
 pub record IsWithin (n : ℕ) (d : KeptDesktop) : Type 0 where

@@ -20,8 +20,8 @@ use Rattle.desktop_definitions.specs.Outcome.{IsAnswered}
 use Rattle.desktop_laws.specs.TableLaws.{lengths_seen, length_seen_text}
 use Rattle.desktop_laws.specs.StepLaws.{settled_done}
 use Rattle.desktop_laws.specs.OutcomeLaws.{acted}
-use Rattle.desktop_laws.specs.Rewriting.{flats, bytes_in, IsRewritten}
-use Rattle.desktop_laws.specs.Rewriting.{before_files, before_copied, before_deleted, in_all}
+use Rattle.desktop_definitions.specs.Rewriting.{flats, bytes_in, IsRewritten}
+use Rattle.desktop_definitions.specs.Rewriting.{before_files, before_copied, before_deleted, in_all}
 use Rattle.desktop_laws.specs.RewritingLaws.{table_seen, text_seen, table_looks, text_looks, table_within, text_within}
 use Rattle.desktop_laws.specs.RewritingLaws.{length-bytes_in}
 use Rattle.desktop_laws.specs.AlikeLaws.{sound_alike}

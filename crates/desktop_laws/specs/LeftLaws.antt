@@ -17,7 +17,8 @@ use Rattle.piece_ring.specs.Flat.{flat}
 use Rattle.piece_ring.specs.Text.{Text}
 use Rattle.desktop_definitions.specs.declared.viewer.Viewer.{Viewer}
 use Rattle.desktop_definitions.specs.Tables.{Texts, lengths}
-use Rattle.desktop_laws.specs.TableLaws.{length_seen_text, kept_lengths}
+use Rattle.desktop_laws.specs.TableLaws.{length_seen_text}
+use Rattle.desktop_definitions.specs.Sound.{kept_lengths}
 use Rattle.desktop_definitions.specs.Desktop.{Desktop, DesktopOf, KeptDesktop, held}
 use Rattle.desktop_definitions.specs.Viewers.{without_viewer}
 use Rattle.desktop_definitions.specs.Opening.{is_shown, dropped}

@@ -18,7 +18,6 @@ pub mod ChangeLaws
 pub mod EditLaws
 pub mod ViewLaws
 pub mod MarkLaws
-pub mod Rewriting
 pub mod RewritingLaws
 pub mod AlikeLaws
 pub mod CollectLaws

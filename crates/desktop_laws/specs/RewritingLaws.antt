@@ -13,8 +13,8 @@ use Rattle.desktop_definitions.specs.Words.{Look, Piece, Text, flat}
 use Rattle.desktop_definitions.specs.Tables.{with_values}
 use Rattle.desktop_definitions.specs.Seen.{seen_text, seen_table}
 use Rattle.desktop_definitions.specs.Sound.{AllWithin}
-use Rattle.desktop_laws.specs.TableLaws.{kept_lengths}
-use Rattle.desktop_laws.specs.Rewriting.{laid, flats, laid_table, bytes_in}
+use Rattle.desktop_definitions.specs.Sound.{kept_lengths}
+use Rattle.desktop_definitions.specs.Rewriting.{laid, flats, laid_table, bytes_in}
 
 -- ---- where the characters stand
 

@@ -23,7 +23,8 @@ use Rattle.desktop_definitions.specs.Limits.{most_written, most_held, no_caret, 
 use Rattle.desktop_definitions.specs.Limits.{too_many_files, outside, wrong_symbol, no_viewer as viewer_missing}
 use Rattle.desktop_definitions.specs.Limits.{not_found, bad_value, too_deep, too_low}
 use Rattle.desktop_definitions.specs.Tables.{Texts, numbered}
-use Rattle.desktop_laws.specs.TableLaws.{lookup_seen, is_some_map, kept_lengths, lengths_seen}
+use Rattle.desktop_laws.specs.TableLaws.{lookup_seen, is_some_map, lengths_seen}
+use Rattle.desktop_definitions.specs.Sound.{kept_lengths}
 use Rattle.desktop_definitions.specs.Desktop.{Desktop, KeptDesktop, held}
 use Rattle.desktop_definitions.specs.Viewers.{viewer_in, viewer_or_none, text_in, bare_viewer}
 use Rattle.desktop_definitions.specs.Opening.{is_shown}

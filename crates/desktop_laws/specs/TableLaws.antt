@@ -26,7 +26,7 @@ use Rattle.piece_ring.specs.Text.{Text}
 use Rattle.desktop_definitions.specs.Limits.{most_files}
 use Rattle.desktop_definitions.specs.Tables.{Files, name_cmp, named, put, has_room, with_values, lengths}
 use Rattle.desktop_definitions.specs.Seen.{seen_text, seen_table}
-use Rattle.desktop_definitions.specs.Sound.{AllWithin}
+use Rattle.desktop_definitions.specs.Sound.{AllWithin, kept_lengths}
 
 -- ---- f of each text
 
@@ -64,10 +64,6 @@ length_seen_text characters pieces = length-map {B = ℕ × Look} (flat pieces)
 -- how many characters a text has that is kept
 abbrev pub kept_length : List Piece → ℕ
 kept_length pieces = length (flat pieces)
-
--- how many characters the texts of a table have that is kept
-abbrev pub kept_lengths : {K : Type 0} → List (K × List Piece) → ℕ
-kept_lengths table = sum_by (λ pieces. length (flat pieces)) (values_of table)
 
 pub lengths_seen : {K : Type 0} (characters : List ℕ) (table : List (K × List Piece))
     → lengths (seen_table characters table) ≡ kept_lengths table

@@ -7,7 +7,7 @@ use Rattle.piece_ring.specs.Text.{Text}
 use Rattle.readers_scanners.specs.Reading.{bytes}
 use Rattle.desktop_definitions.specs.Tables.{Texts, Files, with_values}
 use Rattle.desktop_definitions.specs.Desktop.{KeptDesktop}
-use Rattle.desktop_laws.specs.TableLaws.{kept_lengths}
+use Rattle.desktop_definitions.specs.Sound.{kept_lengths}
 
 -- the characters of a text at the offsets from n on, in their looks
 abbrev pub laid : ℕ → Text ℕ → Text ℕ
