@@ -1,4 +1,5 @@
 pub mod Shown
+pub mod Prints
 pub mod Rows
 pub mod Sent
 pub mod Walks

@@ -1,7 +1,5 @@
 //! Printing a screen.
-ghost use Rattle.std.specs.Prelude.{◌≡◌, OnOk, OnErr};
-ghost use Rattle.std.specs.Io.KnownBytes.{Appends};
-ghost use Rattle.screen_cells.specs.Sent.{AppendsFront};
+ghost use Rattle.screen_cells.specs.Prints.{Prints};
 ghost use Rattle.screen_pictures.specs.Printed.{printed, character_lines, mark_lines};
 
 use crate::line::{character_line, has_mark_line, mark_line};
@@ -18,8 +16,7 @@ impl Screen {
     /// It returns `Fault` where a write or the flush fails, and where a write takes no byte; the writer may then have
     /// taken a prefix of the text. It takes no memory.
     pub fn print<W: Write>(&self, writer: &mut W) -> Result<(), Fault>
-        ensures printed { OnOk result (Appends (W.contents writer.old) (W.contents writer.new) (printed self.now)) }
-        ensures front { OnErr result (AppendsFront (W.contents writer.old) (W.contents writer.new) (printed self.now)) }
+        ensures { Prints (printed self.now) result (W.contents writer.old) (W.contents writer.new) }
     {
         self.print_characters(writer)?;
         send(writer, b"marks\n")?;
@@ -30,10 +27,7 @@ impl Screen {
 
     /// Writes the line of each row's characters, from the top.
     fn print_characters<W: Write>(&self, writer: &mut W) -> Result<(), Fault>
-        ensures printed { OnOk result
-            (Appends (W.contents writer.old) (W.contents writer.new) (character_lines self.now)) }
-        ensures front { OnErr result
-            (AppendsFront (W.contents writer.old) (W.contents writer.new) (character_lines self.now)) }
+        ensures { Prints (character_lines self.now) result (W.contents writer.old) (W.contents writer.new) }
     {
         for y in (0..ROWS).rev() {
             let row = self.row(y);
@@ -44,10 +38,7 @@ impl Screen {
 
     /// Writes the line of each row that has a mark line, from the top.
     fn print_marks<W: Write>(&self, writer: &mut W) -> Result<(), Fault>
-        ensures printed { OnOk result
-            (Appends (W.contents writer.old) (W.contents writer.new) (mark_lines self.now)) }
-        ensures front { OnErr result
-            (AppendsFront (W.contents writer.old) (W.contents writer.new) (mark_lines self.now)) }
+        ensures { Prints (mark_lines self.now) result (W.contents writer.old) (W.contents writer.new) }
     {
         for y in (0..ROWS).rev() {
             let row = self.row(y);

@@ -1,4 +1,4 @@
-use Rattle.std.proofs.Common.{ℕ, ◌-◌, ◌∙◌, ap}
+use Rattle.std.proofs.Common.{ℕ, ◌-◌, ◌∙◌, ap, rules}
 use Rattle.std.specs.List.{flat_map}
 use Rattle.std.proofs.KnownBytes.{Keeps-refl}
 use Rattle.screen_pictures.specs.Screen.{row_at}
@@ -13,13 +13,19 @@ loop-y-preserved g c = line_taken
     (c.as_slice.ensures.value ∙ c.character_line.ensures ∙ (λ k. character_line (c.loop-y.y - 1) (c.row-row.ensures k)))
     c.loop-y.invariant c.in_ok-send.ensures.sent
 
-pub returns-in_err-send-clause-front : goal.returns-in_err-send-clause-front
-returns-in_err-send-clause-front g c = on_err c.from_residual.result
-    (line_front (λ (y : ℕ). character_line y (row_at c.args.self.now y)) _ _ _ _ _ c.loop-y.y c.loop-y-test.true
-    (c.as_slice.ensures.value ∙ c.character_line.ensures ∙ (λ k. character_line (c.loop-y.y - 1) (c.row-row.ensures k)))
-    c.loop-y.invariant c.in_err-send.ensures.front)
+pub returns-in_err-send : goal.returns-in_err-send
+returns-in_err-send g c = record {
+  printed = search rules;
+  front = on_err c.from_residual.result
+      (line_front (λ (y : ℕ). character_line y (row_at c.args.self.now y)) _ _ _ _ _ c.loop-y.y c.loop-y-test.true
+      (c.as_slice.ensures.value ∙ c.character_line.ensures ∙ (λ k. character_line (c.loop-y.y - 1) (c.row-row.ensures k)))
+      c.loop-y.invariant c.in_err-send.ensures.front);
+}
 
-pub returns-clause-printed : goal.returns-clause-printed
-returns-clause-printed g c = taken_all _ _ _ _ _ c.loop-y.invariant
-    (ap (flat_map (λ (y : ℕ). character_line y (row_at c.args.self.now y))) (no_rows c.loop-y.y c.loop-y-test.false))
-    (Keeps-refl (g.W.Write.contents c.loop-y.writer))
+pub returns : goal.returns
+returns g c = record {
+  printed = taken_all _ _ _ _ _ c.loop-y.invariant
+      (ap (flat_map (λ (y : ℕ). character_line y (row_at c.args.self.now y))) (no_rows c.loop-y.y c.loop-y-test.false))
+      (Keeps-refl (g.W.Write.contents c.loop-y.writer));
+  front = tt;
+}

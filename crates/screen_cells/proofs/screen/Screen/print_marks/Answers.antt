@@ -1,4 +1,4 @@
-use Rattle.std.proofs.Common.{ℕ, ◌-◌, ◌∙◌, sym, ap}
+use Rattle.std.proofs.Common.{ℕ, ◌-◌, ◌∙◌, sym, ap, rules}
 use Rattle.std.specs.Prelude.{filter}
 use Rattle.std.specs.List.{flat_map}
 use Rattle.std.proofs.KnownBytes.{Keeps-refl}
@@ -16,13 +16,16 @@ loop-y-preserved-in-Continue-1 g c =
     (sym (c.has_mark_line.ensures ∙ (λ k. has_mark_line (c.row-row.ensures k))) ∙ c.if-has_mark_line.true)
     c.loop-y.invariant c.in_ok-send.ensures.sent
 
-pub returns-in_err-send-clause-front : goal.returns-in_err-send-clause-front
-returns-in_err-send-clause-front g c = on_err c.from_residual.result (
-    passing_front (λ (y : ℕ). mark_line y (row_at c.args.self.now y))
-    (λ (y : ℕ). has_mark_line (row_at c.args.self.now y)) _ _ _ _ _ c.loop-y.y c.loop-y-test.true
-    (c.as_slice.ensures.value ∙ c.mark_line.ensures ∙ (λ k. mark_line (c.loop-y.y - 1) (c.row-row.ensures k)))
-    (sym (c.has_mark_line.ensures ∙ (λ k. has_mark_line (c.row-row.ensures k))) ∙ c.if-has_mark_line.true)
-    c.loop-y.invariant c.in_err-send.ensures.front)
+pub returns-in_err-send : goal.returns-in_err-send
+returns-in_err-send g c = record {
+  printed = search rules;
+  front = on_err c.from_residual.result (
+      passing_front (λ (y : ℕ). mark_line y (row_at c.args.self.now y))
+      (λ (y : ℕ). has_mark_line (row_at c.args.self.now y)) _ _ _ _ _ c.loop-y.y c.loop-y-test.true
+      (c.as_slice.ensures.value ∙ c.mark_line.ensures ∙ (λ k. mark_line (c.loop-y.y - 1) (c.row-row.ensures k)))
+      (sym (c.has_mark_line.ensures ∙ (λ k. has_mark_line (c.row-row.ensures k))) ∙ c.if-has_mark_line.true)
+      c.loop-y.invariant c.in_err-send.ensures.front);
+}
 
 pub loop-y-preserved : goal.loop-y-preserved
 loop-y-preserved g c =
@@ -31,8 +34,11 @@ loop-y-preserved g c =
     (sym (c.has_mark_line.ensures ∙ (λ k. has_mark_line (c.row-row.ensures k))) ∙ c.if-has_mark_line.false)
     c.loop-y.invariant
 
-pub returns-clause-printed : goal.returns-clause-printed
-returns-clause-printed g c = taken_all _ _ _ _ _ c.loop-y.invariant
-    (ap (λ rows. flat_map (λ (y : ℕ). mark_line y (row_at c.args.self.now y))
-    (filter (λ (y : ℕ). has_mark_line (row_at c.args.self.now y)) rows)) (no_rows c.loop-y.y c.loop-y-test.false))
-    (Keeps-refl (g.W.Write.contents c.loop-y.writer))
+pub returns : goal.returns
+returns g c = record {
+  printed = taken_all _ _ _ _ _ c.loop-y.invariant
+      (ap (λ rows. flat_map (λ (y : ℕ). mark_line y (row_at c.args.self.now y))
+      (filter (λ (y : ℕ). has_mark_line (row_at c.args.self.now y)) rows)) (no_rows c.loop-y.y c.loop-y-test.false))
+      (Keeps-refl (g.W.Write.contents c.loop-y.writer));
+  front = tt;
+}
