@@ -168,7 +168,7 @@ impl<D: Disk> Store<D> {
     /// Errors: `MustReopen` after an earlier `NoMemory` or `Fault`; `Worn` where a checkpoint is due and the epoch is
     /// the last one; `NoMemory`, and the event is on the disk in no image; `Fault`, and it may be there or not. The
     /// first two change nothing; after the last two the store must be opened again.
-    pub fn post(&mut self, event: &Event) -> Result<Reply, Error>
+    pub fn post(&mut self, alloc: Global, event: &Event) -> Result<Reply, Error>
         ensures any_moment { LeavesEither D.Disk event.now self.old self.new }
         ensures ok { IfOk result (λ reply. IsAcknowledged D.Disk event.now reply self.old self.new) }
         ensures memory { IsErrOf result Error.NoMemory → IsStarved D.Disk self.old self.new }
@@ -181,7 +181,7 @@ impl<D: Disk> Store<D> {
         if self.needs() {
             self.checkpoint()?;
         }
-        self.put(event)
+        self.put(alloc, event)
     }
 
     /// Whether a checkpoint is due before the next event: the journal is full, or the slot in use has an older version.
@@ -193,7 +193,7 @@ impl<D: Disk> Store<D> {
     }
 
     /// The rest of a post: the journal has room, and the slot in use has the newest version.
-    fn put(&mut self, event: &Event) -> Result<Reply, Error>
+    fn put(&mut self, alloc: Global, event: &Event) -> Result<Reply, Error>
         requires { self.old.must_reopen ≡ false → HasRoom self.old }
         ensures any_moment { LeavesEither D.Disk event.now self.old self.new }
         ensures ok { IfOk result (λ reply. IsAcknowledged D.Disk event.now reply self.old self.new) }
@@ -206,6 +206,7 @@ impl<D: Disk> Store<D> {
         }
         self.must_reopen = true;
         let reply = record(
+            alloc,
             &mut self.desktop,
             &mut self.disk,
             self.slot,
@@ -254,7 +255,7 @@ impl<D: Disk> Store<D> {
     /// The characters of the file of that name, each a byte and its look; None where there is none.
     ///
     /// Errors: `MustReopen`; `NoMemory`, only where there is such a file; `Fault`.
-    pub fn file(&mut self, name: &Name) -> Result<Option<Vec<(u8, Look)>>, Error>
+    pub fn file(&mut self, alloc: Global, name: &Name) -> Result<Option<Vec<(u8, Look)>>, Error>
         ensures found { IfOk result (λ file. D.honest self.old.disk
             → option_map (λ characters. characters.items) file ≡ file_of self.old.desktop name.now) }
         ensures memory { IsErrOf result Error.NoMemory → D.honest self.old.disk
@@ -264,13 +265,13 @@ impl<D: Disk> Store<D> {
         if self.must_reopen {
             return Err(Error::MustReopen);
         }
-        self.desktop.file(name, &mut self.disk)
+        self.desktop.file(alloc, name, &mut self.disk)
     }
 
     /// What the desktop has: an entry for each file, by rising names, and then how much was written.
     ///
     /// Errors: `MustReopen`; `NoMemory`; `Fault`.
-    pub fn list(&mut self) -> Result<Vec<Entry>, Error>
+    pub fn list(&mut self, alloc: Global) -> Result<Vec<Entry>, Error>
         ensures entries { IfOk result (λ entries. D.honest self.old.disk
             → entries.items ≡ entries_of self.old.desktop) }
         ensures unread { IfOk result (λ entries. ListsUnread self.old.kept entries.items) }
@@ -279,20 +280,20 @@ impl<D: Disk> Store<D> {
         if self.must_reopen {
             return Err(Error::MustReopen);
         }
-        self.desktop.list(&mut self.disk)
+        self.desktop.list(alloc, &mut self.disk)
     }
 
     /// Paints what the desktop shows. After an error the screen may show anything.
     ///
     /// Errors: `MustReopen`; `NoMemory`; `Fault`.
-    pub fn screen(&mut self, screen: &mut Screen) -> Result<(), Error>
+    pub fn screen(&mut self, alloc: Global, screen: &mut Screen) -> Result<(), Error>
         ensures shown { OnOk result (D.honest self.old.disk → screen.new ≡ shown_screen self.old.desktop) }
         ensures looks { OnlyLooks D.Disk result self.old self.new }
     {
         if self.must_reopen {
             return Err(Error::MustReopen);
         }
-        self.desktop.screen(screen, &mut self.disk)
+        self.desktop.screen(alloc, screen, &mut self.disk)
     }
 
     /// What the store says of itself. While it is in use, what it shows is what every crash leaves.

@@ -65,5 +65,12 @@ fn sit<D: Disk + Drop>(rt: &HostRuntime, rows: u16, store: Store<D>, greeting: S
 {
     let mut store = store;
     let mut keyboard = DeskKeyboard::new(rt, StandardInput::new(rt.stdin()));
-    serve(&mut keyboard, &mut rt.stdout(), &mut store, rows, greeting)
+    serve(
+        rt.alloc(),
+        &mut keyboard,
+        &mut rt.stdout(),
+        &mut store,
+        rows,
+        greeting,
+    )
 }

@@ -21,6 +21,7 @@ use desk_sitting::{Saying, Sitting, do_presses};
 use output_bytes::{OutputFault, flush, send};
 use screen_cells::Screen;
 use sector_disk::Disk;
+use std::alloc::Global;
 use std::io::Write;
 use terminal_keyboard::Keyboard;
 use terminal_painting::{Frame, Painter, ring};
@@ -40,6 +41,7 @@ const SIZE_REQUEST: [u8; 5] = [27, 91, 49, 56, 116];
 /// be one that needn't be opened again. After `Left`, `Closed`, `Input` and `Output` it can be used on; after `Fault`
 /// and `Memory` it must be opened again where an event was posted.
 pub fn serve<K: Keyboard, W: Write, D: Disk>(
+    alloc: Global,
     keyboard: &mut K,
     writer: &mut W,
     store: &mut Store<D>,
@@ -63,6 +65,7 @@ pub fn serve<K: Keyboard, W: Write, D: Disk>(
     let mut painter = Painter::new();
     for _count in 0..MOST_TURNS {
         if let Err(end) = turn(
+            alloc,
             &mut sitting,
             &mut parser,
             &mut painter,
@@ -81,6 +84,7 @@ pub fn serve<K: Keyboard, W: Write, D: Disk>(
 /// Errors: `Output`, and `Fault` and `Memory` where the screen can't be worked out, before anything is heard; `Closed`
 /// and `Input` where nothing is heard; `Fault` and `Memory` where a press fails; `Left` where the person leaves.
 fn turn<K: Keyboard, W: Write, D: Disk>(
+    alloc: Global,
     sitting: &mut Sitting,
     parser: &mut Parser,
     painter: &mut Painter,
@@ -93,9 +97,9 @@ fn turn<K: Keyboard, W: Write, D: Disk>(
         (place_of parser.old sitting.old store.old (K.heard keyboard.old) painter.old (W.contents writer.old))
         (place_of parser.new sitting.new store.new (K.heard keyboard.new) painter.new (W.contents writer.new)) }
 {
-    show(store, sitting, painter, writer)?;
+    show(alloc, sitting, painter, writer, store)?;
     let hearing = keyboard.hear()?;
-    do_presses(sitting, parser, hearing.as_slice(), store)?;
+    do_presses(alloc, sitting, parser, hearing.as_slice(), store)?;
     bring(sitting, keyboard);
     if sitting.leaves {
         Err(Ending::Left)
@@ -120,10 +124,11 @@ fn bring<K: Keyboard>(sitting: &mut Sitting, keyboard: &mut K)
 ///
 /// Errors: `Fault` and `Memory`, and nothing was sent; `Output`, and a front may have been sent.
 fn show<W: Write, D: Disk>(
-    store: &mut Store<D>,
+    alloc: Global,
     sitting: &mut Sitting,
     painter: &mut Painter,
     writer: &mut W,
+    store: &mut Store<D>,
 ) -> Result<(), Ending>
     requires { store.old.must_reopen ≡ false }
     ensures looks { D.honest store.old.disk → IsDurable D.Disk store.old → IsLookedAt D.Disk store.old store.new }
@@ -137,7 +142,7 @@ fn show<W: Write, D: Disk>(
     ensures device { IsSameDevice D.Disk store.old.disk store.new.disk }
 {
     let mut screen = Screen::new();
-    store.screen(&mut screen)?;
+    store.screen(alloc, &mut screen)?;
     let (rings, asks, forgets) = (sitting.rings, sitting.asks, sitting.forgets);
     sitting.look(&screen);
     paint(sitting, forgets, painter, writer, &screen)?;

@@ -9,6 +9,7 @@ ghost use Rattle.desk_sitting.specs.Doing.{Breaks, Does, OfPresses, TakesAll};
 use crate::sitting::Sitting;
 use desk_journal::{Error, Store};
 use sector_disk::Disk;
+use std::alloc::Global;
 use terminal_presses::{Heard, Parser, Press, Presses};
 
 /// Does what is pressed by all that was heard, one press after another, each event acknowledged before the next press.
@@ -17,6 +18,7 @@ use terminal_presses::{Heard, Parser, Press, Presses};
 /// `Fault`, where the disk fails, and it may be there or not. Nothing that was pressed after it is done, and the store
 /// must be opened again where its event was posted.
 pub fn do_presses<D: Disk>(
+    alloc: Global,
     sitting: &mut Sitting,
     parser: &mut Parser,
     hearing: &[Heard],
@@ -33,7 +35,7 @@ pub fn do_presses<D: Disk>(
     ensures device { IsSameDevice D.Disk store.old.disk store.new.disk }
 {
     for heard in hearing {
-        do_each(sitting, parser.take(*heard), store)?;
+        do_each(alloc, sitting, parser.take(*heard), store)?;
     }
     Ok(())
 }
@@ -42,6 +44,7 @@ pub fn do_presses<D: Disk>(
 ///
 /// Errors: `NoMemory`, where memory runs out; `Fault`, where the disk fails.
 fn do_each<D: Disk>(
+    alloc: Global,
     sitting: &mut Sitting,
     presses: Presses,
     store: &mut Store<D>,
@@ -51,8 +54,8 @@ fn do_each<D: Disk>(
 {
     match presses {
         Presses::Nothing => Ok(()),
-        Presses::One(press) => sitting.press(press, store),
-        Presses::Two(first, second) => do_both(sitting, first, second, store),
+        Presses::One(press) => sitting.press(alloc, press, store),
+        Presses::Two(first, second) => do_both(alloc, sitting, first, second, store),
     }
 }
 
@@ -61,6 +64,7 @@ fn do_each<D: Disk>(
 /// Errors: `NoMemory`, where memory runs out; `Fault`, where the disk fails. Where the first press fails the other one
 /// isn't done.
 fn do_both<D: Disk>(
+    alloc: Global,
     sitting: &mut Sitting,
     first: Press,
     second: Press,
@@ -69,6 +73,6 @@ fn do_both<D: Disk>(
     requires { store.old.must_reopen ≡ false }
     ensures { TakesAll D.Disk (first ∷ second ∷ []) result sitting.old sitting.new store.old store.new }
 {
-    sitting.press(first, store)?;
-    sitting.press(second, store)
+    sitting.press(alloc, first, store)?;
+    sitting.press(alloc, second, store)
 }

@@ -13,6 +13,7 @@ use desktop_definitions::Reply;
 use event_bytes::{Event, Keys};
 use screen_cells::Screen;
 use sector_disk::Disk;
+use std::alloc::Global;
 use terminal_presses::{Action, Arrow, Hand, HostName, Press, Sight};
 
 /// What a sitting knows beside the store: the hand, the rows in sight, the line below, and what is to be done when the
@@ -119,7 +120,12 @@ impl Sitting {
     ///
     /// Errors: `NoMemory`, where memory runs out, and an event of the press is on the disk in no image; `Fault`, where
     /// the disk fails, and it may be there or not.
-    pub(crate) fn press<D: Disk>(&mut self, press: Press, store: &mut Store<D>) -> Result<(), Error>
+    pub(crate) fn press<D: Disk>(
+        &mut self,
+        alloc: Global,
+        press: Press,
+        store: &mut Store<D>,
+    ) -> Result<(), Error>
         requires { store.old.must_reopen ≡ false }
         ensures { Takes D.Disk (after_press press (desk_of self.old store.old)) result self.new store.old store.new }
     {
@@ -127,17 +133,22 @@ impl Sitting {
             return Ok(());
         }
         let action = self.hand.take(self.sight, press);
-        self.act(action, store)
+        self.act(alloc, action, store)
     }
 
     /// Does what a press comes to.
-    fn act<D: Disk>(&mut self, action: Action, store: &mut Store<D>) -> Result<(), Error>
+    fn act<D: Disk>(
+        &mut self,
+        alloc: Global,
+        action: Action,
+        store: &mut Store<D>,
+    ) -> Result<(), Error>
         requires { store.old.must_reopen ≡ false }
         ensures { Takes D.Disk (acted action (desk_of self.old store.old)) result self.new store.old store.new }
     {
         match action {
-            Action::Post(event) => self.post(&event, store),
-            Action::Step(arrow) => self.step(arrow, store),
+            Action::Post(event) => self.post(alloc, &event, store),
+            Action::Step(arrow) => self.step(alloc, arrow, store),
             alone => {
                 self.act_alone(alone);
                 Ok(())
@@ -171,18 +182,28 @@ impl Sitting {
     }
 
     /// A left click beside the caret, as the screen has it, or a ring where no text is shown there.
-    fn step<D: Disk>(&mut self, arrow: Arrow, store: &mut Store<D>) -> Result<(), Error>
+    fn step<D: Disk>(
+        &mut self,
+        alloc: Global,
+        arrow: Arrow,
+        store: &mut Store<D>,
+    ) -> Result<(), Error>
         requires { store.old.must_reopen ≡ false }
         ensures { Takes D.Disk (acted (Action.Step arrow) (desk_of self.old store.old)) result self.new store.old
             store.new }
     {
         let mut screen = Screen::new();
-        store.screen(&mut screen)?;
-        self.click(aimed(arrow, &screen), store)
+        store.screen(alloc, &mut screen)?;
+        self.click(alloc, aimed(arrow, &screen), store)
     }
 
     /// A left click at a place, or a ring where there is none.
-    fn click<D: Disk>(&mut self, place: Option<(u8, u8)>, store: &mut Store<D>) -> Result<(), Error>
+    fn click<D: Disk>(
+        &mut self,
+        alloc: Global,
+        place: Option<(u8, u8)>,
+        store: &mut Store<D>,
+    ) -> Result<(), Error>
         requires { store.old.must_reopen ≡ false }
         ensures { Takes D.Disk (clicked place (desk_of self.old store.old)) result self.new store.old store.new }
     {
@@ -199,17 +220,22 @@ impl Sitting {
                     x1: x,
                     y1: y,
                 };
-                self.post(&click, store)
+                self.post(alloc, &click, store)
             }
         }
     }
 
     /// Posts an event.
-    fn post<D: Disk>(&mut self, event: &Event, store: &mut Store<D>) -> Result<(), Error>
+    fn post<D: Disk>(
+        &mut self,
+        alloc: Global,
+        event: &Event,
+        store: &mut Store<D>,
+    ) -> Result<(), Error>
         requires { store.old.must_reopen ≡ false }
         ensures { Takes D.Disk (posted event.now (desk_of self.old store.old)) result self.new store.old store.new }
     {
-        match store.post(event) {
+        match store.post(alloc, event) {
             Ok(reply) => {
                 self.reply(reply);
                 Ok(())

@@ -110,6 +110,7 @@ impl LiveDesktop {
     pub fn step<D: Disk>(
         &mut self,
         version: Version,
+        alloc: Global,
         event: &Event,
         disk: &mut D,
     ) -> Result<Reply, Error>
@@ -132,12 +133,20 @@ impl LiveDesktop {
         ensures faults { FailsAs Error.Fault OfDesktop result (D.failures disk.old) (D.failures disk.new) }
     {
         self.desktop.forget_stale(event, &mut self.lines);
-        Ok(step_over(version, &mut self.desktop, event, disk, &mut self.pages)?)
+        Ok(step_over(
+            version,
+            alloc,
+            &mut self.desktop,
+            event,
+            disk,
+            &mut self.pages,
+        )?)
     }
 
     /// The characters of the file of that name, with their looks; None where there is none.
     pub fn file<D: Disk>(
         &mut self,
+        alloc: Global,
         name: &Name,
         disk: &mut D,
     ) -> Result<Option<Vec<(u8, Look)>>, Error>
@@ -154,12 +163,12 @@ impl LiveDesktop {
     {
         match self.desktop.file(name) {
             None => Ok(None),
-            Some(text) => Ok(Some(read_over(self.desktop.alloc(), text, disk, &mut self.pages)?)),
+            Some(text) => Ok(Some(read_over(alloc, text, disk, &mut self.pages)?)),
         }
     }
 
     /// What the desktop has.
-    pub fn list<D: Disk>(&mut self, disk: &mut D) -> Result<Vec<Entry>, Error>
+    pub fn list<D: Disk>(&mut self, alloc: Global, disk: &mut D) -> Result<Vec<Entry>, Error>
         requires live { IsLive self.old }
         requires room { STORE_SECTORS ≤ D.size disk.old }
         requires told { IsTold D.Disk disk.old self.old }
@@ -170,11 +179,16 @@ impl LiveDesktop {
         ensures disk { IsConfined D.size D.honest D.trail Nowhere disk.old disk.new }
         ensures faults { FailsAs Error.Fault OfDesktop result (D.failures disk.old) (D.failures disk.new) }
     {
-        Ok(list_over(&mut self.desktop, disk, &mut self.pages)?)
+        Ok(list_over(alloc, &mut self.desktop, disk, &mut self.pages)?)
     }
 
     /// Paints what the desktop shows. Rows whose line is kept aren't read.
-    pub fn screen<D: Disk>(&mut self, screen: &mut Screen, disk: &mut D) -> Result<(), Error>
+    pub fn screen<D: Disk>(
+        &mut self,
+        alloc: Global,
+        screen: &mut Screen,
+        disk: &mut D,
+    ) -> Result<(), Error>
         requires live { IsLive self.old }
         requires room { STORE_SECTORS ≤ D.size disk.old }
         requires told { IsTold D.Disk disk.old self.old }
@@ -185,6 +199,7 @@ impl LiveDesktop {
         ensures faults { FailsAs Error.Fault OfDesktop result (D.failures disk.old) (D.failures disk.new) }
     {
         screen_over(
+            alloc,
             &mut self.desktop,
             &mut self.lines,
             screen,

@@ -83,6 +83,7 @@ fn version_of(head: &Head) -> Version
 
 /// Does the journal's events, with the commands of that version, and returns how many there are.
 fn replay<D: Disk>(
+    alloc: Global,
     disk: &mut D,
     slot: u32,
     version: Version,
@@ -109,7 +110,7 @@ fn replay<D: Disk>(
     for k in 0..JOURNAL_EVENTS {
         match read_event(disk, slot, k)? {
             Some(event) => {
-                let _ = desktop.step(version, &event, disk)?;
+                let _ = desktop.step(version, alloc, &event, disk)?;
             }
             None => return Ok(k),
         }
@@ -144,7 +145,7 @@ pub fn load<D: Disk>(alloc: Global, disk: &mut D) -> Result<Loaded, Error>
     let (slot, head) = locate(disk)?;
     let version = version_of(&head);
     let mut desktop = load_slot(alloc, disk, slot, version, &head)?;
-    let events = replay(disk, slot, version, &mut desktop)?;
+    let events = replay(alloc, disk, slot, version, &mut desktop)?;
     Ok(Loaded {
         desktop,
         slot,

@@ -23,6 +23,7 @@ use text_core::Text;
 /// Does the event, with the commands of that version.
 pub(crate) fn step_over<D: Disk>(
     version: Version,
+    alloc: Global,
     desktop: &mut Desktop,
     event: &Event,
     disk: &mut D,
@@ -42,7 +43,7 @@ pub(crate) fn step_over<D: Disk>(
     ensures faults { FailsAs Stop.Fault IsStop result (D.failures disk.old) (D.failures disk.new) }
 {
     let mut source = Paged::over(disk, pages);
-    desktop.step(version, event, &mut source)
+    desktop.step(version, alloc, event, &mut source)
 }
 
 /// All characters of a text with their looks.
@@ -65,6 +66,7 @@ pub(crate) fn read_over<D: Disk>(
 
 /// What the desktop has.
 pub(crate) fn list_over<D: Disk>(
+    alloc: Global,
     desktop: &mut Desktop,
     disk: &mut D,
     pages: &mut Pages,
@@ -78,11 +80,12 @@ pub(crate) fn list_over<D: Disk>(
     ensures faults { FailsAs Stop.Fault IsStop result (D.failures disk.old) (D.failures disk.new) }
 {
     let mut source = Paged::over(disk, pages);
-    desktop.list(&mut source)
+    desktop.list(alloc, &mut source)
 }
 
 /// Paints what the desktop shows.
 pub(crate) fn screen_over<D: Disk>(
+    alloc: Global,
     desktop: &mut Desktop,
     lines: &mut KeptLines,
     screen: &mut Screen,
@@ -102,5 +105,5 @@ pub(crate) fn screen_over<D: Disk>(
     ensures faults { FailsAs Stop.Fault IsStop result (D.failures disk.old) (D.failures disk.new) }
 {
     let mut source = Paged::over(disk, pages);
-    desktop.screen(lines, &mut source, screen)
+    desktop.screen(alloc, lines, &mut source, screen)
 }

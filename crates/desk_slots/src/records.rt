@@ -16,6 +16,7 @@ use crate::live::LiveDesktop;
 use event_bytes::Event;
 use event_loop::{NEWEST, Reply};
 use sector_disk::{Disk, Fault, SECTOR_BYTES};
+use std::alloc::Global;
 use store_layout::{
     JOURNAL_EVENTS, LAYOUT, SLOTS, STORE_SECTORS, body, body_of, closed_gate, gate, open_gate,
 };
@@ -83,6 +84,7 @@ fn add_record<D: Disk>(disk: &mut D, slot: u32, k: u32, event: &Event) -> Result
 /// Does the event, with the commands of the newest version, which the slot has, and puts it into the journal after its
 /// first k events.
 pub fn record<D: Disk>(
+    alloc: Global,
     desktop: &mut LiveDesktop,
     disk: &mut D,
     slot: u32,
@@ -123,7 +125,7 @@ pub fn record<D: Disk>(
     ensures within { StaysWithin D.Disk disk.old disk.new }
     ensures faults { FailsAs Error.Fault OfDesktop result (D.failures disk.old) (D.failures disk.new) }
 {
-    let reply = desktop.step(NEWEST, event, disk)?;
+    let reply = desktop.step(NEWEST, alloc, event, disk)?;
     add_record(disk, slot, k, event)?;
     Ok(reply)
 }

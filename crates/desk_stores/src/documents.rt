@@ -30,7 +30,7 @@ fn named(name: &str) -> Result<Name, Trouble> {
 /// The same, while the file is locked.
 fn export_from(rt: &HostRuntime, path: &str, name: &Name) -> Result<(), Trouble> {
     let mut store = opened(rt, path)?;
-    match store.file(name)? {
+    match store.file(rt.alloc(), name)? {
         Some(characters) => print(rt, host_text(rt.alloc(), characters.as_slice())?.as_slice()),
         None => Err(Trouble::NoDocument),
     }
@@ -74,7 +74,7 @@ fn bytes_of(rt: &HostRuntime, file: &str) -> Result<FileBytes, Trouble> {
 /// The same, while the file is locked.
 fn import_into(rt: &HostRuntime, path: &str, event: &Event) -> Result<(), Trouble> {
     let mut store = opened(rt, path)?;
-    match store.post(event)? {
+    match store.post(rt.alloc(), event)? {
         Reply::Done => Ok(()),
         Reply::No(code) => Err(Trouble::Refused(code)),
     }

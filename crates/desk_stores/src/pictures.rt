@@ -15,7 +15,7 @@ pub fn picture(rt: &HostRuntime, path: &str) -> Result<(), Trouble> {
 fn picture_of(rt: &HostRuntime, path: &str) -> Result<(), Trouble> {
     let mut store = opened(rt, path)?;
     let mut screen = Screen::new();
-    store.screen(&mut screen)?;
+    store.screen(rt.alloc(), &mut screen)?;
     match draw(&mut rt.stdout(), screen.rows()) {
         Ok(()) => Ok(()),
         Err(_) => Err(Trouble::Output),

@@ -32,7 +32,7 @@ pub(crate) fn new_store<D: Disk + Drop>(rt: &HostRuntime, disk: D) -> Result<Sto
     ensures { IfOk result (λ store. store.must_reopen ≡ false) }
 {
     let mut store = opened_on(rt, formatted(disk)?)?;
-    furnish(&mut store)?;
+    furnish(rt.alloc(), &mut store)?;
     Ok(store)
 }
 

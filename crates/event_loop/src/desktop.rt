@@ -40,7 +40,7 @@ use viewer_tracks::Track;
 /// A clause sees it as it is kept (`KeptDesktop` in `specs/Desktop.antt` of `desktop_definitions`), each text as pieces
 /// that name characters. These stand in a source, among which the desktop is `seen`. Each call that makes or reads
 /// characters is handed the source, and asks that the desktop is over it (`IsOver`): the source has just the characters
-/// that were written.
+/// that were written. It takes memory from the allocator that it was handed last.
 #[derive(Drop)]
 pub struct Desktop {
     desk: Desk,
@@ -91,11 +91,6 @@ impl Desktop {
         Ok(Desktop { desk })
     }
 
-    /// Where the desktop has its memory.
-    pub fn alloc(&self) -> Global {
-        self.desk.alloc
-    }
-
     /// Does the event, by this profile's rules with the commands of that version, and returns Done, or No with the code
     /// of a refusal, which leaves the desktop and the length of the source. The source has just the characters that
     /// count as written, before and after any reply: they were added to, or were exchanged for those that the desktop
@@ -106,6 +101,7 @@ impl Desktop {
     pub fn step<S: CharSource>(
         &mut self,
         version: Version,
+        alloc: Global,
         event: &Event,
         source: &mut S,
     ) -> Result<Reply, Stop>
@@ -120,6 +116,7 @@ impl Desktop {
         ensures source { IsSameSource S.failures S.honest S.same_ground source.old source.new }
         ensures faults { FailsAs Stop.Fault IsStop result (S.failures source.old) (S.failures source.new) }
     {
+        self.desk.alloc = alloc;
         act(&mut self.desk, version, event, source)
     }
 
@@ -140,7 +137,7 @@ impl Desktop {
     ///
     /// Nothing but the names of viewers is read. NoMemory where an allocation is refused; Fault where a character could
     /// not be read. The desktop stays, whatever is returned.
-    pub fn list<S: CharSource>(&mut self, source: &mut S) -> Result<Vec<Entry>, Stop>
+    pub fn list<S: CharSource>(&mut self, alloc: Global, source: &mut S) -> Result<Vec<Entry>, Stop>
         requires { IsOver (S.characters source.old) self.old }
         ensures entries { IfOk result (λ entries. S.honest source.old
             → entries.items ≡ entries_of (seen (S.characters source.old) self.old)) }
@@ -149,7 +146,8 @@ impl Desktop {
         ensures reads { OnlyReads S.characters S.failures S.honest S.same_ground source.old source.new }
         ensures faults { FailsAs Stop.Fault IsStop result (S.failures source.old) (S.failures source.new) }
     {
-        let mut entries = entries(self.desk.alloc, &self.desk.files)?;
+        self.desk.alloc = alloc;
+        let mut entries = entries(alloc, &self.desk.files)?;
         list_column(&self.desk, Track::User, &mut entries, source)?;
         list_column(&self.desk, Track::System, &mut entries, source)?;
         entries.push(Entry::Written(self.desk.written))?;
@@ -177,6 +175,7 @@ impl Desktop {
     /// anything. The desktop stays, whatever is returned.
     pub fn screen<S: CharSource>(
         &mut self,
+        alloc: Global,
         lines: &mut KeptLines,
         source: &mut S,
         screen: &mut Screen,
@@ -192,6 +191,7 @@ impl Desktop {
         ensures reads { OnlyReads S.characters S.failures S.honest S.same_ground source.old source.new }
         ensures faults { FailsAs Stop.Fault IsStop result (S.failures source.old) (S.failures source.new) }
     {
+        self.desk.alloc = alloc;
         paint(&self.desk, lines, source, screen)
     }
 

@@ -10,6 +10,7 @@ ghost use Rattle.first_desk.specs.FirstDesk.{tool_event as tool_filed, opening a
 use desk_journal::{Error, Store};
 use event_bytes::{Event, FileBytes, Keys, Name};
 use sector_disk::Disk;
+use std::alloc::Global;
 
 /// The name of the document that a click on the empty display opens.
 pub const TOOL_NAME: &[u8] = b"System.Tool";
@@ -52,13 +53,13 @@ System.Collect\r\
 /// Makes the document with the words of all commands, and opens it in a viewer.
 ///
 /// Errors: those of `Store::post`.
-pub fn furnish<D: Disk>(store: &mut Store<D>) -> Result<(), Error>
+pub fn furnish<D: Disk>(alloc: Global, store: &mut Store<D>) -> Result<(), Error>
     ensures desktop { OnOk result (D.honest store.old.disk
         → store.new.desktop ≡ steps store.old.desktop furnishing) }
     ensures usable { OnOk result (store.new.must_reopen ≡ false) }
 {
-    store.post(&tool_event())?;
-    store.post(&opening())?;
+    store.post(alloc, &tool_event())?;
+    store.post(alloc, &opening())?;
     Ok(())
 }
 

@@ -54,6 +54,6 @@ pub fn new_in_memory(rt: &HostRuntime) -> Result<Store<MemoryDisk>, Error>
 /// Errors: those of `in_file` and `Store::screen`.
 pub fn show(rt: &HostRuntime, path: &str, screen: &mut Screen) -> Result<(), Error> {
     let mut store = in_file(rt, path)?;
-    store.screen(screen)?;
+    store.screen(rt.alloc(), screen)?;
     Ok(())
 }

@@ -46,7 +46,7 @@ pub fn work_out<D: Disk>(
     ensures { WorksOut D.Disk request.now result store.old store.new }
 {
     match request {
-        Request::Post(event) => post(event, store),
+        Request::Post(event) => post(alloc, event, store),
         Request::Checkpoint => checkpoint(store),
         Request::Show(name) => show(alloc, name, store),
         Request::Listing => list(alloc, store),
@@ -56,11 +56,11 @@ pub fn work_out<D: Disk>(
 }
 
 /// Posts an event. Its answer is the reply, or `worn` where there is no room for it any more.
-fn post<D: Disk>(event: &Event, store: &mut Store<D>) -> Result<Answer, PlayEnd>
+fn post<D: Disk>(alloc: Global, event: &Event, store: &mut Store<D>) -> Result<Answer, PlayEnd>
     requires { store.old.must_reopen ≡ false }
     ensures { WorksOut D.Disk (Post event.now) result store.old store.new }
 {
-    match store.post(event) {
+    match store.post(alloc, event) {
         Ok(reply) => Ok(Answer::Short(reply_bytes(reply))),
         Err(error) => refused(error),
     }
@@ -94,7 +94,7 @@ fn show<D: Disk>(alloc: Global, name: &Name, store: &mut Store<D>) -> Result<Ans
     requires { store.old.must_reopen ≡ false }
     ensures { LooksOut D.Disk (Show name.now) result store.old store.new }
 {
-    match store.file(name)? {
+    match store.file(alloc, name)? {
         None => Ok(Answer::Short(refusal_bytes(NO_SUCH_FILE))),
         Some(text) => Ok(Answer::Long(text_bytes(alloc, text.as_slice())?)),
     }
@@ -106,7 +106,7 @@ fn list<D: Disk>(alloc: Global, store: &mut Store<D>) -> Result<Answer, PlayEnd>
     requires { store.old.must_reopen ≡ false }
     ensures { LooksOut D.Disk Listing result store.old store.new }
 {
-    let entries = store.list()?;
+    let entries = store.list(alloc)?;
     Ok(Answer::Long(list_bytes(alloc, entries.as_slice())?))
 }
 
@@ -117,7 +117,7 @@ fn screen<D: Disk>(alloc: Global, store: &mut Store<D>) -> Result<Answer, PlayEn
     ensures { LooksOut D.Disk Display result store.old store.new }
 {
     let mut screen = Screen::new();
-    store.screen(&mut screen)?;
+    store.screen(alloc, &mut screen)?;
     Ok(Answer::Long(screen_bytes(alloc, &screen)?))
 }
 

@@ -17,11 +17,11 @@ use std::alloc::Global;
 /// Makes one call.
 ///
 /// Errors: those of `Store::post` and `Store::checkpoint`.
-pub fn serve<D: Disk>(store: &mut Store<D>, call: &StoreCall) -> StoreAnswer
+pub fn serve<D: Disk>(alloc: Global, store: &mut Store<D>, call: &StoreCall) -> StoreAnswer
     ensures { Serves D.Disk call.now result store.old store.new }
 {
     match call {
-        StoreCall::Post(event) => store.post(event),
+        StoreCall::Post(event) => store.post(alloc, event),
         StoreCall::Checkpoint => match store.checkpoint() {
             Ok(()) => Ok(Reply::Done),
             Err(error) => Err(error),
@@ -51,7 +51,7 @@ pub fn serve_all<D: Disk>(
     let _ = store.info();
     runs_survive::<D>();
     for call in calls {
-        let answer = serve(store, call);
+        let answer = serve(alloc, store, call);
         answers.push_reserved(answer);
     }
     Ok(answers)
@@ -81,7 +81,7 @@ pub fn serve_and_reopen<D: Disk>(
     // What the store shows is what a crash would leave now.
     let _ = store.info();
     for call in calls {
-        if let Err(error) = serve(&mut store, call) {
+        if let Err(error) = serve(alloc, &mut store, call) {
             return Err((error, store.close()));
         }
     }
