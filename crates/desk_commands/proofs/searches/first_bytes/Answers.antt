@@ -32,5 +32,5 @@ loop-preserved g c =
       read = λ h. subst (AreRead bs c.args.selection.beg) (sym c.push.ensures.items)
           (read_more bs c.args.selection.beg c.loop.pattern.items c.in_ok-next_byte.field-0
           (seen s.characters s.failures s.honest s.same_ground laws.ground_self laws.ground_through _ _ _ _ _ now.way
-          c.in_ok-next_byte.field-0 read.byte h) (now.read h));
+          c.in_ok-next_byte.field-0 read.there h) (now.read h));
     }
