@@ -29,9 +29,9 @@ pub fn copy_of(alloc: Global, text: &Text) -> Result<Text, NoMemory>
     ensures { IfOk result (λ copy. flat copy ≡ flat text.now) }
 {
     let mut buffer = Buffer::new(alloc)?;
-    text.save(0, text.len(), &mut buffer)?;
+    text.save(alloc, 0, text.len(), &mut buffer)?;
     let mut copy = Text::new(alloc)?;
-    copy.append(&mut buffer)?;
+    copy.append(alloc, &mut buffer)?;
     Ok(copy)
 }
 

@@ -63,7 +63,7 @@ fn put_pieces<S: CharSource>(
             len: piece.len,
             look: piece.look,
         };
-        buffer.add(moved)?;
+        buffer.add(alloc, moved)?;
     }
     Ok(buffer)
 }
@@ -94,7 +94,7 @@ fn put_text<S: CharSource>(
 {
     let mut buffer = put_pieces(alloc, pieces_of(text), made, source)?;
     let mut new = Text::new(alloc)?;
-    new.append(&mut buffer)?;
+    new.append(alloc, &mut buffer)?;
     Ok(new)
 }
 

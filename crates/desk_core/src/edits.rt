@@ -79,7 +79,7 @@ impl Desk {
         let mut copy = Buffer::new(self.alloc)?;
         let number = self.main_of(selection.viewer);
         if let Some(text) = self.texts.get(&number) {
-            text.save(selection.beg, selection.end, &mut copy)?;
+            text.save(self.alloc, selection.beg, selection.end, &mut copy)?;
         }
         Ok(copy)
     }
@@ -196,7 +196,7 @@ pub fn buffer_of_run(alloc: Global, first: u32, count: u32, look: Look) -> Resul
         len: count,
         look,
     };
-    buffer.add(piece)?;
+    buffer.add(alloc, piece)?;
     Ok(buffer)
 }
 
@@ -216,7 +216,7 @@ impl Desk {
             return Ok(Reply::No(codes::FULL));
         }
         let mut copy = Buffer::new(self.alloc)?;
-        buffer.copy_to(&mut copy)?;
+        buffer.copy_to(self.alloc, &mut copy)?;
         self.put_at_caret(caret, &mut copy, source)?;
         Ok(Reply::Done)
     }

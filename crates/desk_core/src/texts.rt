@@ -28,7 +28,13 @@ use text_core::Buffer;
 use viewer_tracks::ViewerId;
 
 /// Puts the buffer's characters into the text of that number at `pos`, and leaves the buffer empty.
-fn put_in(texts: &mut Texts, number: u16, pos: u32, buffer: &mut Buffer) -> Result<(), NoMemory>
+fn put_in(
+    texts: &mut Texts,
+    alloc: Global,
+    number: u16,
+    pos: u32,
+    buffer: &mut Buffer,
+) -> Result<(), NoMemory>
     requires there { IsSome (numbered texts.old.entries number) }
     requires place { pos ≤ length (flat (text_in texts.old.entries number)) }
     requires short { length (flat (text_in texts.old.entries number)) + length (flat buffer.old) < 2 ^ 32 }
@@ -37,7 +43,7 @@ fn put_in(texts: &mut Texts, number: u16, pos: u32, buffer: &mut Buffer) -> Resu
 {
     match texts.get_mut(&number) {
         Some(text) => {
-            text.insert(pos, buffer)?;
+            text.insert(alloc, pos, buffer)?;
             Ok(())
         }
         None => unreachable!(),
@@ -62,7 +68,7 @@ fn take_out(
     let mut taken = Buffer::new(alloc)?;
     match texts.get_mut(&number) {
         Some(text) => {
-            text.delete(beg, end, &mut taken)?;
+            text.delete(alloc, beg, end, &mut taken)?;
             Ok(taken)
         }
         None => unreachable!(),
@@ -72,6 +78,7 @@ fn take_out(
 /// The selected characters of the text of that number get the looks that `selector` takes of this one.
 fn relook(
     texts: &mut Texts,
+    alloc: Global,
     number: u16,
     selection: Selection,
     selector: u8,
@@ -85,7 +92,7 @@ fn relook(
 {
     match texts.get_mut(&number) {
         Some(text) => {
-            text.change_looks(selection.beg, selection.end, selector, look)?;
+            text.change_looks(alloc, selection.beg, selection.end, selector, look)?;
             Ok(())
         }
         None => unreachable!(),
@@ -167,7 +174,7 @@ impl Desk {
         if count == 0 {
             return Ok(());
         }
-        put_in(&mut self.texts, number, pos, buffer)?;
+        put_in(&mut self.texts, self.alloc, number, pos, buffer)?;
         let put = TextChange {
             number,
             pos,
@@ -233,7 +240,14 @@ impl Desk {
         ensures columns { OnOk result ((kept self.new).columns ≡ (kept self.old).columns) }
     {
         let number = viewer_or_none(&self.viewers, selection.viewer).main;
-        relook(&mut self.texts, number, selection, selector, look)?;
+        relook(
+            &mut self.texts,
+            self.alloc,
+            number,
+            selection,
+            selector,
+            look,
+        )?;
         self.unmark(number);
         select(&mut self.selections, selection)?;
         Ok(())

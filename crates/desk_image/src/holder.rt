@@ -18,7 +18,7 @@ pub trait Holder: Drop + Sized {
         ensures { IfOk result (λ holder. held holder ≡ []) };
 
     /// Puts a piece at the end.
-    fn put(&mut self, piece: Piece) -> Result<(), AllocError>
+    fn put(&mut self, alloc: Global, piece: Piece) -> Result<(), AllocError>
         requires whole { IsWhole piece }
         requires fits { total (held self.old) + piece.len < 2 ^ 32 }
         ensures { OnOk result (held self.new ≡ held self.old ++ piece ∷ []) };
@@ -32,8 +32,8 @@ impl Holder for Text {
         Text::new(alloc)
     }
 
-    fn put(&mut self, piece: Piece) -> Result<(), AllocError> {
-        self.push(piece)
+    fn put(&mut self, alloc: Global, piece: Piece) -> Result<(), AllocError> {
+        self.push(alloc, piece)
     }
 }
 
@@ -45,7 +45,7 @@ impl Holder for Buffer {
         Buffer::new(alloc)
     }
 
-    fn put(&mut self, piece: Piece) -> Result<(), AllocError> {
-        self.push(piece)
+    fn put(&mut self, alloc: Global, piece: Piece) -> Result<(), AllocError> {
+        self.push(alloc, piece)
     }
 }

@@ -189,7 +189,7 @@ fn many_pieces<S: ByteSource, H: Holder>(
     for _ in 0..count {
         let piece = piece_from(source, base.written, left)?;
         left -= piece.len;
-        pieces.put(piece)?;
+        pieces.put(base.alloc, piece)?;
     }
     *room = left;
     Ok(pieces)

@@ -3,8 +3,9 @@
 use Rattle.std.specs.Prelude.{◌≡◌, ℕ, pos, neg_ℤ, List, [], ◌∷◌, ◌++◌, map, replicate, codes}
 use Rattle.std.specs.Prelude.{Some, None, unwrap_or, refl}
 use Rattle.std.specs.Fmt.{digits}
+use Rattle.text_frames.specs.declared.frame.Frame.{Frame}
 use Rattle.text_frames.specs.Lines.{line_start}
-use Rattle.text_frames.specs.Rules.{changed_org, shown_org}
+use Rattle.text_frames.specs.Rules.{by_change_rule, by_show_rule, cleared}
 use Rattle.text_frames.specs.Cells.{position_at, cell_of}
 use Rattle.text_frames.specs.Row.{row_cells}
 use Rattle.viewer_tracks.specs.declared.display.Track.TheVariants.{User, System}
@@ -28,6 +29,15 @@ starts_of_lines = refl
 pub start_of_nothing : line_start [] 0 ≡ 0
 start_of_nothing = refl
 
+-- a frame with a caret and a selection
+abbrev pub frame : ℕ → Frame
+frame org = record {
+  text = 1;
+  org = org;
+  caret = Some 0;
+  selection = Some (record { beg = 0; end = 1; rank = 1 });
+}
+
 -- where a frame of h rows begins after a position was brought into sight: org, h, the position, and org then
 abbrev pub Brought : Type 0
 Brought = ℕ × ℕ × ℕ × ℕ
@@ -45,13 +55,13 @@ brought =
     (0, 0, 10, 9) ∷
     (0, 1, 3, 3) ∷ []
 
-abbrev pub org_shown : Brought → ℕ
-org_shown r = shown_org lines r.1 r.2 r.0
+abbrev pub frame_shown : Brought → Frame
+frame_shown r = by_show_rule lines r.1 r.2 (frame r.0)
 
-abbrev pub org_brought : Brought → ℕ
-org_brought r = r.3
+abbrev pub frame_brought : Brought → Frame
+frame_brought r = frame r.3
 
-pub rows_brought_into_sight : map org_shown brought ≡ map org_brought brought
+pub rows_brought_into_sight : map frame_shown brought ≡ map frame_brought brought
 rows_brought_into_sight = refl
 
 -- where a frame begins after its text was changed: the text then, org, the place, how much was inserted and deleted,
@@ -69,14 +79,17 @@ followed =
     ("cd\ref", 6, 0, 0, 3, 3) ∷
     ("", 6, 0, 0, 8, 0) ∷ []
 
-abbrev pub org_changed : Followed → ℕ
-org_changed r = changed_org (codes r.0) r.2 r.3 r.4 r.1
+abbrev pub frame_changed : Followed → Frame
+frame_changed r = by_change_rule (codes r.0) r.2 r.3 r.4 (frame r.1)
 
-abbrev pub org_followed : Followed → ℕ
-org_followed r = r.5
+abbrev pub frame_followed : Followed → Frame
+frame_followed r = cleared (frame r.5)
 
-pub changes_followed : map org_changed followed ≡ map org_followed followed
+pub changes_followed : map frame_changed followed ≡ map frame_followed followed
 changes_followed = refl
+
+pub no_change_followed : by_change_rule (codes "ab\rcd") 0 0 0 (frame 4) ≡ frame 4
+no_change_followed = refl
 
 -- positions at cells: the column, the row, and the position
 abbrev pub AtCell : Type 0

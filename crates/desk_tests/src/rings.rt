@@ -39,10 +39,10 @@ enum Edit {
 }
 
 /// Does that, where the positions are in the ring.
-fn apply(rt: &impl Abort, ring: &mut Ring, edit: Edit) -> Result<(), NoMemory> {
+fn apply(rt: &impl Abort, alloc: Global, ring: &mut Ring, edit: Edit) -> Result<(), NoMemory> {
     match edit {
-        Edit::Add(off, len, look) => add(rt, ring, Piece { off, len, look }),
-        Edit::Push(off, len) => push(rt, ring, off, len),
+        Edit::Add(off, len, look) => add(rt, alloc, ring, Piece { off, len, look }),
+        Edit::Push(off, len) => push(rt, alloc, ring, off, len),
         Edit::Locate(pos) => {
             assert!(rt; pos <= ring.len());
             ring.locate(pos);
@@ -50,60 +50,79 @@ fn apply(rt: &impl Abort, ring: &mut Ring, edit: Edit) -> Result<(), NoMemory> {
         }
         Edit::Split(pos) => {
             assert!(rt; pos <= ring.len());
-            ring.split_at(pos)
+            ring.split_at(alloc, pos)
         }
         Edit::Cut(beg, end) => {
-            cut(rt, ring, beg, end)?;
+            cut(rt, alloc, ring, beg, end)?;
             Ok(())
         }
         Edit::Keep(beg, end) => {
-            *ring = cut(rt, ring, beg, end)?;
+            *ring = cut(rt, alloc, ring, beg, end)?;
             Ok(())
         }
         Edit::Copy(beg, end) => {
             assert!(rt; beg <= end);
             assert!(rt; end <= ring.len());
-            *ring = ring.copy(beg, end)?;
+            *ring = ring.copy(alloc, beg, end)?;
             Ok(())
         }
-        Edit::Move(beg, end, pos) => move_to(rt, ring, beg, end, pos),
+        Edit::Move(beg, end, pos) => move_to(rt, alloc, ring, beg, end, pos),
         Edit::SetFont(beg, end, look) => {
             assert!(rt; beg <= end);
             assert!(rt; end <= ring.len());
-            ring.set_looks(beg, end, 1, look)
+            ring.set_looks(alloc, beg, end, 1, look)
         }
     }
 }
 
 /// Adds a piece.
-fn add(rt: &impl Abort, ring: &mut Ring, piece: Piece) -> Result<(), NoMemory> {
+fn add(rt: &impl Abort, alloc: Global, ring: &mut Ring, piece: Piece) -> Result<(), NoMemory> {
     assert!(rt; ring.len() < 1_000);
     assert!(rt; 0 < piece.len);
     assert!(rt; piece.off < 1_000);
     assert!(rt; piece.len < 1_000);
-    ring.add(piece)
+    ring.add(alloc, piece)
 }
 
 /// Puts a piece in at the end, as it is.
-fn push(rt: &impl Abort, ring: &mut Ring, off: u32, len: u32) -> Result<(), NoMemory> {
+fn push(
+    rt: &impl Abort,
+    alloc: Global,
+    ring: &mut Ring,
+    off: u32,
+    len: u32,
+) -> Result<(), NoMemory> {
     assert!(rt; ring.len() < 1_000);
     assert!(rt; off < 1_000 && 0 < len && len < 1_000);
     let look = DEFAULT_LOOK;
-    ring.push(Piece { off, len, look })
+    ring.push(alloc, Piece { off, len, look })
 }
 
 /// Takes the characters of a stretch out.
-fn cut(rt: &impl Abort, ring: &mut Ring, beg: u32, end: u32) -> Result<Ring, NoMemory> {
+fn cut(
+    rt: &impl Abort,
+    alloc: Global,
+    ring: &mut Ring,
+    beg: u32,
+    end: u32,
+) -> Result<Ring, NoMemory> {
     assert!(rt; beg <= end);
     assert!(rt; end <= ring.len());
-    ring.cut(beg, end)
+    ring.cut(alloc, beg, end)
 }
 
 /// Takes the characters of a stretch out, and puts them in at a position.
-fn move_to(rt: &impl Abort, ring: &mut Ring, beg: u32, end: u32, pos: u32) -> Result<(), NoMemory> {
-    let taken = cut(rt, ring, beg, end)?;
+fn move_to(
+    rt: &impl Abort,
+    alloc: Global,
+    ring: &mut Ring,
+    beg: u32,
+    end: u32,
+    pos: u32,
+) -> Result<(), NoMemory> {
+    let taken = cut(rt, alloc, ring, beg, end)?;
     assert!(rt; pos <= ring.len() && ring.len() < 1_000 && taken.len() < 1_000);
-    match ring.splice(pos, taken) {
+    match ring.splice(alloc, pos, taken) {
         Ok(()) => Ok(()),
         Err((refused, _)) => Err(refused),
     }
@@ -112,9 +131,9 @@ fn move_to(rt: &impl Abort, ring: &mut Ring, beg: u32, end: u32, pos: u32) -> Re
 /// The ring that has the offsets 0 to 5 as one piece, edited.
 fn edited(rt: &impl Abort, alloc: Global, edits: &[Edit]) -> Result<Ring, NoMemory> {
     let mut ring = Ring::new(alloc)?;
-    apply(rt, &mut ring, Edit::Add(0, 6, DEFAULT_LOOK))?;
+    apply(rt, alloc, &mut ring, Edit::Add(0, 6, DEFAULT_LOOK))?;
     for one in edits {
-        apply(rt, &mut ring, *one)?;
+        apply(rt, alloc, &mut ring, *one)?;
     }
     Ok(ring)
 }
@@ -221,7 +240,7 @@ fn typed(rt: &impl Abort, alloc: Global, other: u32) -> Result<(u32, u32), NoMem
     let mut ring = Ring::new(alloc)?;
     for off in 0..100 {
         let look = if off == other { FONT_3 } else { DEFAULT_LOOK };
-        apply(rt, &mut ring, Edit::Add(off, 1, look))?;
+        apply(rt, alloc, &mut ring, Edit::Add(off, 1, look))?;
     }
     Ok((ring.len(), ring.pieces()))
 }
@@ -239,9 +258,9 @@ fn merged_adds(rt: HostRuntime) -> Result<(), Fail> {
 fn walked(rt: &impl Abort, alloc: Global, last: Edit, pos: u32) -> Result<u32, NoMemory> {
     let mut ring = Ring::new(alloc)?;
     for i in 0..10 {
-        apply(rt, &mut ring, Edit::Add(20 * i, 10, DEFAULT_LOOK))?;
+        apply(rt, alloc, &mut ring, Edit::Add(20 * i, 10, DEFAULT_LOOK))?;
     }
-    apply(rt, &mut ring, last)?;
+    apply(rt, alloc, &mut ring, last)?;
     assert!(rt; pos <= ring.len());
     Ok(ring.cursor(pos).walked())
 }

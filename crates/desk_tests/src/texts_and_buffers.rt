@@ -52,6 +52,7 @@ enum Edit {
 /// Does that, where the positions are in the text.
 fn apply(
     rt: &impl Abort,
+    alloc: Global,
     text: &mut Text,
     buffer: &mut Buffer,
     edit: Edit,
@@ -62,26 +63,26 @@ fn apply(
         Edit::Add(off, len) => {
             assert!(rt; off < 100 && 0 < len && len < 100);
             let look = DEFAULT_LOOK;
-            buffer.add(Piece { off, len, look })
+            buffer.add(alloc, Piece { off, len, look })
         }
         Edit::PushText(off, len) => {
             assert!(rt; off < 100 && 0 < len && len < 100);
             let look = DEFAULT_LOOK;
-            text.push(Piece { off, len, look })
+            text.push(alloc, Piece { off, len, look })
         }
         Edit::PushBuffer(off, len) => {
             assert!(rt; off < 100 && 0 < len && len < 100);
             let look = DEFAULT_LOOK;
-            buffer.push(Piece { off, len, look })
+            buffer.push(alloc, Piece { off, len, look })
         }
         Edit::CopyTo(off) => {
-            *buffer = copied_to(rt, off, buffer)?;
+            *buffer = copied_to(rt, alloc, off, buffer)?;
             Ok(())
         }
         Edit::TakeAndAppend => {
-            let ring = buffer.take()?;
+            let ring = buffer.take(alloc)?;
             assert!(rt; buffer.len() < 100 && ring.len() < 100);
-            buffer.append(ring)
+            buffer.append(alloc, ring)
         }
         Edit::Clear => {
             buffer.clear();
@@ -89,33 +90,38 @@ fn apply(
         }
         Edit::Save(beg, end) => {
             assert!(rt; beg <= end && beg <= text.len());
-            *buffer = saved(buffer.alloc(), text, beg, end)?;
+            *buffer = saved(alloc, text, beg, end)?;
             Ok(())
         }
         Edit::Delete(beg, end) => {
             assert!(rt; beg <= end && beg <= text.len());
-            text.delete(beg, end, buffer)
+            text.delete(alloc, beg, end, buffer)
         }
         Edit::Insert(pos) => {
             assert!(rt; pos <= text.len());
-            text.insert(pos, buffer)
+            text.insert(alloc, pos, buffer)
         }
-        Edit::Append => text.append(buffer),
+        Edit::Append => text.append(alloc, buffer),
         Edit::ChangeLooks(beg, end, sel) => {
             assert!(rt; beg <= end && beg <= text.len());
-            text.change_looks(beg, end, sel, CHANGED)
+            text.change_looks(alloc, beg, end, sel, CHANGED)
         }
     }
 }
 
 /// A buffer with one character, and after it those of another.
-fn copied_to(rt: &impl Abort, off: u32, buffer: &Buffer) -> Result<Buffer, NoMemory> {
+fn copied_to(
+    rt: &impl Abort,
+    alloc: Global,
+    off: u32,
+    buffer: &Buffer,
+) -> Result<Buffer, NoMemory> {
     assert!(rt; off < 100);
     assert!(rt; buffer.len() < 100);
-    let mut other = Buffer::new(buffer.alloc())?;
+    let mut other = Buffer::new(alloc)?;
     let look = DEFAULT_LOOK;
-    other.add(Piece { off, len: 1, look })?;
-    buffer.copy_to(&mut other)?;
+    other.add(alloc, Piece { off, len: 1, look })?;
+    buffer.copy_to(alloc, &mut other)?;
     Ok(other)
 }
 
@@ -125,7 +131,7 @@ fn saved(alloc: Global, text: &Text, beg: u32, end: u32) -> Result<Buffer, NoMem
     requires within { beg ≤ length (flat text.now) }
 {
     let mut buffer = Buffer::new(alloc)?;
-    text.save(beg, end, &mut buffer)?;
+    text.save(alloc, beg, end, &mut buffer)?;
     Ok(buffer)
 }
 
@@ -134,7 +140,7 @@ fn edited(rt: &impl Abort, alloc: Global, edits: &[Edit]) -> Result<(Text, Buffe
     let mut text = Text::of_run(alloc, 0, 6, DEFAULT_LOOK)?;
     let mut buffer = Buffer::new(alloc)?;
     for one in edits {
-        apply(rt, &mut text, &mut buffer, *one)?;
+        apply(rt, alloc, &mut text, &mut buffer, *one)?;
     }
     Ok((text, buffer))
 }

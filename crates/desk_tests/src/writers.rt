@@ -17,6 +17,7 @@ const RED: Look = Look {
 /// A writer, and the source that it writes to.
 #[derive(Drop)]
 struct Desk {
+    alloc: Global,
     writer: Writer,
     source: CharFile,
 }
@@ -24,6 +25,7 @@ struct Desk {
 /// A writer over an empty source.
 fn new_desk(alloc: Global) -> Result<Desk, NoMemory> {
     Ok(Desk {
+        alloc,
         writer: Writer::new(alloc)?,
         source: CharFile::new(alloc),
     })
@@ -46,15 +48,17 @@ fn write(rt: &impl Abort, desk: &mut Desk, part: Part) -> Result<(), NoMemory> {
     assert!(rt; desk.source.len() < 1_000);
     assert!(rt; desk.writer.len() < 1_000);
     match part {
-        Part::Byte(byte) => desk.writer.write(byte, &mut desk.source),
-        Part::Line => desk.writer.write_ln(&mut desk.source),
+        Part::Byte(byte) => desk.writer.write(desk.alloc, byte, &mut desk.source),
+        Part::Line => desk.writer.write_ln(desk.alloc, &mut desk.source),
         Part::Text(text) => {
             assert!(rt; text.len() < 1_000);
-            desk.writer.write_string(text.as_bytes(), &mut desk.source)
+            desk.writer
+                .write_string(desk.alloc, text.as_bytes(), &mut desk.source)
         }
         Part::Int(value, width) => {
             numbers_are_short();
-            desk.writer.write_int(value, width, &mut desk.source)
+            desk.writer
+                .write_int(desk.alloc, value, width, &mut desk.source)
         }
         Part::Look(look) => {
             desk.writer.set_looks(look);
@@ -77,7 +81,7 @@ fn has(ring: &Ring, source: &mut CharFile, wanted: &[u8], look: Look) -> bool {
 
 /// Takes what was written. Whether it is these characters, in one look.
 fn takes(desk: &mut Desk, wanted: &[u8], look: Look) -> Result<bool, NoMemory> {
-    let ring = desk.writer.take_buffer()?.take()?;
+    let ring = desk.writer.take_buffer(desk.alloc)?.take(desk.alloc)?;
     Ok(has(&ring, &mut desk.source, wanted, look))
 }
 

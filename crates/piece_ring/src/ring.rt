@@ -59,11 +59,6 @@ impl Ring {
         self.list.count as u32
     }
 
-    /// Where it has its memory.
-    pub fn alloc(&self) -> Global {
-        self.alloc
-    }
-
     /// Keeps the place of the piece that has the character at `pos`, or of the trailer at the end.
     /// Walks to a place start there, or at the beginning or the end where that is nearer.
     pub fn locate(&mut self, pos: u32)
@@ -75,20 +70,20 @@ impl Ring {
     }
 
     /// Cuts the piece that has `pos` inside, so that a piece begins there. The text stays, also if memory was refused.
-    pub fn split_at(&mut self, pos: u32) -> Result<(), NoMemory>
+    pub fn split_at(&mut self, alloc: Global, pos: u32) -> Result<(), NoMemory>
         requires { pos ≤ length (flat self.old.pieces) }
         ensures same { flat self.new.pieces ≡ flat self.old.pieces }
         ensures finger { OnOk result (IsFingerAt self.new pos) }
         ensures cut { OnOk result (IsCutAt self.new.pieces pos) }
     {
-        self.list.seam_at(self.alloc, pos)?;
+        self.list.seam_at(alloc, pos)?;
         self.list.locate(pos);
         Ok(())
     }
 
     /// Takes the characters from `beg` up to before `end` out. Their pieces move, and no character is copied. If memory
     /// is refused the text stays.
-    pub fn cut(&mut self, beg: u32, end: u32) -> Result<Ring, NoMemory>
+    pub fn cut(&mut self, alloc: Global, beg: u32, end: u32) -> Result<Ring, NoMemory>
         requires order { beg ≤ end }
         requires within { end ≤ length (flat self.old.pieces) }
         ensures taken { IfOk result (λ r. flat r.pieces ≡ stretch beg end (flat self.old.pieces)) }
@@ -96,20 +91,20 @@ impl Ring {
             (flat self.old.pieces) (flat self.new.pieces) }
         ensures settled { OnOk result (IsSettledAt self.new beg) }
     {
-        let mut taken = Ring::new(self.alloc)?;
+        let mut taken = Ring::new(alloc)?;
         if beg < end {
-            let (from, upto) = self.list.seams(self.alloc, beg, end)?;
+            let (from, upto) = self.list.seams(alloc, beg, end)?;
             let pieces = self.list.take_out(from, upto);
             let start = taken.list.start();
             taken.list.insert(start, pieces);
         }
-        self.list.settle(&self.alloc, beg);
+        self.list.settle(&alloc, beg);
         Ok(taken)
     }
 
     /// Puts the characters of `other` in at `pos`. Its pieces move, and no character is copied.
     /// If memory is refused both texts stay, and `other` comes back. An empty `other` needs none.
-    pub fn splice(&mut self, pos: u32, other: Ring) -> Result<(), (NoMemory, Ring)>
+    pub fn splice(&mut self, alloc: Global, pos: u32, other: Ring) -> Result<(), (NoMemory, Ring)>
         requires within { pos ≤ length (flat self.old.pieces) }
         requires fits { length (flat self.old.pieces) + length (flat other.pieces) < 2 ^ 32 }
         ensures text { ChangesTo (inserted pos (flat other.pieces) (flat self.old.pieces)) result
@@ -119,33 +114,33 @@ impl Ring {
         ensures returned { IfErr result (λ e. flat e.1.pieces ≡ flat other.pieces) }
     {
         if other.list.len == 0 {
-            self.list.settle(&self.alloc, pos);
+            self.list.settle(&alloc, pos);
             return Ok(());
         }
-        let seam = match self.list.seam_at(self.alloc, pos) {
+        let seam = match self.list.seam_at(alloc, pos) {
             Ok(seam) => seam,
             Err(refused) => return Err((refused, other)),
         };
         let Ring { list, alloc: own } = other;
         let pieces = list.into_stretch(&own);
         let after = self.list.insert(seam, pieces);
-        self.list.merge(&self.alloc, after);
-        self.list.settle(&self.alloc, pos);
+        self.list.merge(&alloc, after);
+        self.list.settle(&alloc, pos);
         Ok(())
     }
 
     /// A ring with the characters from `beg` up to before `end`, in their looks.
-    pub fn copy(&self, beg: u32, end: u32) -> Result<Ring, NoMemory>
+    pub fn copy(&self, alloc: Global, beg: u32, end: u32) -> Result<Ring, NoMemory>
         requires order { beg ≤ end }
         requires within { end ≤ length (flat self.now.pieces) }
         ensures { IfOk result (λ r. flat r.pieces ≡ stretch beg end (flat self.now.pieces)) }
     {
-        let mut copy = Ring::new(self.alloc)?;
+        let mut copy = Ring::new(alloc)?;
         let mut cursor = self.cursor(beg);
         let mut left = end - beg;
         while left > 0 {
             let piece = cursor.next_run(left);
-            copy.add(piece)?;
+            copy.add(alloc, piece)?;
             left -= piece.len;
         }
         Ok(copy)
@@ -153,27 +148,27 @@ impl Ring {
 
     /// Puts a piece at the end, where it becomes one with the last piece if it continues it. If memory
     /// is refused the text stays.
-    pub fn add(&mut self, piece: Piece) -> Result<(), NoMemory>
+    pub fn add(&mut self, alloc: Global, piece: Piece) -> Result<(), NoMemory>
         requires { HasRoomFor piece self.old.pieces }
         ensures text { ChangesTo (flat self.old.pieces ++ characters_of piece) result
             (flat self.old.pieces) (flat self.new.pieces) }
         ensures settled { OnOk result (IsSettledAt self.new (length (flat self.old.pieces))) }
         ensures pieces { OnOk result (AddsAtMost self.old.pieces piece self.new.pieces) }
     {
-        let one = Stretch::of_piece(&self.alloc, piece)?;
+        let one = Stretch::of_piece(&alloc, piece)?;
         let end = self.list.end();
         self.list.insert(end, one);
-        self.list.settle(&self.alloc, end.pos);
+        self.list.settle(&alloc, end.pos);
         Ok(())
     }
 
     /// Puts a piece at the end as it is, also where it could be one with the piece before it. If memory is refused the
     /// pieces stay.
-    pub fn push(&mut self, piece: Piece) -> Result<(), NoMemory>
+    pub fn push(&mut self, alloc: Global, piece: Piece) -> Result<(), NoMemory>
         requires { HasRoomFor piece self.old.pieces }
         ensures { ChangesTo (self.old.pieces ++ piece ∷ []) result self.old.pieces self.new.pieces }
     {
-        let alone = Stretch::of_piece(&self.alloc, piece)?;
+        let alone = Stretch::of_piece(&alloc, piece)?;
         let end = self.list.end();
         self.list.insert(end, alone);
         Ok(())
@@ -192,7 +187,14 @@ impl Ring {
 
     /// Changes the looks of the characters from `beg` up to before `end`, in the fields that `sel` names: bit 0 the
     /// font, bit 1 the colour, bit 2 the offset. Other bits are ignored. If memory is refused the text stays.
-    pub fn set_looks(&mut self, beg: u32, end: u32, sel: u8, look: Look) -> Result<(), NoMemory>
+    pub fn set_looks(
+        &mut self,
+        alloc: Global,
+        beg: u32,
+        end: u32,
+        sel: u8,
+        look: Look,
+    ) -> Result<(), NoMemory>
         requires order { beg ≤ end }
         requires within { end ≤ length (flat self.old.pieces) }
         ensures text { ChangesTo (looks_changed beg end sel look (flat self.old.pieces)) result
@@ -201,13 +203,13 @@ impl Ring {
         ensures merged { OnOk result (IsMergedAt self.new.pieces end) }
     {
         if beg == end {
-            self.list.settle(&self.alloc, beg);
+            self.list.settle(&alloc, beg);
             return Ok(());
         }
-        let (from, upto) = self.list.seams(self.alloc, beg, end)?;
+        let (from, upto) = self.list.seams(alloc, beg, end)?;
         self.list.relook(from, upto, sel, look);
-        self.list.merge(&self.alloc, upto);
-        self.list.settle(&self.alloc, beg);
+        self.list.merge(&alloc, upto);
+        self.list.settle(&alloc, beg);
         Ok(())
     }
 

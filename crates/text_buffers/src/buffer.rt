@@ -48,11 +48,6 @@ impl Buffer {
         self.ring.pieces()
     }
 
-    /// Where it has its memory.
-    pub fn alloc(&self) -> Global {
-        self.ring.alloc()
-    }
-
     /// A cursor before the character at `pos`, or at the end.
     pub fn cursor(&self, pos: u32) -> Cursor<'_>
         requires { pos ≤ length (flat self.now) }
@@ -62,12 +57,12 @@ impl Buffer {
     }
 
     /// Adds its characters to another buffer, at the end, and keeps them. If memory is refused the other buffer stays.
-    pub fn copy_to(&self, other: &mut Buffer) -> Result<(), NoMemory>
+    pub fn copy_to(&self, alloc: Global, other: &mut Buffer) -> Result<(), NoMemory>
         requires fits { length (flat other.old) + length (flat self.now) < 2 ^ 32 }
         ensures added { ChangesTo (flat other.old ++ flat self.now) result (flat other.old) (flat other.new) }
     {
-        let copy = self.ring.copy(0, self.ring.len())?;
-        other.append(copy)
+        let copy = self.ring.copy(alloc, 0, self.ring.len())?;
+        other.append(alloc, copy)
     }
 
     /// Lets all characters go. It takes no memory.
@@ -78,29 +73,29 @@ impl Buffer {
     }
 
     /// Adds a piece at the end. If memory is refused the buffer stays.
-    pub fn add(&mut self, piece: Piece) -> Result<(), NoMemory>
+    pub fn add(&mut self, alloc: Global, piece: Piece) -> Result<(), NoMemory>
         requires { HasRoomFor piece self.old }
         ensures added { ChangesTo (flat self.old ++ characters_of piece) result (flat self.old) (flat self.new) }
     {
-        self.ring.add(piece)
+        self.ring.add(alloc, piece)
     }
 
     /// Puts a piece at the end as it is, also where it could be one with the piece before it. If memory is refused the
     /// pieces stay.
-    pub fn push(&mut self, piece: Piece) -> Result<(), NoMemory>
+    pub fn push(&mut self, alloc: Global, piece: Piece) -> Result<(), NoMemory>
         requires { HasRoomFor piece self.old }
         ensures { ChangesTo (self.old ++ piece ∷ []) result self.old self.new }
     {
-        self.ring.push(piece)
+        self.ring.push(alloc, piece)
     }
 
     /// For layers that own rings: hands all characters out as a ring, and leaves none. If memory is
     /// refused the buffer stays.
-    pub fn take(&mut self) -> Result<Ring, NoMemory>
+    pub fn take(&mut self, alloc: Global) -> Result<Ring, NoMemory>
         ensures taken { IfOk result (λ r. flat r.pieces ≡ flat self.old) }
         ensures left { ChangesTo [] result (flat self.old) (flat self.new) }
     {
-        let none = Ring::new(self.ring.alloc())?;
+        let none = Ring::new(alloc)?;
         Ok(replace(&mut self.ring, none))
     }
 
@@ -114,12 +109,12 @@ impl Buffer {
 
     /// For layers that own rings: adds the ring's characters at the end. If memory is refused the buffer stays, and the
     /// ring is gone.
-    pub fn append(&mut self, ring: Ring) -> Result<(), NoMemory>
+    pub fn append(&mut self, alloc: Global, ring: Ring) -> Result<(), NoMemory>
         requires fits { length (flat self.old) + length (flat ring.pieces) < 2 ^ 32 }
         ensures added { ChangesTo (flat self.old ++ flat ring.pieces) result (flat self.old) (flat self.new) }
     {
         let end = self.ring.len();
-        match self.ring.splice(end, ring) {
+        match self.ring.splice(alloc, end, ring) {
             Ok(()) => Ok(()),
             Err((refused, _ring)) => Err(refused),
         }

@@ -1,11 +1,13 @@
-//! A frame, and where it begins after a change of its text.
-ghost use Rattle.std.specs.Prelude.{◌≡◌, ◌⊎◌, ◌+◌, ◌<◌, ◌≤◌, Some, length, IfOk};
+//! A frame, and the rules by which it follows its text.
+ghost use Rattle.std.specs.Prelude.{◌≡◌, ◌⊎◌, ◌+◌, ◌<◌, ◌≤◌, Some, length, IfOk, OnOk, OnErr};
 ghost use Rattle.readers_scanners.specs.Words.{ReadsOrFails, flat, AreWithin, bytes};
 ghost use Rattle.text_frames.specs.Cells.{IsPositionAt, IsCellOf};
-ghost use Rattle.text_frames.specs.Rules.{moved, changed_org, shown_org};
+ghost use Rattle.text_frames.specs.Rules.{moved, changed_org, shown_org, IsFollowed, IsBrought};
+ghost use Rattle.text_frames.specs.Row.{IsRow};
 
 use crate::lines::{ends_between, line_above, line_start};
 use crate::place::{self, cell_in, column_below};
+use crate::row::{RowCells, cells_of_row};
 use crate::{CharSource, Fault, Text};
 
 /// The characters from `beg` up to before `end`, with the rank of the selection among all.
@@ -53,6 +55,84 @@ impl Frame {
         ensures { self.new ≡ record self.old { org = org } }
     {
         self.org = org;
+    }
+
+    /// Follows a change of its text: at `p` so many characters were inserted, or so many from `p` on deleted. `text` is
+    /// the changed text. The frame loses its caret and its selection. `org` stays where it is at most `p`; else it goes
+    /// with its character, or to `p` where that was deleted, and from there to the start of its line. Where nothing was
+    /// inserted or deleted nothing changes. `Fault`: the source failed in this call; the frame is as it was.
+    pub fn update<S: CharSource>(
+        &mut self,
+        text: &Text,
+        p: u32,
+        inserted: u32,
+        deleted: u32,
+        source: &mut S,
+    ) -> Result<(), Fault>
+        requires one { (inserted ≡ 0) ⊎ (deleted ≡ 0) }
+        requires place { p + inserted ≤ length (flat text.now) }
+        requires org { self.old.org + inserted ≤ length (flat text.now) + deleted }
+        requires offsets { AreWithin (length (S.characters source.old)) (flat text.now) }
+        ensures followed { OnOk result (IsFollowed (S.honest source.old) (S.characters source.old) (flat text.now)
+            p inserted deleted self.old self.new) }
+        ensures refused { OnErr result (self.new ≡ self.old) }
+        ensures source { ReadsOrFails S.CharSource result source.old source.new }
+    {
+        if inserted == 0 && deleted == 0 {
+            return Ok(());
+        }
+        let followed = org_after(self.org, text, p, inserted, deleted, source)?;
+        self.org = followed;
+        self.caret = None;
+        self.selection = None;
+        Ok(())
+    }
+
+    /// Brings the position `p` into the `h` rows shown: where it is above `org`, or its line isn't in one of these
+    /// rows, `org` becomes the start of the line that stands `h / 2` lines above that of `p`, 0 where there are fewer.
+    /// The text is read from `org` to `p`, or to less than 512 characters past the end of these rows, and then from `p`
+    /// back to that start. `Fault`: the source failed in this call; the frame is as it was.
+    pub fn show<S: CharSource>(
+        &mut self,
+        text: &Text,
+        h: u8,
+        p: u32,
+        source: &mut S,
+    ) -> Result<(), Fault>
+        requires rows { h ≤ 31 }
+        requires place { p ≤ length (flat text.now) }
+        requires org { self.old.org ≤ length (flat text.now) }
+        requires offsets { AreWithin (length (S.characters source.old)) (flat text.now) }
+        ensures brought { OnOk result (IsBrought (S.honest source.old) (S.characters source.old) (flat text.now)
+            h p self.old self.new) }
+        ensures refused { OnErr result (self.new ≡ self.old) }
+        ensures source { ReadsOrFails S.CharSource result source.old source.new }
+    {
+        let org = org_to_show(self.org, text, h, p, source)?;
+        self.org = org;
+        Ok(())
+    }
+
+    /// The filled cells of the row `row`, counted from 0, in a frame of `w` columns: from the left one on, at most `w`,
+    /// the byte, the look and the position of the character in each. A tabulator stands in each of its cells, a carriage
+    /// return in none. The text is read from `org` to the end of that row at most. `Fault`: the source failed in this
+    /// call.
+    pub fn line<S: CharSource>(
+        &self,
+        text: &Text,
+        w: u8,
+        row: u8,
+        source: &mut S,
+    ) -> Result<RowCells, Fault>
+        requires columns { w ≤ 50 }
+        requires org { self.now.org ≤ length (flat text.now) }
+        requires offsets { AreWithin (length (S.characters source.old)) (flat text.now) }
+        ensures cells { IfOk result (λ line. IsRow (S.honest source.old) (S.characters source.old) (flat text.now)
+            w self.now.org row line.items) }
+        ensures source { ReadsOrFails S.CharSource result source.old source.new }
+    {
+        let line = cells_of_row(text, self.org, w, row, source)?;
+        Ok(line)
     }
 
     /// The position at the cell of the column `col` and the row `row`, counted from 0: of the character whose cells

@@ -57,7 +57,12 @@ impl Writer {
     }
 
     /// Writes one byte. `NoMemory`: nothing was written, though the source may have the byte.
-    pub fn write<S: CharSource>(&mut self, byte: u8, source: &mut S) -> Result<(), NoMemory>
+    pub fn write<S: CharSource>(
+        &mut self,
+        alloc: Global,
+        byte: u8,
+        source: &mut S,
+    ) -> Result<(), NoMemory>
         requires room { length (S.characters source.old) + 1 ≤ most_characters }
         requires fits { length self.old.text + 1 < 2 ^ 32 }
         ensures written { OnOk result (IsWritten (byte ∷ []) (S.characters source.old)
@@ -66,11 +71,11 @@ impl Writer {
             (S.characters source.new) self.old self.new) }
         ensures keeps { KeepsGround S.failures S.honest S.same_ground source.old source.new }
     {
-        self.write_string(&[byte], source)
+        self.write_string(alloc, &[byte], source)
     }
 
     /// Ends the line: writes a carriage return, the byte 13. `NoMemory`: as with `write`.
-    pub fn write_ln<S: CharSource>(&mut self, source: &mut S) -> Result<(), NoMemory>
+    pub fn write_ln<S: CharSource>(&mut self, alloc: Global, source: &mut S) -> Result<(), NoMemory>
         requires room { length (S.characters source.old) + 1 ≤ most_characters }
         requires fits { length self.old.text + 1 < 2 ^ 32 }
         ensures written { OnOk result (IsWritten (13 ∷ []) (S.characters source.old)
@@ -79,13 +84,14 @@ impl Writer {
             (S.characters source.new) self.old self.new) }
         ensures keeps { KeepsGround S.failures S.honest S.same_ground source.old source.new }
     {
-        self.write(b'\r', source)
+        self.write(alloc, b'\r', source)
     }
 
     /// Writes bytes, which may be none. `NoMemory`: nothing was written, though the source may have
     /// all of them.
     pub fn write_string<S: CharSource>(
         &mut self,
+        alloc: Global,
         bytes: &[u8],
         source: &mut S,
     ) -> Result<(), NoMemory>
@@ -106,13 +112,14 @@ impl Writer {
             len: bytes.len() as u32,
             look: self.look,
         };
-        self.buffer.add(piece)
+        self.buffer.add(alloc, piece)
     }
 
     /// Writes a number in decimal, with a `-` before a negative one, after as many blanks as fill the width; a wider
     /// number is written whole. `NoMemory`: as with `write_string`.
     pub fn write_int<S: CharSource>(
         &mut self,
+        alloc: Global,
         value: i64,
         width: u8,
         source: &mut S,
@@ -126,19 +133,19 @@ impl Writer {
             (S.characters source.old) (S.characters source.new) self.old self.new) }
         ensures keeps { KeepsGround S.failures S.honest S.same_ground source.old source.new }
     {
-        let text = aligned(self.buffer.alloc(), value, width)?;
-        self.write_string(&text, source)
+        let text = aligned(alloc, value, width)?;
+        self.write_string(alloc, &text, source)
     }
 
     /// Hands out the characters that were written, and leaves none. `NoMemory`: the writer keeps them. The look stays
     /// in any case.
-    pub fn take_buffer(&mut self) -> Result<Buffer, NoMemory>
+    pub fn take_buffer(&mut self, alloc: Global) -> Result<Buffer, NoMemory>
         ensures taken { IfOk result (λ b. flat b ≡ self.old.text) }
         ensures left { OnOk result (self.new.text ≡ []) }
         ensures refused { OnErr result (self.new.text ≡ self.old.text) }
         ensures look { self.new.look ≡ self.old.look }
     {
-        let none = Buffer::new(self.buffer.alloc())?;
+        let none = Buffer::new(alloc)?;
         Ok(replace(&mut self.buffer, none))
     }
 }
