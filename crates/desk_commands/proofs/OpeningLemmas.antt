@@ -27,6 +27,7 @@ use Rattle.desktop_laws.specs.LeftLaws.{kept_left, still_shown, held_left, left_
 use Rattle.desktop_definitions.specs.Call.{text_called}
 use Rattle.desktop_definitions.specs.Viewers.{text_in, without_viewer, viewer_or_none}
 use Rattle.desktop_definitions.specs.Limits.{most_held}
+use Rattle.desktop_definitions.specs.Step.{Outcome}
 
 -- ---- a loop that counts
 
@@ -122,7 +123,7 @@ same_name name other is = cc
 -- ---- what an opening leaves
 
 -- what is answered of a desktop is answered of one that equals it
-pub answered_there : {H : Type 0} {old new : List ℕ} {d x y : KeptDesktop} {outcome : Desktop × Reply} {reply : Reply}
+pub answered_there : {H : Type 0} {old new : List ℕ} {d x y : KeptDesktop} {outcome : Outcome} {reply : Reply}
     → y ≡ x → IsAnswered H old new d x outcome reply → IsAnswered H old new d y outcome reply
 answered_there {H = H} {old = old} {new = new} {d = d} {outcome = outcome} {reply = reply} is =
     subst (λ (z : KeptDesktop). IsAnswered H old new d z outcome reply) (sym is)

@@ -5,7 +5,7 @@ use Rattle.desktop_definitions.specs.declared.reply.Reply.TheVariants.{Done, No}
 use Rattle.desktop_definitions.specs.declared.reply.Reply.{Reply}
 use Rattle.desktop_definitions.specs.Desktop.{Desktop, KeptDesktop}
 use Rattle.desktop_definitions.specs.Seen.{seen}
-use Rattle.desktop_definitions.specs.Step.{settled}
+use Rattle.desktop_definitions.specs.Step.{settled, outcome_of}
 use Rattle.desktop_definitions.specs.Sound.{IsOver}
 use Rattle.desk_core.specs.declared.stop.Stop.{Stop}
 use Rattle.desk_core.specs.Row.{SettlesUnread, SettlesBringing}
@@ -15,7 +15,8 @@ pub over_all : {old : List ℕ} {d : KeptDesktop} → IsOver old d → (all : Li
 over_all over all long = record { counted = long; whole = over.whole }
 
 -- a refusal
-pub refusal_is : {x : Desktop} {row : Result Desktop ℕ} {code : ℕ} → row ≡ Err code → (x, No code) ≡ settled x row
+pub refusal_is : {x : Desktop} {row : Result Desktop ℕ} {code : ℕ} → row ≡ Err code
+    → outcome_of x (No code) ≡ settled x row
 unfolding settled
 refusal_is {x} is = sym (ap (settled x) is)
 
@@ -23,6 +24,6 @@ refusal_is {x} is = sym (ap (settled x) is)
 pub brings_none : (row : Desktop → Result Desktop ℕ) (d after : KeptDesktop) (result : Result Reply Stop)
     → IfOk result (SettlesUnread row d after) → IfOk result (SettlesBringing [] (λ all. row (seen all d)) d after)
 brings_none row d after (Ok Done) is = λ all long.
-    ap (λ (l : List ℕ). (seen l after, Done)) (append-nil all) ∙ is all long
+    ap (λ (l : List ℕ). outcome_of (seen l after) Done) (append-nil all) ∙ is all long
 brings_none row d after (Ok (No code)) is = is
 brings_none row d after (Err stop) is = tt

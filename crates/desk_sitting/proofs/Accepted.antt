@@ -36,7 +36,7 @@ taken_steps s event =
       | inl worn ↦ ap (λ (t : Session). t.desktop) (cond-true (is_worn s) s next worn)
           ∙ sym (ap (steps s.desktop) (cond-true (is_worn s) [] (event ∷ []) worn))
       | inr room ↦ ap (λ (t : Session). t.desktop) (cond-false (is_worn s) s next room)
-          ∙ ap (λ d. (step d event).0) (either_way s (is_due s))
+          ∙ ap (λ d. (step d event).desktop) (either_way s (is_due s))
           ∙ sym (ap (steps s.desktop) (cond-false (is_worn s) [] (event ∷ []) room))
     ]
 

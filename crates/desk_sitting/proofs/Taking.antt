@@ -12,7 +12,7 @@ use Rattle.screen_pictures.specs.declared.cell.Cell.{Cell}
 use Rattle.desktop_definitions.specs.Desktop.{Desktop}
 use Rattle.desktop_definitions.specs.declared.reply.Reply.{Reply}
 use Rattle.desktop_definitions.specs.Shown.{shown_screen}
-use Rattle.desktop_definitions.specs.Step.{step}
+use Rattle.desktop_definitions.specs.Step.{step, Outcome}
 use Rattle.store_layout.specs.Meaning.{Means, MeansEither, Shows}
 use Rattle.desk_journal.specs.Device.{IsSameDevice}
 use Rattle.desk_journal.specs.Errors.{Error, NoMemory, Fault, MustReopen, Worn, OfPost, OfLook}
@@ -49,7 +49,7 @@ worn_desk event d worn = desk_parts (record d { sitting = refused saying.Worn d.
 
 -- an event that is taken, and its reply
 replied_desk : (event : Event) (d : Desk) (reply : Reply) (session : Session) → is_worn d.session ≡ false
-    → reply ≡ (step d.session.desktop event).1 → session ≡ taken d.session event
+    → reply ≡ (step d.session.desktop event).reply → session ≡ taken d.session event
     → record { sitting = replied reply d.sitting; session = session } ≡ posted event d
 unfolding posted
 replied_desk event d reply session room is after =
@@ -58,7 +58,7 @@ replied_desk event d reply session room is after =
 
 -- the desktop is the one after its step
 posted_steps : (event : Event) (d : Desk) → is_worn d.session ≡ false
-    → (posted event d).session.desktop ≡ (step d.session.desktop event).0
+    → (posted event d).session.desktop ≡ (step d.session.desktop event).desktop
 unfolding posted
 posted_steps event d room = taken_steps d.session event room
 
@@ -117,7 +117,7 @@ module _ {D : Type 0} (d : Ghosts D) where
   module _ (event : Event) (s s' : Sitting) (old new : StoreView D) (usable : old.must_reopen ≡ false)
       (moments : LeavesEither d event old new) (device : IsSameDevice d old.disk new.disk) where
     -- at each moment a crash leaves the desktop before the step or the one after it, however that is said
-    moments_to : (after : Desktop) → after ≡ (step old.desktop event).0 → d.honest old.disk
+    moments_to : (after : Desktop) → after ≡ (step old.desktop event).desktop → d.honest old.disk
         → LeavesOnly (d.trail old.disk) (d.trail new.disk) (MeansEither (d.size old.disk) old.desktop after)
     moments_to after is honest = subst (λ desktop. LeavesOnly (d.trail old.disk) (d.trail new.disk)
         (MeansEither (d.size old.disk) old.desktop desktop)) (sym is) (moments usable honest)
@@ -133,11 +133,11 @@ module _ {D : Type 0} (d : Ghosts D) where
         record {
           done = λ honest durable.
               let one = acknowledged.stepped honest in
-              let desktop : new.desktop ≡ (step old.desktop event).0 = ap (λ (p : Desktop × Reply). p.0) one in
+              let desktop : new.desktop ≡ (step old.desktop event).desktop = ap (λ (p : Outcome). p.desktop) one in
               record {
                 desk = ap (λ t. desk_of t new) is
                     ∙ replied_desk event (desk_of s old) reply (session_of new) room
-                    (ap (λ (p : Desktop × Reply). p.1) one) (is_taken (session_of old) (session_of new) event room
+                    (ap (λ (p : Outcome). p.reply) one) (is_taken (session_of old) (session_of new) event room
                     desktop acknowledged.more acknowledged.anew acknowledged.layout);
                 any_moment = moments_to new.desktop desktop honest;
                 durable = acknowledged.durable;

@@ -73,7 +73,7 @@ brought will_be_heard s = if is_some s.wanted then fetched will_be_heard s else 
 unfoldable pub posted : Event → Desk → Desk
 posted event d = record {
   sitting = if is_worn d.session then refused Worn d.sitting
-      else replied (step d.session.desktop event).1 d.sitting;
+      else replied (step d.session.desktop event).reply d.sitting;
   session = taken d.session event;
 }
 

@@ -20,7 +20,7 @@ use Rattle.desktop_definitions.specs.Viewers.{opened_at}
 use Rattle.desktop_definitions.specs.Opening.{dropped}
 use Rattle.desktop_definitions.specs.Effects.{put_away, brought_back}
 use Rattle.desktop_definitions.specs.Seen.{seen}
-use Rattle.desktop_definitions.specs.Step.{settled}
+use Rattle.desktop_definitions.specs.Step.{settled, outcome_of}
 use Rattle.desktop_definitions.specs.Sound.{IsClosedPlace, IsShaped, IsSound, IsWithin, IsOver}
 use Rattle.desktop_definitions.specs.Outcome.{IsAnswered}
 use Rattle.desktop_laws.specs.OutcomeLaws.{acted}
@@ -105,7 +105,7 @@ module _ (H : Type 0) (old : List ℕ) (d : KeptDesktop) (over : IsOver old d) (
 
   pub restood_answered : IsAnswered H old old d after (settled (seen old d) (Ok (part old))) Done
   restood_answered = acted H old old d after _ restood_over
-      (λ h. (λ k. (seen_after old k, Done))
+      (λ h. (λ k. outcome_of (seen_after old k) Done)
       ∙ done (seen old d) (part old) (fits_within (dropped (part old)) (written_now old) (held_now old)))
 
 -- ---- a viewer closes

@@ -29,7 +29,7 @@ use Rattle.desktop_definitions.specs.Opening.{new_number, new_id, with_new, with
 use Rattle.desktop_definitions.specs.Opening.{opening, dropped}
 use Rattle.desktop_definitions.specs.Seen.{seen, seen_text}
 use Rattle.desktop_laws.specs.SeenLaws.{seen_longer, new_read}
-use Rattle.desktop_definitions.specs.Step.{fits, settled}
+use Rattle.desktop_definitions.specs.Step.{fits, settled, outcome_of}
 use Rattle.desktop_laws.specs.StepLaws.{fit_written, fit_held, fits_by}
 use Rattle.desktop_definitions.specs.Sound.{IsWithin, IsShaped, IsBuilt, IsSound, IsOver}
 use Rattle.desktop_definitions.specs.Sound.{IsKeptWhole, times_there}
@@ -297,9 +297,9 @@ module _ (H : Type 0) (old bytes new : List ℕ) (d : KeptDesktop) (menu : List 
       → seen_text new menu ≡ text → opening_to (seen old d) text main org place ≡ outcome
       → IsAnswered H old new before after_on (settled was (Ok (more_written outcome n))) Done
   on_answered before was text outcome read is = acted H old new before after_on _ over_after (λ h.
-      (λ k. (seen_after new k, Done))
-      ∙ (λ k. (more_written (dropped (opening_to (before_read k) (read k) main org place)) n, Done))
-      ∙ (λ k. (dropped_more (is k) n k, Done))
+      (λ k. outcome_of (seen_after new k) Done)
+      ∙ (λ k. outcome_of (more_written (dropped (opening_to (before_read k) (read k) main org place)) n) Done)
+      ∙ (λ k. outcome_of (dropped_more (is k) n k) Done)
       ∙ done was (more_written outcome n)
       (ap (λ (x : Desktop). fits (dropped (more_written x n))) (sym is)
       ∙ on.fit old text (ap length (sym read) ∙ length_seen_text new menu)))

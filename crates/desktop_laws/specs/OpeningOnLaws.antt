@@ -44,7 +44,7 @@ use Rattle.desktop_definitions.specs.Effects.{opened_on_copy, document_opened, f
 use Rattle.desktop_definitions.specs.Effects.{viewer_copied}
 use Rattle.desktop_definitions.specs.Gesture.{tool_opened}
 use Rattle.desktop_definitions.specs.Seen.{seen, seen_text}
-use Rattle.desktop_definitions.specs.Step.{fits, settled}
+use Rattle.desktop_definitions.specs.Step.{fits, settled, outcome_of}
 use Rattle.desktop_laws.specs.StepLaws.{AllShown}
 use Rattle.desktop_definitions.specs.Sound.{IsShaped, IsBuilt, IsKeptWhole, IsOver}
 use Rattle.desktop_definitions.specs.Outcome.{IsAnswered}
@@ -65,7 +65,7 @@ whole_built d whole = record { within = whole.within; shaped = λ characters. (w
 
 -- ---- refusals
 
-full_is : (d new : Desktop) → fits (dropped new) ≡ false → (d, No full) ≡ settled d (Ok new)
+full_is : (d new : Desktop) → fits (dropped new) ≡ false → outcome_of d (No full) ≡ settled d (Ok new)
 unfolding settled
 full_is d new unfit = rw unfit refl
 

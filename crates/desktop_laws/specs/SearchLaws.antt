@@ -30,7 +30,7 @@ use Rattle.desktop_definitions.specs.Change.{bytes_of, showing, caret_shown, put
 use Rattle.desktop_definitions.specs.Shown.{caret_position}
 use Rattle.desktop_definitions.specs.Effects.{found_at, pattern_after, searched}
 use Rattle.desktop_definitions.specs.Seen.{seen, seen_text}
-use Rattle.desktop_definitions.specs.Step.{settled}
+use Rattle.desktop_definitions.specs.Step.{settled, Outcome}
 use Rattle.desktop_definitions.specs.Sound.{IsBuilt, IsOver}
 use Rattle.desktop_definitions.specs.Changed.{IsChanged, Counts}
 use Rattle.desktop_definitions.specs.Outcome.{IsAnswered}
@@ -314,7 +314,7 @@ found_as mid old text main slice pattern start v caret found same text_is patter
     sym (is ∙ (λ k. found_at (bytes (same k) (flat (text_is k))) (pattern_is k) (start_is k)))
 
 -- an outcome by another name, where that is honest
-answered_as : {H : Type 0} {old new : List ℕ} {before after : KeptDesktop} {reply : Reply} (x y : Desktop × Reply)
+answered_as : {H : Type 0} {old new : List ℕ} {before after : KeptDesktop} {reply : Reply} (x y : Outcome)
     → IsAnswered H old new before after x reply → (H → x ≡ y) → IsAnswered H old new before after y reply
 answered_as x y answered same = record {
   exact = λ h. answered.exact h ∙ same h;

@@ -98,7 +98,7 @@ use Rattle.desktop_definitions.specs.Call.{text_called, seen_at_marker, meant, n
 use Rattle.desktop_definitions.specs.Call.{names_of}
 use Rattle.desktop_definitions.specs.Commands.{command_at, commanded, called, done_with_name, done_with_number}
 use Rattle.desktop_definitions.specs.Commands.{done_with_viewer}
-use Rattle.desktop_definitions.specs.Step.{filed, fits, marked, settled, raw, step_in}
+use Rattle.desktop_definitions.specs.Step.{filed, fits, marked, settled, raw, step_in, Outcome, outcome_of}
 use Rattle.desktop_definitions.specs.Sound.{IsShaped, IsSound, IsCaret, IsClosedPlace, times_there}
 use Rattle.desktop_laws.specs.LookedLaws.{look_at_looks, relooked_is_look, copied_looks, taken_looks, typed_looks}
 use Rattle.desktop_laws.specs.LookedLaws.{looks_stay, shape_stays, written_shaped, files_looks, put_looks, no_looks}
@@ -816,11 +816,11 @@ module _ (d : Desktop) (shaped : IsShaped d) where
       by_test IsShaped (has_room d.files name) too_many_files (Ok (filed d name (plain bytes)))
       (λ room. filed_shaped d name (plain bytes) shaped is.0 room (plain_looks bytes))
 
-settled_sound : (d : Desktop) (r : Result Desktop ℕ) → IsSound d → IfOk r IsShaped → IsSound (settled d r).0
+settled_sound : (d : Desktop) (r : Result Desktop ℕ) → IsSound d → IfOk r IsShaped → IsSound (settled d r).desktop
 unfolding settled
 settled_sound d (Err code) sound shaped = sound
 settled_sound d (Ok new) sound shaped = (elim (fits (dropped new)) as (λ b. fits (dropped new) ≡ b
-    → IsSound (let both : Desktop × Reply = if b then (dropped new, Done) else (d, No full) in both).0) [
+    → IsSound (let both : Outcome = if b then outcome_of (dropped new) Done else outcome_of d (No full) in both).desktop) [
       | true ↦ λ fit. record {
         shaped = dropped_shaped new shaped;
         shown = dropped_shown new;
@@ -831,7 +831,7 @@ settled_sound d (Ok new) sound shaped = (elim (fits (dropped new)) as (λ b. fit
     ]) refl
 
 pub steps_keep_sound : (version : ℕ) (d : Desktop) (event : Event) → IsSound d → IsEvent event
-    → IsSound (step_in version d event).0
+    → IsSound (step_in version d event).desktop
 unfolding step_in
 steps_keep_sound version d event sound is =
     settled_sound d (raw version d event) sound (raw_shaped d sound.shaped version event is)

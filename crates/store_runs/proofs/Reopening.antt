@@ -10,7 +10,7 @@ use Rattle.sector_disk.proofs.Touching.{weakened, chained, at_last, read_is_an_i
 use Rattle.event_bytes.specs.declared.event.Event.{Event}
 use Rattle.desktop_definitions.specs.declared.reply.Reply.{Reply}
 use Rattle.desktop_definitions.specs.Desktop.{Desktop}
-use Rattle.desktop_definitions.specs.Step.{step, steps}
+use Rattle.desktop_definitions.specs.Step.{step, steps, Outcome}
 use Rattle.store_layout.specs.declared.layout.TheConstants.{LAYOUT}
 use Rattle.store_layout.specs.Bits.{clash}
 use Rattle.store_layout.specs.Finding.{FindingLaw, FindsOneThing}
@@ -69,7 +69,7 @@ went_on d (Posting event) reply old new p = record {
   calm = p.behaves.faults.calm (λ wrong. absurd cc);
   usable = p.ok.usable;
   durable = p.ok.durable;
-  desktop = λ h. ap (λ x. x.0) (p.ok.stepped h);
+  desktop = λ h. ap (λ (o : Outcome). o.desktop) (p.ok.stepped h);
   counts = counts_posted d event reply old new p.ok;
 }
 went_on d Checkpoint reply old new p = record {
@@ -142,8 +142,8 @@ module _ (size : ℕ) (first : Desktop) (calls : List StoreCall) where
         | inl means ↦ after_some k c
             (subst (λ d'. Means size d' c) is (subst (λ n. Means n old.desktop c) as_large means))
         | inr means ↦ after_some (k + 1) c (subst (λ d'. Means size d' c)
-            (desktop_next calls k (Posting event) room here first old.desktop (step old.desktop event).0 is refl)
-            (subst (λ n. Means n (step old.desktop event).0 c) as_large means))
+            (desktop_next calls k (Posting event) room here first old.desktop (step old.desktop event).desktop is refl)
+            (subst (λ n. Means n (step old.desktop event).desktop c) as_large means))
       ]))
   call_more d k Checkpoint answer start old new room here usable honest as_large is before p =
       chained before (weakened (p.0.any_moment usable honest) (λ c means. after_some k c
