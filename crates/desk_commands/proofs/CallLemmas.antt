@@ -25,7 +25,7 @@ use Rattle.desktop_definitions.specs.Outcome.{reply_codes}
 use Rattle.desktop_definitions.specs.Call.{text_called, meant}
 use Rattle.desktop_definitions.specs.Commands.{done_with_viewer, command_at, commanded, called}
 use Rattle.desk_commands.specs.Calls.{IsCall}
-use Rattle.desk_core.specs.Row.{Settles}
+use Rattle.desk_core.specs.Doing.{Settles}
 use Rattle.desk_commands.proofs.ReadFirst.{Reads, refused_after}
 
 -- a look that is set by a name or a number
@@ -67,12 +67,12 @@ known_choice f (Ok symbol) kind = known_needed (f symbol)
 
 -- ---- the viewer that is meant
 
-pub meant_row : (characters : List ℕ) (d : KeptDesktop) (command : ViewerCommand) (call : Call)
+pub meant_some : (characters : List ℕ) (d : KeptDesktop) (command : ViewerCommand) (call : Call)
     (found : Option ℕ) (v : ℕ) → found ≡ Some v → found ≡ meant d call
     → done_with_viewer (seen characters d) command v
     ≡ needs (meant (seen characters d) call) no_viewer (done_with_viewer (seen characters d) command)
 unfolding seen
-meant_row characters d command call found v is found_is =
+meant_some characters d command call found v is found_is =
     λ k. needs ((sym is ∙ found_is) k) no_viewer (done_with_viewer (seen characters d) command)
 
 pub meant_none : (characters : List ℕ) (d : KeptDesktop) (command : ViewerCommand) (call : Call) (found : Option ℕ)

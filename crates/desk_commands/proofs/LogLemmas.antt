@@ -1,5 +1,5 @@
--- What a source of characters is after some calls of rows, where none failed, and lines of the log that are made one
--- from each file.
+-- What a source of characters is after some calls, where none failed, and lines of the log that are made one from each
+-- file.
 use Rattle.std.proofs.Common.{◌≡◌, ℕ, length, map, refl, subst, ◌∙◌, arith}
 use Rattle.std.proofs.Common.{List, [], ◌∷◌}
 use Rattle.std.specs.Prelude.{Result, IsErrOf}
@@ -15,7 +15,7 @@ use Rattle.desktop_definitions.specs.Outcome.{IsSameSource}
 use Rattle.desk_core.specs.declared.stop.Stop.{Stop}
 use Rattle.desk_core.specs.declared.stop.Stop.TheVariants.{Fault}
 use Rattle.desk_core.specs.Stops.{IsStop}
-use Rattle.desk_core.specs.Row.{Uses}
+use Rattle.desk_core.specs.Doing.{Uses}
 
 -- Nothing failed.
 pub record IsCalm {S : Type 0} (s : Ghosts S) (old new : S) : Type 0 where

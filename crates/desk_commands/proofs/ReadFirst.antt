@@ -1,5 +1,5 @@
--- A row that reads the source first, and then does the rest: what it owes follows from what the reads leave, and from
--- what the rest promises over the source in the middle.
+-- An effect that reads the source first, and then does the rest: what it owes follows from what the reads leave, and
+-- from what the rest promises over the source in the middle.
 use Rattle.std.proofs.Common.{◌≡◌, ℕ, List, refl, sym, ap, subst, ◌∙◌}
 use Rattle.std.specs.Prelude.{Result, Err, IfOk}
 use Rattle.std.proofs.lemmas.Result.{IfOk-weaker}
@@ -17,7 +17,7 @@ use Rattle.desktop_laws.specs.OutcomeLaws.{refused}
 use Rattle.desk_core.specs.declared.stop.Stop.{Stop}
 use Rattle.desk_core.specs.declared.stop.Stop.TheVariants.{Fault}
 use Rattle.desk_core.specs.Stops.{IsStop}
-use Rattle.desk_core.specs.Row.{Settles, Uses, Does}
+use Rattle.desk_core.specs.Doing.{Settles, Uses, Does}
 use Rattle.desk_core.proofs.ReadLemmas.{over_read, read_answered, read_then_source}
 
 module _ {S : Type 0} (s : Ghosts S) where
@@ -30,29 +30,29 @@ module _ {S : Type 0} (s : Ghosts S) where
       → IsOver (s.characters mid) d
   over_after old mid d reads over = over_read (s.characters old) (s.characters mid) d reads.as_long over
 
-  -- What the rest does is F of what was read, which is `read` of the desktop before the event, and the row says that.
+  -- What the rest does is F of what was read, which is `read` of the desktop before the event: the effect says that.
   pub settles_there : {A : Type 0} (F : Desktop → A → Result Desktop ℕ) (read : Desktop → A) (a : A)
-      (row : Desktop → Result Desktop ℕ) (old mid new : S) (d after : KeptDesktop) (result : Result Reply Stop)
+      (effect : Desktop → Result Desktop ℕ) (old mid new : S) (d after : KeptDesktop) (result : Result Reply Stop)
       → Reads old mid → (s.honest old → a ≡ read (seen (s.characters old) d))
-      → (a ≡ read (seen (s.characters old) d) → F (seen (s.characters old) d) a ≡ row (seen (s.characters old) d))
+      → (a ≡ read (seen (s.characters old) d) → F (seen (s.characters old) d) a ≡ effect (seen (s.characters old) d))
       → IfOk result (Settles s (λ x. F x a) mid new d after)
-      → IfOk result (Settles s row old new d after)
-  settles_there F read a row old mid new d after result reads is same answered =
-      IfOk-weaker result (Settles s (λ x. F x a) mid new d after) (Settles s row old new d after)
+      → IfOk result (Settles s effect old new d after)
+  settles_there F read an effect old mid new d after result reads is same answered =
+      IfOk-weaker result (Settles s (λ x. F x a) mid new d after) (Settles s effect old new d after)
       (λ reply done. read_answered (s.honest old) (s.honest mid) (s.characters old) (s.characters mid)
       (s.characters new) d after _ _ reply reads.still reads.as_long
       (λ h. (λ k. settled (seen (reads.same h k) d) (F (seen (reads.same h k) d) a))
       ∙ ap (settled (seen (s.characters old) d)) (same (is h))) done) answered
 
   -- a refusal after the reads
-  pub refused_after : (row : Desktop → Result Desktop ℕ) (code : ℕ) (old mid : S) (d : KeptDesktop) → Reads old mid
+  pub refused_after : (effect : Desktop → Result Desktop ℕ) (code : ℕ) (old mid : S) (d : KeptDesktop) → Reads old mid
       → IsOver (s.characters old) d → OneOf reply_codes code
-      → (s.honest old → row (seen (s.characters old) d) ≡ Err code)
-      → Settles s row old mid d d (No code)
+      → (s.honest old → effect (seen (s.characters old) d) ≡ Err code)
+      → Settles s effect old mid d d (No code)
   unfolding settled
-  refused_after row code old mid d reads over known is =
+  refused_after effect code old mid d reads over known is =
       read_answered (s.honest old) (s.honest mid) (s.characters old) (s.characters mid) (s.characters mid) d d
-      (settled (seen (s.characters old) d) (row (seen (s.characters old) d)))
+      (settled (seen (s.characters old) d) (effect (seen (s.characters old) d)))
       (outcome_of (seen (s.characters mid) d) (No code))
       (No code) reads.still reads.as_long
       (λ h. ap (λ (l : List ℕ). outcome_of (seen l d) (No code)) (reads.same h)
@@ -70,18 +70,18 @@ module _ {S : Type 0} (s : Ghosts S) where
       faults = subst (λ n. FailsAs Fault IsStop result n (s.failures new)) calm uses.faults;
     }
 
-    -- all that a row owes, where the rest does what it should
+    -- all that an effect owes, where the rest does what it should
     pub does_there : {A : Type 0} (F : Desktop → A → Result Desktop ℕ) (read : Desktop → A) (a : A)
-        (row : Desktop → Result Desktop ℕ) (old mid new : S) (d after : KeptDesktop) (result : Result Reply Stop)
+        (effect : Desktop → Result Desktop ℕ) (old mid new : S) (d after : KeptDesktop) (result : Result Reply Stop)
         → Reads old mid → s.failures mid ≡ s.failures old → (s.honest old → a ≡ read (seen (s.characters old) d))
-        → (a ≡ read (seen (s.characters old) d) → F (seen (s.characters old) d) a ≡ row (seen (s.characters old) d))
-        → Does s (λ x. F x a) result mid new d after → Does s row result old new d after
-    does_there F read a row old mid new d after result reads calm is same rest = record {
-      answered = settles_there F read a row old mid new d after result reads is same rest.answered;
+        → (a ≡ read (seen (s.characters old) d) → F (seen (s.characters old) d) a ≡ effect (seen (s.characters old) d))
+        → Does s (λ x. F x a) result mid new d after → Does s effect result old new d after
+    does_there F read an effect old mid new d after result reads calm is same rest = record {
+      answered = settles_there F read an effect old mid new d after result reads is same rest.answered;
       uses = uses_after old mid new result reads calm rest.uses;
     }
 
-    -- and where the row is F of what is read
+    -- and where the effect is F of what is read
     pub does_after : {A : Type 0} (F : Desktop → A → Result Desktop ℕ) (read : Desktop → A) (a : A) (old mid new : S)
         (d after : KeptDesktop) (result : Result Reply Stop) → Reads old mid → s.failures mid ≡ s.failures old
         → (s.honest old → a ≡ read (seen (s.characters old) d))

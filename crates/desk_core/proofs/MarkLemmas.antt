@@ -1,4 +1,4 @@
--- Rows of marks: what is outside the display, the marker, the caret, and what was drawn.
+-- Effects on marks: what is outside the display, the marker, the caret, and what was drawn.
 use Rattle.std.specs.Prelude.{◌≡◌, ◌≤◌, ◌<◌, ◌==◌, ◌&&◌, ℕ, Bool, true, false, if◌then◌else◌}
 use Rattle.std.specs.Prelude.{List, [], ◌∷◌, ◌++◌, length}
 use Rattle.std.specs.Prelude.{Result, Ok}
@@ -41,7 +41,7 @@ module _ (H : Type 0) (old : List ℕ) (d : KeptDesktop) (over : IsOver old d) w
       refused H old d _ outside over known_outside
       (λ h. sym (ap (λ (b : Bool). settled (seen old d) (unless b outside new)) is))
 
-  -- a row that changes marks alone is done
+  -- an effect that changes marks alone is done
   changed_done : (after : KeptDesktop) (outcome : Desktop) → IsChanged H old d after outcome 0 0
       → IsAnswered H old old d after (settled (seen old d) (Ok outcome)) Done
   changed_done after outcome changed = fewer_answered H old old d after outcome 0 over refl (λ h. refl) changed

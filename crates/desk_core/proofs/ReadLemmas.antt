@@ -1,4 +1,4 @@
--- What a row owes that reads the source first, and what it leaves.
+-- What an effect owes that reads the source first, and what it leaves.
 use Rattle.std.proofs.Common.{◌≡◌, ◌≤◌, ℕ, List, length, sym, ap, subst, ◌∙◌, arith}
 use Rattle.std.specs.Prelude.{Result, Ok, IfOk}
 use Rattle.std.proofs.lemmas.Result.{IfOk-weaker}
@@ -19,7 +19,7 @@ use Rattle.desk_core.specs.declared.stop.Stop.{Stop}
 pub over_read : (old new : List ℕ) (d : KeptDesktop) → length new ≡ length old → IsOver old d → IsOver new d
 over_read old new d long over = record { counted = long ∙ over.counted; whole = over.whole }
 
--- a row that leaves the desktop as it is
+-- an effect that leaves the desktop as it is
 pub unchanged_answered : (H : Type 0) (old new : List ℕ) (d : KeptDesktop) (outcome : Desktop) → IsOver old d
     → length new ≡ length old → (H → new ≡ old) → (H → seen old d ≡ outcome)
     → IsAnswered H old new d d (settled (seen old d) (Ok outcome)) Done
@@ -27,7 +27,7 @@ unchanged_answered H old new d outcome over long same is =
     row_answered H old new d d outcome (over_read old new d long over)
     (λ h. ap (λ (l : List ℕ). seen l d) (same h) ∙ is h)
 
--- a row after which a viewer begins elsewhere
+-- an effect after which a viewer begins elsewhere
 pub org_answered : (H : Type 0) (old new : List ℕ) (d after : KeptDesktop) (v org : ℕ) (outcome : Desktop)
     → IsOver old d → org ≤ length (flat (text_in d.texts (viewer_or_none d.viewers v).main))
     → length new ≡ length old → (H → new ≡ old) → after ≡ with_org d v org
@@ -38,7 +38,7 @@ org_answered H old new d after v org outcome over low long same is exact =
     (fewer_answered H old new d (with_org d v org) outcome 0 over long same
     (changed_as outcome (with_org_changed H old d (over_built old d over) v org low) exact))
 
--- a row after what was read: its outcome is the same where that is honest
+-- an effect after what was read: its outcome is the same where that is honest
 pub read_answered : (H G : Type 0) (old mid new : List ℕ) (d after : KeptDesktop) (x y : Outcome)
     (reply : Reply) → (H → G) → length mid ≡ length old → (H → y ≡ x) → IsAnswered G mid new d after y reply
     → IsAnswered H old new d after x reply
@@ -52,7 +52,7 @@ read_answered H G old mid new d after x y reply so long same answered = record {
   };
 }
 
--- the same of what a call of the row returned, whose outcome F says by what was read
+-- the same of what a call of the effect returned, whose outcome F says by what was read
 pub read_first : {A : Type 0} (F : Desktop → A → Result Desktop ℕ) (a b : A) (H G : Type 0) (old mid new : List ℕ)
     (d after : KeptDesktop) (result : Result Reply Stop) → (H → G) → length mid ≡ length old → (H → mid ≡ old)
     → (H → a ≡ b)

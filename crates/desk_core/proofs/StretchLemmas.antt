@@ -1,4 +1,4 @@
--- Positions and stretches that stand, copies of them, rows that are refused, and where rows of a frame start.
+-- Positions and stretches that stand, copies of them, effects that are refused, and where rows of a frame start.
 use Rattle.std.specs.Prelude.{◌≡◌, ◌==◌, ◌<◌, ◌≤◌, ℕ, List, length, Option, Some, None, IfSome, Result, Err}
 use Rattle.std.specs.Prelude.{Bool, true, false, IsSome, if◌then◌else◌}
 use Rattle.std.specs.Option.{option_map, unwrap_or}
@@ -109,9 +109,9 @@ buffer_goes {old} {d} {copy} buffer v over is = record {
 
 -- ---- refusals
 
-pub refused_row : {H : Type 0} {old : List ℕ} {d : KeptDesktop} {row : Result Desktop ℕ} {code : ℕ} → IsOver old d
-    → OneOf reply_codes code → row ≡ Err code → IsAnswered H old old d d (settled (seen old d) row) (No code)
-refused_row {H} {old} {d} {row} {code} over known is = refusal_answered H old d row code over known is
+pub refused_effect : {H : Type 0} {old : List ℕ} {d : KeptDesktop} {effect : Result Desktop ℕ} {code : ℕ} → IsOver old d
+    → OneOf reply_codes code → effect ≡ Err code → IsAnswered H old old d d (settled (seen old d) effect) (No code)
+refused_effect {H} {old} {d} {effect} {code} over known is = refusal_answered H old d effect code over known is
 
 -- ---- rows of a frame
 

@@ -2,7 +2,7 @@ pub mod Kept
 pub mod Positions
 pub mod Stops
 pub mod Movable
-pub mod Row
+pub mod Doing
 pub mod Buffers
 pub mod Reads
 pub mod Mouse

@@ -24,6 +24,6 @@ pub use Rattle.desktop_laws.specs.RowPartLaws.{kept_main}
 pub use Rattle.desk_core.specs.Kept.{kept}
 pub use Rattle.desk_core.specs.Stops.{IsStop}
 pub use Rattle.desk_core.specs.Positions.{IsPosition, IsOpenAt, CanGo}
-pub use Rattle.desk_core.specs.Row.{Settles, SettlesUnread, SettlesBringing, Uses, Does, DoesUnread}
-pub use Rattle.desk_core.specs.Row.{DoesBringing}
+pub use Rattle.desk_core.specs.Doing.{Settles, SettlesUnread, SettlesBringing, Uses, Does, DoesUnread}
+pub use Rattle.desk_core.specs.Doing.{DoesBringing}
 pub use Rattle.desk_core.specs.Reads.{Tells, TellsAs}

@@ -1,4 +1,4 @@
-//! Edits that several rows have: what is put in or taken out, with the caret where it was, and copies of stretches.
+//! Edits that several events have: what is put in or taken out, with the caret where it was, and copies of stretches.
 ghost use Rattle.std.specs.Prelude.{◌≡◌, ◌+◌, ◌-◌, ◌<◌, ◌≤◌, ◌^◌, ◌&&◌, ℕ, List, length, nat_le, IfOk, IfSome, IsSome};
 ghost use Rattle.std.specs.Prelude.{OnOk, is_none, true, Ok, if◌then◌else◌};
 ghost use Rattle.desktop_definitions.specs.Change.{put_in, put_at_caret, cut_out};

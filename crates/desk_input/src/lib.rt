@@ -2,7 +2,7 @@
 //! bars, and stretches of text that the mouse draws.
 //!
 //! Each entry of the table of gestures, and each key, is one function over a `Desk` with the contract that all have
-//! (`Row.antt` of `desk_core`). Which entry a gesture has is decided in `event_loop`.
+//! (`Doing.antt` of `desk_core`). Which entry a gesture has is decided in `event_loop`.
 #![tactic(auto)]
 
 pub mod bars;

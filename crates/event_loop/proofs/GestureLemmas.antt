@@ -15,7 +15,7 @@ use Rattle.desktop_definitions.specs.declared.viewer.Selection.{Selection}
 use Rattle.desktop_definitions.specs.Limits.{outside}
 use Rattle.desktop_definitions.specs.Needs.{unless}
 use Rattle.desktop_definitions.specs.Unread.{gesture_needs_no_byte, gesture_brings, grown, needs_no_byte, brought}
-use Rattle.desk_core.specs.Row.{Settles, SettlesUnread, SettlesBringing, Uses, DoesUnread}
+use Rattle.desk_core.specs.Doing.{Settles, SettlesUnread, SettlesBringing, Uses, DoesUnread}
 use Rattle.desktop_definitions.specs.Desktop.{Desktop, KeptDesktop}
 use Rattle.desktop_definitions.specs.Seen.{seen}
 use Rattle.desktop_definitions.specs.Step.{settled, raw, outcome_of}
@@ -118,17 +118,17 @@ needs_none : (d : KeptDesktop) (inside : Bool) (region there : Region) (keys : K
 needs_none d inside region there keys is same none =
     (λ k. not (sym is k) || gesture_needs_no_byte d (same k) keys) ∙ none
 
--- the row of a region is that of both cells
+-- the effect of a region is that of both cells
 pub unread_there : (version : ℕ) (d after : KeptDesktop) (keys : Keys) (x0 y0 x1 y1 : ℕ) (result : Result Reply Stop)
-    (row : Desktop → Result Desktop ℕ) {inside : Bool} {region : Region} → inside ≡ true → region ≡ region_at d x0 y0
+    (effect : Desktop → Result Desktop ℕ) {inside : Bool} {region : Region} → inside ≡ true → region ≡ region_at d x0 y0
     → (not inside || gesture_needs_no_byte d (region_at d x0 y0) keys) ≡ true
-    → ((all : List ℕ) → row (seen all d) ≡ pointed version (seen all d) region keys x0 y0 x1 y1)
+    → ((all : List ℕ) → effect (seen all d) ≡ pointed version (seen all d) region keys x0 y0 x1 y1)
     → (gesture_needs_no_byte d region keys ≡ true
-    → IfOk result (SettlesBringing (gesture_brings region keys) (λ all. row (seen all d)) d after))
+    → IfOk result (SettlesBringing (gesture_brings region keys) (λ all. effect (seen all d)) d after))
     → IfOk result (SettlesBringing (gesture_brings (region_at d x0 y0) keys) (λ all. unless inside outside
     (pointed version (seen all d) (region_at (seen all d) x0 y0) keys x0 y0 x1 y1)) d after)
-unread_there version d after keys x0 y0 x1 y1 result row {inside} {region} there here none is so =
-    IfOk-weaker result (SettlesBringing (gesture_brings region keys) (λ all. row (seen all d)) d after) _
+unread_there version d after keys x0 y0 x1 y1 result effect {inside} {region} there here none is so =
+    IfOk-weaker result (SettlesBringing (gesture_brings region keys) (λ all. effect (seen all d)) d after) _
     (λ reply settles all long.
     ap (λ (a : Region). outcome_of (seen (grown all (gesture_brings a keys) reply) after) reply) (sym here)
     ∙ settles all long ∙ ap (settled (seen all d))
@@ -177,26 +177,26 @@ unread_anywhere version d after keys v p place result none settles =
 
 module _ {S : Type 0} (s : Ghosts S) {old new : S} {d after : KeptDesktop} {result : Result Reply Stop} (version : ℕ)
     {keys : Keys} {x0 y0 x1 y1 : ℕ} (inside : (is_on_display x0 y0 && is_on_display x1 y1) ≡ true) {region : Region}
-    (here : region ≡ region_at d x0 y0) (row : Desktop → Result Desktop ℕ)
-    (is : (all : List ℕ) → row (seen all d) ≡ pointed version (seen all d) region keys x0 y0 x1 y1) where
+    (here : region ≡ region_at d x0 y0) (effect : Desktop → Result Desktop ℕ)
+    (is : (all : List ℕ) → effect (seen all d) ≡ pointed version (seen all d) region keys x0 y0 x1 y1) where
   -- a gesture is done by a call that does what is said of it in the region where the keys went down
-  pub does_there : IfOk result (Settles s row old new d after)
+  pub does_there : IfOk result (Settles s effect old new d after)
       → (gesture_needs_no_byte d region keys ≡ true
-      → IfOk result (SettlesBringing (gesture_brings region keys) (λ all. row (seen all d)) d after))
+      → IfOk result (SettlesBringing (gesture_brings region keys) (λ all. effect (seen all d)) d after))
       → Uses s result old new → DoesEvent s version (Point keys x0 y0 x1 y1) result old new d after
   unfolding raw needs_no_byte brought
   does_there answered unread uses = record {
     answered = pointed_there version (s.honest old) (s.characters old) (s.characters new) d after keys x0 y0 x1 y1 result
         inside here (is (s.characters old)) answered;
     unread = bringing_event version d after (Point keys x0 y0 x1 y1) _ result refl
-        (λ h. unread_there version d after keys x0 y0 x1 y1 result row inside here h is unread);
+        (λ h. unread_there version d after keys x0 y0 x1 y1 result effect inside here h is unread);
     uses = uses;
   }
 
   -- where it brings no characters
   pub does_pointed : [] ≡ gesture_brings region keys
-      → DoesUnread s (gesture_needs_no_byte d region keys ≡ true) row result old new d after
+      → DoesUnread s (gesture_needs_no_byte d region keys ≡ true) effect result old new d after
       → DoesEvent s version (Point keys x0 y0 x1 y1) result old new d after
   does_pointed none does = does_there does.answered (λ h.
-      subst (λ (bytes : List ℕ). IfOk result (SettlesBringing bytes (λ all. row (seen all d)) d after)) none
-      (brings_none row d after result (does.unread h))) does.uses
+      subst (λ (bytes : List ℕ). IfOk result (SettlesBringing bytes (λ all. effect (seen all d)) d after)) none
+      (brings_none effect d after result (does.unread h))) does.uses

@@ -11,11 +11,11 @@ use Rattle.desktop_definitions.specs.Seen.{seen}
 use Rattle.desktop_definitions.specs.Step.{raw, step_in, outcome_of}
 use Rattle.desktop_definitions.specs.Unread.{needs_no_byte, brought, grown, StepsUnread}
 use Rattle.desk_core.specs.declared.stop.Stop.{Stop}
-use Rattle.desk_core.specs.Row.{SettlesUnread, SettlesBringing, DoesUnread}
+use Rattle.desk_core.specs.Doing.{SettlesUnread, SettlesBringing, DoesUnread}
 use Rattle.desk_core.proofs.UnreadLemmas.{brings_none}
 use Rattle.event_loop.specs.Doing.{DoesEvent}
 
--- one whose row brings these characters
+-- one whose effect brings these characters
 pub bringing_event : (version : ℕ) (d after : KeptDesktop) (event : Event) (bytes : List ℕ) (result : Result Reply Stop)
     → bytes ≡ brought d event
     → (needs_no_byte d event ≡ true
@@ -26,7 +26,7 @@ bringing_event version d after event bytes (Ok reply) is settles = λ h all long
     ap (λ (l : List ℕ). outcome_of (seen (grown all l reply) after) reply) (sym is) ∙ settles h all long
 bringing_event version d after event bytes (Err stop) is settles = tt
 
--- one whose row brings none
+-- one whose effect brings none
 pub unread_event : (version : ℕ) (d after : KeptDesktop) (event : Event) (result : Result Reply Stop)
     → [] ≡ brought d event
     → (needs_no_byte d event ≡ true → IfOk result (SettlesUnread (λ x. raw version x event) d after))

@@ -7,7 +7,7 @@ use Rattle.desktop_definitions.specs.Desktop.{KeptDesktop}
 use Rattle.desktop_definitions.specs.Step.{raw}
 use Rattle.desktop_definitions.specs.Unread.{StepsUnread}
 use Rattle.desk_core.specs.declared.stop.Stop.{Stop}
-use Rattle.desk_core.specs.Row.{Settles, Uses}
+use Rattle.desk_core.specs.Doing.{Settles, Uses}
 
 module _ {S : Type 0} (s : Ghosts S) where
   -- Reply and desktop are those of the event in a version of the table of commands, also over a source that isn't

@@ -6,7 +6,7 @@ use Rattle.desktop_definitions.specs.Outcome.{reply_codes}
 use Rattle.desktop_definitions.specs.Needs.{given}
 use Rattle.desktop_definitions.specs.Call.{number_in, as_number, number_of}
 use Rattle.desktop_definitions.specs.Commands.{done_with_number}
-use Rattle.desk_core.specs.Row.{Does}
+use Rattle.desk_core.specs.Doing.{Does}
 use Rattle.desk_core.specs.Kept.{kept}
 use Rattle.desk_commands.proofs.ReadFirst.{does_after}
 use Rattle.desk_commands.proofs.CallLemmas.{known_choice, refused_given}

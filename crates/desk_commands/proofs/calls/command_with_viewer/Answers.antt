@@ -3,7 +3,7 @@ use Rattle.desktop_definitions.specs.Limits.{no_viewer}
 use Rattle.desktop_laws.specs.KeyLaws.{refusal_answered}
 use Rattle.desktop_laws.specs.RowLaws.{known_no_viewer}
 use Rattle.desk_core.proofs.ArmLemmas.{outcome_as}
-use Rattle.desk_commands.proofs.CallLemmas.{meant_row, meant_none}
+use Rattle.desk_commands.proofs.CallLemmas.{meant_some, meant_none}
 use Rattle.desk_commands.proofs.calls.command_with_viewer.Goals as goal
 
 pub returns-in_default : goal.returns-in_default
@@ -18,6 +18,7 @@ pub returns : goal.returns
 returns g c = record {
   answered =
       outcome_as _ _ _ _ _ c.do_with_viewer.result
-      (meant_row _ _ c.args.command c.args.call _ _ c.in-Some.is c.meant.ensures.viewer) c.do_with_viewer.ensures.answered;
+      (meant_some _ _ c.args.command c.args.call _ _ c.in-Some.is c.meant.ensures.viewer)
+      c.do_with_viewer.ensures.answered;
   uses = search (rules, g.met.S.CharSource.ground_self, g.met.S.CharSource.ground_through);
 }

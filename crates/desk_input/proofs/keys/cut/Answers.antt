@@ -4,14 +4,14 @@ use Rattle.desktop_laws.specs.RowLaws.{known_no_selection}
 use Rattle.desktop_laws.specs.KeyLaws.{cut_none, cut_answered}
 use Rattle.desk_core.specs.Kept.{kept}
 use Rattle.desk_input.proofs.StillLemmas.{does_unread}
-use Rattle.desk_core.proofs.StretchLemmas.{refused_row, copied_built}
+use Rattle.desk_core.proofs.StretchLemmas.{refused_effect, copied_built}
 use Rattle.desk_input.proofs.keys.cut.Goals as goal
 
 pub returns-in_default : goal.returns-in_default
 unfolding seen
 returns-in_default g c =
     does_unread g.S.CharSource g.met.S.CharSource.ground_self _ _ (kept c.args.desk.now) _ _ c.requires
-    (λ H all over. refused_row over known_no_selection (cut_none _ (sym c.selection.ensures.is ∙ c.in_default.is)))
+    (λ H all over. refused_effect over known_no_selection (cut_none _ (sym c.selection.ensures.is ∙ c.in_default.is)))
 
 pub cut_out-requires-clause-built : goal.cut_out-requires-clause-built
 cut_out-requires-clause-built g c =

@@ -3,7 +3,7 @@ use Rattle.desktop_definitions.specs.Seen.{seen}
 use Rattle.desktop_laws.specs.RowLaws.{known_no_caret}
 use Rattle.desktop_laws.specs.KeyLaws.{back_none, back_first, back_answered, stay_answered}
 use Rattle.desk_core.specs.Kept.{kept}
-use Rattle.desk_core.proofs.StretchLemmas.{refused_row}
+use Rattle.desk_core.proofs.StretchLemmas.{refused_effect}
 use Rattle.desk_input.proofs.StillLemmas.{does_unread}
 use Rattle.desk_input.proofs.keys.take_back.Goals as goal
 
@@ -11,7 +11,7 @@ pub returns-in_default : goal.returns-in_default
 unfolding seen
 returns-in_default g c =
     does_unread g.S.CharSource g.met.S.CharSource.ground_self _ _ (kept c.args.desk.now) _ _ c.requires
-    (λ H all over. refused_row over known_no_caret (back_none _ (sym c.caret_place.ensures.is ∙ c.in_default.is)))
+    (λ H all over. refused_effect over known_no_caret (back_none _ (sym c.caret_place.ensures.is ∙ c.in_default.is)))
 
 pub returns-in_ok-cut_out : goal.returns-in_ok-cut_out
 returns-in_ok-cut_out g c = record {

@@ -14,7 +14,7 @@ use Rattle.desktop_laws.specs.KeyLaws.{typed_none, typed_full, typed_answered, m
 use Rattle.desk_core.specs.Kept.{kept}
 use Rattle.desktop_definitions.specs.Looks.{AreLooks}
 use Rattle.desktop_laws.specs.LookedLaws.{run_looks, kept_look}
-use Rattle.desk_core.proofs.StretchLemmas.{refused_row}
+use Rattle.desk_core.proofs.StretchLemmas.{refused_effect}
 use Rattle.desk_input.proofs.StillLemmas.{does_unread}
 use Rattle.desk_input.proofs.keys.type_bytes.Goals as goal
 
@@ -22,7 +22,7 @@ pub returns-in_default : goal.returns-in_default
 unfolding seen
 returns-in_default g c =
     does_unread g.S.CharSource g.met.S.CharSource.ground_self _ _ (kept c.args.desk.now) _ _ c.requires
-    (λ H all over. refused_row over known_no_caret (typed_none _ (sym c.caret_place.ensures.is ∙ c.in_default.is) _))
+    (λ H all over. refused_effect over known_no_caret (typed_none _ (sym c.caret_place.ensures.is ∙ c.in_default.is) _))
 
 pub returns-then-not-fits_more : goal.returns-then-not-fits_more
 returns-then-not-fits_more g c =

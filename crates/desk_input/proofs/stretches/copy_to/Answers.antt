@@ -3,7 +3,7 @@ use Rattle.desktop_definitions.specs.Seen.{seen}
 use Rattle.desktop_laws.specs.RowLaws.{known_no_selection, over_built}
 use Rattle.desktop_laws.specs.KeyLaws.{copied_to_none, copied_to_full, copied_to_answered}
 use Rattle.desk_core.specs.Kept.{kept}
-use Rattle.desk_core.proofs.StretchLemmas.{refused_row}
+use Rattle.desk_core.proofs.StretchLemmas.{refused_effect}
 use Rattle.desk_input.proofs.StillLemmas.{does_unread}
 use Rattle.desk_input.proofs.stretches.copy_to.Goals as goal
 
@@ -11,7 +11,8 @@ pub returns-in_default : goal.returns-in_default
 unfolding seen
 returns-in_default g c =
     does_unread g.S.CharSource g.met.S.CharSource.ground_self _ _ (kept c.args.desk.now) _ _ c.requires.over
-    (λ H all over. refused_row over known_no_selection (copied_to_none _ (sym c.selection.ensures.is ∙ c.in_default.is) _ _))
+    (λ H all over. refused_effect over known_no_selection
+    (copied_to_none _ (sym c.selection.ensures.is ∙ c.in_default.is) _ _))
 
 pub returns-then-not-fits_more : goal.returns-then-not-fits_more
 returns-then-not-fits_more g c =

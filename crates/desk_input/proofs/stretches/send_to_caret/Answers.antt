@@ -8,13 +8,13 @@ use Rattle.desktop_definitions.specs.Changed.{IsChanged}
 use Rattle.desktop_laws.specs.RowLaws.{known_no_selection, known_no_caret}
 use Rattle.desktop_laws.specs.KeyLaws.{sent_empty, sent_none, sent_full, sent_answered}
 use Rattle.desk_core.specs.Kept.{kept}
-use Rattle.desk_core.proofs.StretchLemmas.{refused_row, selected_built}
+use Rattle.desk_core.proofs.StretchLemmas.{refused_effect, selected_built}
 use Rattle.desk_input.proofs.stretches.send_to_caret.Goals as goal
 
 pub returns-then-drawn : goal.returns-then-drawn
 returns-then-drawn g c = record {
   answered =
-      refused_row c.requires.over known_no_selection (sent_empty _ _ c.if-drawn.true);
+      refused_effect c.requires.over known_no_selection (sent_empty _ _ c.if-drawn.true);
   uses = search (rules, g.met.S.CharSource.ground_self, g.met.S.CharSource.ground_through);
 }
 
@@ -22,7 +22,7 @@ pub returns-in_default : goal.returns-in_default
 unfolding seen
 returns-in_default g c = record {
   answered =
-      refused_row c.requires.over known_no_caret
+      refused_effect c.requires.over known_no_caret
       (sent_none _ _ c.if-drawn.false (sym c.caret_place.ensures.is ∙ c.in_default.is));
   uses = search (rules, g.met.S.CharSource.ground_self, g.met.S.CharSource.ground_through);
 }

@@ -9,7 +9,7 @@ use Rattle.desktop_laws.specs.RowPartLaws.{kept_main}
 use Rattle.desktop_laws.specs.LookedLaws.{look_at_looks, kept_text_looks}
 use Rattle.desktop_laws.specs.KeyLaws.{looks_taken_none, looks_taken_answered}
 use Rattle.desk_core.specs.Kept.{kept}
-use Rattle.desk_core.proofs.StretchLemmas.{refused_row}
+use Rattle.desk_core.proofs.StretchLemmas.{refused_effect}
 use Rattle.desk_input.proofs.StillLemmas.{does_unread}
 use Rattle.desk_input.proofs.stretches.take_looks.Goals as goal
 
@@ -17,7 +17,8 @@ pub returns-in_default : goal.returns-in_default
 unfolding seen
 returns-in_default g c =
     does_unread g.S.CharSource g.met.S.CharSource.ground_self _ _ (kept c.args.desk.now) _ _ c.requires.over
-    (λ H all over. refused_row over known_no_selection (looks_taken_none _ (sym c.selection.ensures.is ∙ c.in_default.is) _ _))
+    (λ H all over. refused_effect over known_no_selection
+    (looks_taken_none _ (sym c.selection.ensures.is ∙ c.in_default.is) _ _))
 
 pub set_looks-requires-clause-look : goal.set_looks-requires-clause-look
 set_looks-requires-clause-look g c =

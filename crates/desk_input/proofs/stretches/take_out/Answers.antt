@@ -1,13 +1,13 @@
 use Rattle.std.proofs.Common.{rules, refl}
 use Rattle.desktop_laws.specs.RowLaws.{known_no_selection}
 use Rattle.desktop_laws.specs.KeyLaws.{taken_out_empty, taken_out_answered}
-use Rattle.desk_core.proofs.StretchLemmas.{refused_row}
+use Rattle.desk_core.proofs.StretchLemmas.{refused_effect}
 use Rattle.desk_input.proofs.stretches.take_out.Goals as goal
 
 pub returns-then-drawn : goal.returns-then-drawn
 returns-then-drawn g c = record {
   answered =
-      refused_row c.requires.over known_no_selection (taken_out_empty _ _ c.if-drawn.true);
+      refused_effect c.requires.over known_no_selection (taken_out_empty _ _ c.if-drawn.true);
   uses = search (rules, g.met.S.CharSource.ground_self, g.met.S.CharSource.ground_through);
 }
 

@@ -5,7 +5,7 @@ use Rattle.desktop_definitions.specs.Seen.{seen, seen_text}
 use Rattle.desktop_laws.specs.RowLaws.{has_space, known_no_caret, over_built}
 use Rattle.desktop_laws.specs.SearchLaws.{put_none, put_full, put_answered}
 use Rattle.desk_core.specs.Kept.{kept}
-use Rattle.desk_core.proofs.StretchLemmas.{refused_row, buffer_goes}
+use Rattle.desk_core.proofs.StretchLemmas.{refused_effect, buffer_goes}
 use Rattle.desk_core.proofs.BufferLemmas.{buffer_seen}
 use Rattle.desk_core.proofs.UnreadLemmas.{refusal_is}
 use Rattle.desk_core.proofs.desk.Desk.put_buffer.Goals as goal
@@ -13,7 +13,7 @@ use Rattle.desk_core.proofs.desk.Desk.put_buffer.Goals as goal
 pub returns-in_default : goal.returns-in_default
 returns-in_default g c = record {
   answered =
-      refused_row c.requires.over known_no_caret
+      refused_effect c.requires.over known_no_caret
       (put_none _ (kept c.args.self.now) _ (sym c.caret_place.ensures.is ∙ c.in_default.is));
   unread = λ calm all long.
       refusal_is (put_none all (kept c.args.self.now) _ (sym c.caret_place.ensures.is ∙ c.in_default.is));

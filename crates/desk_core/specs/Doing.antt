@@ -12,26 +12,26 @@ use Rattle.desk_core.specs.declared.stop.Stop.{Stop}
 use Rattle.desk_core.specs.declared.stop.Stop.TheVariants.{Fault}
 use Rattle.desk_core.specs.Stops.{IsStop}
 
--- Of a row that reads no character: reply and desktop are what is settled of it over every list of as many characters,
--- whatever the source tells.
+-- Of an effect that reads no character: reply and desktop are what is settled of it over every list of as many
+-- characters, whatever the source tells.
 abbrev pub SettlesUnread : (Desktop → Result Desktop ℕ) → KeptDesktop → KeptDesktop → Reply → Type 0
-SettlesUnread row before after reply =
+SettlesUnread effect before after reply =
     (all : List ℕ) → length all ≡ before.written
-    → outcome_of (seen all after) reply ≡ settled (seen all before) (row (seen all before))
+    → outcome_of (seen all after) reply ≡ settled (seen all before) (effect (seen all before))
 
--- Of a row that reads none and adds these: the same, with what comes of it over each such list.
+-- Of an effect that reads none and adds these: the same, with what comes of it over each such list.
 abbrev pub SettlesBringing : List ℕ → (List ℕ → Result Desktop ℕ) → KeptDesktop → KeptDesktop → Reply → Type 0
 SettlesBringing bytes outcome before after reply =
     (all : List ℕ) → length all ≡ before.written
     → outcome_of (seen (grown all bytes reply) after) reply ≡ settled (seen all before) (outcome all)
 
 module _ {S : Type 0} (s : Ghosts S) where
-  -- The reply, and the desktop that is kept after it, are what is settled of the row, where that says what becomes of a
+  -- The reply, and the desktop that is kept after it, are what is settled of the effect, which says what becomes of a
   -- desktop as it is seen.
   abbrev pub Settles : (Desktop → Result Desktop ℕ) → S → S → KeptDesktop → KeptDesktop → Reply → Type 0
-  Settles row old new before after reply =
+  Settles effect old new before after reply =
       IsAnswered (s.honest old) (s.characters old) (s.characters new) before after
-      (settled (seen (s.characters old) before) (row (seen (s.characters old) before))) reply
+      (settled (seen (s.characters old) before) (effect (seen (s.characters old) before))) reply
 
   -- Of the source of characters, whatever is returned.
   pub record Uses {T : Type 0} (result : Result T Stop) (old new : S) : Type 0 where
@@ -39,22 +39,22 @@ module _ {S : Type 0} (s : Ghosts S) where
     -- which errors there are, and that it failed exactly where the call says so
     pub faults : FailsAs Fault IsStop result (s.failures old) (s.failures new)
 
-  -- What a call promises that does an event, or the rest of one, which is this row.
-  pub record Does (row : Desktop → Result Desktop ℕ) (result : Result Reply Stop) (old new : S)
+  -- What a call promises that does an event, or the rest of one, which is this effect.
+  pub record Does (effect : Desktop → Result Desktop ℕ) (result : Result Reply Stop) (old new : S)
       (before after : KeptDesktop) : Type 0 where
-    pub answered : IfOk result (Settles row old new before after)
+    pub answered : IfOk result (Settles effect old new before after)
     pub uses : Uses result old new
 
-  -- The same of a row that reads no character where this holds.
-  pub record DoesUnread (calm : Type 0) (row : Desktop → Result Desktop ℕ) (result : Result Reply Stop) (old new : S)
+  -- The same of an effect that reads no character where this holds.
+  pub record DoesUnread (calm : Type 0) (effect : Desktop → Result Desktop ℕ) (result : Result Reply Stop) (old new : S)
       (before after : KeptDesktop) : Type 0 where
-    pub answered : IfOk result (Settles row old new before after)
-    pub unread : calm → IfOk result (SettlesUnread row before after)
+    pub answered : IfOk result (Settles effect old new before after)
+    pub unread : calm → IfOk result (SettlesUnread effect before after)
     pub uses : Uses result old new
 
-  -- The same of a row over these characters that reads none and adds these bytes.
-  pub record DoesBringing (bytes : List ℕ) (row : List ℕ → Desktop → Result Desktop ℕ) (result : Result Reply Stop)
+  -- The same of an effect over these characters that reads none and adds these bytes.
+  pub record DoesBringing (bytes : List ℕ) (effect : List ℕ → Desktop → Result Desktop ℕ) (result : Result Reply Stop)
       (old new : S) (before after : KeptDesktop) : Type 0 where
-    pub answered : IfOk result (Settles (row (s.characters old)) old new before after)
-    pub unread : IfOk result (SettlesBringing bytes (λ all. row all (seen all before)) before after)
+    pub answered : IfOk result (Settles (effect (s.characters old)) old new before after)
+    pub unread : IfOk result (SettlesBringing bytes (λ all. effect all (seen all before)) before after)
     pub uses : Uses result old new
