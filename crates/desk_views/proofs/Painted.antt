@@ -11,7 +11,7 @@ use Rattle.piece_ring.specs.Flat.{flat}
 use Rattle.piece_ring.specs.Offsets.{AreWithin}
 use Rattle.readers_scanners.specs.Reading.{contents}
 use Rattle.screen_cells.specs.declared.shown.Shown.{Shown}
-use Rattle.screen_pictures.specs.Picture.{picture, Viewer as Painted}
+use Rattle.screen_pictures.specs.Picture.{picture, Painted}
 use Rattle.screen_pictures.specs.Screen.{screen_of}
 use Rattle.screen_cells.specs.Shown.{IsShowable, as_read}
 use Rattle.desktop_definitions.specs.declared.viewer.Viewer.{Viewer}

@@ -8,10 +8,10 @@ use Rattle.screen_cells.specs.declared.shown.Shown.{Shown}
 use Rattle.screen_cells.specs.declared.strip.Strip.{Strip}
 use Rattle.screen_cells.specs.declared.strip.Strip.TheVariants.{Filler, Menu, Frame}
 use Rattle.screen_pictures.specs.declared.cell.Cell.{Cell}
-use Rattle.screen_pictures.specs.Picture.{Viewer, filler, bar_cell, menu_cell, text_cell}
+use Rattle.screen_pictures.specs.Picture.{Painted, filler, bar_cell, menu_cell, text_cell}
 
 -- a viewer as it reads, over these characters
-abbrev pub as_read : List ℕ → Shown → Viewer
+abbrev pub as_read : List ℕ → Shown → Painted
 as_read characters s = record {
   id = s.id.0;
   menu = contents characters (flat s.menu.now);
