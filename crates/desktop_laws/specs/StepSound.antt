@@ -57,6 +57,7 @@ use Rattle.viewer_tracks.specs.Columns.{after_close, replaced_at, allocated, Sta
 use Rattle.viewer_tracks.proofs.StackLemmas.{topmost_track}
 use Rattle.viewer_tracks.proofs.ColumnLemmas.{stack_in, open_keeps, cover_keeps, change_keeps, close_keeps}
 use Rattle.viewer_tracks.proofs.PlacedLemmas.{open_places, change_places, close_places, seen_placed, shown_stands}
+use Rattle.desktop_definitions.specs.declared.look_change.LookChange.{LookChange}
 use Rattle.desktop_definitions.specs.declared.region.Region.{Region}
 use Rattle.desktop_definitions.specs.declared.region.Region.TheVariants.{Filler, Menu, Bar, Body}
 use Rattle.desktop_definitions.specs.declared.call.Call.{Call}
@@ -385,12 +386,12 @@ module _ (d : Desktop) (shaped : IsShaped d) where
         looks = put_looks d shaped.looks name (main_of d v) (text_looks d shaped (viewer_of d v).main);
       })))
 
-  look_set_shaped : (new : ℕ × Look) → IsLook new.1 → IsShaped (look_set d new)
+  look_set_shaped : (new : LookChange) → IsLook new.look → IsShaped (look_set d new)
   unfolding look_set
   look_set_shaped new is = shape_stays shaped refl shaped.pattern
       (typed_looks d shaped.looks _ (relooked_is_look new.0 new.1 d.look is shaped.looks.look))
 
-  selection_set_shaped : (new : ℕ × Look) → IsLook new.1 → IfOk (selection_set d new) IsShaped
+  selection_set_shaped : (new : LookChange) → IsLook new.look → IfOk (selection_set d new) IsShaped
   unfolding selection_set
   selection_set_shaped new is = by_need IsShaped (newest d) _ _
       (λ s newest_is. looks_set_shaped d shaped s new.0 new.1 (newest_stands d shaped s newest_is) is)
@@ -460,8 +461,8 @@ module _ (d : Desktop) (shaped : IsShaped d) where
         | false ↦ seen_marker v
       ]
 
-  set_shaped : (o : Option (ℕ × Look)) → SetsLook o → (f : ℕ × Look → Result Desktop ℕ)
-      → ((new : ℕ × Look) → IsLook new.1 → IfOk (f new) IsShaped) → IfOk (needs o bad_value f) IsShaped
+  set_shaped : (o : Option LookChange) → SetsLook o → (f : LookChange → Result Desktop ℕ)
+      → ((new : LookChange) → IsLook new.look → IfOk (f new) IsShaped) → IfOk (needs o bad_value f) IsShaped
   set_shaped o sets f so = by_need IsShaped o bad_value f (λ new is. so new (sets new is))
 
   commanded_shaped : (command : Command) (call : Call) → IsOnTop call.viewer d.columns
