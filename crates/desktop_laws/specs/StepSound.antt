@@ -389,12 +389,12 @@ module _ (d : Desktop) (shaped : IsShaped d) where
   look_set_shaped : (new : LookChange) → IsLook new.look → IsShaped (look_set d new)
   unfolding look_set
   look_set_shaped new is = shape_stays shaped refl shaped.pattern
-      (typed_looks d shaped.looks _ (relooked_is_look new.0 new.1 d.look is shaped.looks.look))
+      (typed_looks d shaped.looks _ (relooked_is_look new.selector new.look d.look is shaped.looks.look))
 
   selection_set_shaped : (new : LookChange) → IsLook new.look → IfOk (selection_set d new) IsShaped
   unfolding selection_set
   selection_set_shaped new is = by_need IsShaped (newest d) _ _
-      (λ s newest_is. looks_set_shaped d shaped s new.0 new.1 (newest_stands d shaped s newest_is) is)
+      (λ s newest_is. looks_set_shaped d shaped s new.selector new.look (newest_stands d shaped s newest_is) is)
 
 -- ---- searches
 
