@@ -5,7 +5,7 @@ use Rattle.desktop_definitions.specs.declared.reply.Reply.{Reply}
 use Rattle.desktop_definitions.specs.declared.reply.Reply.TheVariants.{Done, No}
 use Rattle.desktop_definitions.specs.Limits.{no_caret, no_selection, no_command, no_file, full, too_many_files}
 use Rattle.desktop_definitions.specs.Limits.{outside, wrong_symbol, no_viewer, not_found, bad_value, too_deep, too_low}
-use Rattle.desktop_definitions.specs.Desktop.{Desktop, KeptDesktop}
+use Rattle.desktop_definitions.specs.Desktop.{KeptDesktop}
 use Rattle.desktop_definitions.specs.Seen.{seen}
 use Rattle.desktop_definitions.specs.Sound.{IsOver}
 use Rattle.desktop_definitions.specs.Step.{Outcome, outcome_of}

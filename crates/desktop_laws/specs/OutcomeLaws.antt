@@ -13,11 +13,10 @@ use Rattle.piece_ring.specs.Text.{Text}
 use Rattle.readers_scanners.specs.Reading.{contents}
 use Rattle.event_bytes.specs.Bytes.{is_name}
 use Rattle.event_bytes.specs.declared.event.Event.TheVariants.{File}
-use Rattle.desktop_definitions.specs.declared.reply.Reply.{Reply}
 use Rattle.desktop_definitions.specs.declared.reply.Reply.TheVariants.{Done, No}
 use Rattle.desktop_definitions.specs.Tables.{Files, name_cmp, put, has_room}
 use Rattle.desktop_laws.specs.TableLaws.{insert_seen, length_seen_text, longer, put_within}
-use Rattle.desktop_definitions.specs.Desktop.{Desktop, KeptDesktop}
+use Rattle.desktop_definitions.specs.Desktop.{KeptDesktop}
 use Rattle.desktop_definitions.specs.Seen.{seen, seen_text, seen_table}
 use Rattle.desktop_laws.specs.SeenLaws.{seen_longer, within_counted, new_read}
 use Rattle.desktop_definitions.specs.Change.{in_look, plain}

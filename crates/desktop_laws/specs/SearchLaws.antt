@@ -21,7 +21,7 @@ use Rattle.desktop_definitions.specs.declared.viewer.Caret.{Caret}
 use Rattle.desktop_definitions.specs.declared.viewer.Selection.{Selection}
 use Rattle.desktop_definitions.specs.declared.reply.Reply.{Reply}
 use Rattle.desktop_definitions.specs.declared.reply.Reply.TheVariants.{Done, No}
-use Rattle.desktop_definitions.specs.Limits.{most_held, most_pattern, no_caret, no_selection, not_found, full}
+use Rattle.desktop_definitions.specs.Limits.{most_pattern, no_caret, no_selection, not_found, full}
 use Rattle.desktop_laws.specs.TableLaws.{length_seen_text}
 use Rattle.desktop_definitions.specs.Desktop.{Desktop, KeptDesktop, held}
 use Rattle.desktop_definitions.specs.Viewers.{main_of, newest, selected}
@@ -40,7 +40,6 @@ use Rattle.desktop_laws.specs.RowPartLaws.{kept_main, kept_main_seen, kept_caret
 use Rattle.desktop_laws.specs.KeyLaws.{row_as, main_there_seen}
 use Rattle.desktop_laws.specs.LookedLaws.{looks_stay, shape_stays}
 use Rattle.desktop_laws.specs.LookedLaws.{within_stays}
-use Rattle.desktop_definitions.specs.Looks.{AreLooks}
 
 -- ---- bytes that were read from a place on
 

@@ -93,7 +93,6 @@ use Rattle.desktop_definitions.specs.Gesture.{is_some_stretch, drawn_in, copied_
 use Rattle.desktop_definitions.specs.Gesture.{sent_to_caret, tool_opened, stretch_drawn, pointed, IsRegionOf}
 use Rattle.desktop_definitions.specs.Gesture.{done_in_filler, done_in_menu, done_in_bar, done_at, done_with}
 use Rattle.text_core.specs.Attributes.{look_at}
-use Rattle.desktop_definitions.specs.declared.reply.Reply.{Reply}
 use Rattle.desktop_definitions.specs.declared.reply.Reply.TheVariants.{Done, No}
 use Rattle.desktop_definitions.specs.Call.{text_called, seen_at_marker, meant, name_of, number_of as number_called}
 use Rattle.desktop_definitions.specs.Call.{names_of}

@@ -15,7 +15,6 @@ use Rattle.event_bytes.specs.declared.event.Event.TheVariants.{Typed, Key as Pre
 use Rattle.piece_ring.specs.Text.{Text, inserted}
 use Rattle.desktop_definitions.specs.declared.viewer.Viewer.{Viewer}
 use Rattle.desktop_definitions.specs.declared.viewer.Caret.{Caret}
-use Rattle.desktop_definitions.specs.declared.reply.Reply.{Reply}
 use Rattle.desktop_definitions.specs.declared.reply.Reply.TheVariants.{Done, No}
 use Rattle.desktop_definitions.specs.Limits.{no_caret, full}
 use Rattle.desktop_definitions.specs.Sound.{IsSound}

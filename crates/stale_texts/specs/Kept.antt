@@ -26,7 +26,6 @@ use Rattle.desktop_definitions.specs.declared.region.Region.{Region}
 use Rattle.desktop_definitions.specs.declared.region.Region.TheVariants.{Filler, Menu, Bar, Body}
 use Rattle.desktop_definitions.specs.Limits.{no_caret, no_selection, outside, too_many_files, full}
 use Rattle.text_frames.specs.Cells.{position_at, row_of}
-use Rattle.desktop_definitions.specs.declared.reply.Reply.{Reply}
 use Rattle.desktop_definitions.specs.declared.reply.Reply.TheVariants.{Done, No}
 use Rattle.desktop_definitions.specs.Sound.{IsSound}
 use Rattle.desktop_definitions.specs.Tables.{Texts, numbered, has_room}
