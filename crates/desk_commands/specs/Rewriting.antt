@@ -22,10 +22,11 @@ pub record CanPut (n : ℕ) (text : Text ℕ) (made : List ℕ) : Type 0 where
   pub inside : AreWithin n text
   pub room : length made + length text < 2 ^ 32
 
--- the same of all texts of a table
-pub record CanPutAll {K : Type 0} (cmp : K → K → Ordering) (n : ℕ) (table : List (K × List Piece)) (made : List ℕ)
-    : Type 0 where
+-- the same of all texts of a table, whose keys rise and are copied as they are
+pub record CanPutAll {K : Type 0} (cmp : K → K → Ordering) (is_clone : K → K → Type 0) (n : ℕ)
+    (table : List (K × List Piece)) (made : List ℕ) : Type 0 where
   pub rising : IsStrictlySortedBy cmp (keys_of table)
+  pub copies : (key copy : K) → is_clone key copy → copy ≡ key
   pub inside : AllWithin n table
   pub room : length made + kept_lengths table < 2 ^ 32
 

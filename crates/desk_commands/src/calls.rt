@@ -4,12 +4,12 @@ ghost use Rattle.sector_disk.specs.Faults.{OneOf};
 ghost use Rattle.readers_scanners.specs.Symbol.{IsShaped};
 ghost use Rattle.command_table.specs.Parameters.{place_of, text_of, listed, first_names};
 ghost use Rattle.desktop_definitions.specs.Call.{text_called, seen_at_marker, meant, number_in, value_of, as_name};
-ghost use Rattle.desktop_definitions.specs.Call.{as_number, name_of, number_of, names_of};
+ghost use Rattle.desktop_definitions.specs.Call.{as_number, names_of};
 ghost use Rattle.desktop_definitions.specs.Commands.{done_with_name, done_with_number, done_with_viewer, commanded};
 ghost use Rattle.desktop_definitions.specs.Commands.{called};
 ghost use Rattle.desktop_definitions.specs.Outcome.{reply_codes as known_codes};
 ghost use Rattle.desktop_laws.specs.CallLaws.{kept_place, kept_menu};
-ghost use Rattle.desk_commands.specs.Calls.{IsCall, IsViewerOnTop};
+ghost use Rattle.desk_commands.specs.Calls.{IsCall, IsViewerOnTop, done_with_value};
 ghost use Rattle.desk_core.specs.Words.{flat, IsOnTop, needs, IsKeptWhole, IsOver, kept, Does, Tells, TellsAs};
 ghost use Rattle.desk_commands.specs.Words.{no_viewer, version_number, given, files_deleted};
 
@@ -20,6 +20,7 @@ use crate::log::{clear_log, log_directory};
 use crate::looks::{change_look, colour_set, font_set, offset_set, set_look};
 use crate::searches::{recall_deleted, search};
 use crate::stores::{delete_files, store};
+use ValueCommand::{ByName, ByNumber};
 use arrayvec::ArrayVec;
 use char_file::{CharSource, Fault};
 use command_table::{Command, MOST_NAMES, Version, called, name_in, names, params};
@@ -27,6 +28,8 @@ use desk_core::desk::Desk;
 use desk_core::stop::StepResult;
 use desk_core::viewers::viewer_or_none;
 use desk_core::views::text_there;
+use desktop_definitions::NameCommand::{ChangeFont, OpenDocument, OpenFile, SetFont};
+use desktop_definitions::NumberCommand::{ChangeColor, ChangeOffset, SetColor, SetOffset};
 use desktop_definitions::{Call, NameCommand, NumberCommand, Reply, ViewerCommand, codes};
 use event_bytes::Name;
 use readers_scanners::Symbol;
@@ -67,45 +70,25 @@ pub fn call<S: CharSource>(
         in_menu,
         after,
     };
-    do_command(desk, command, call, source)
+    obey(desk, command, call, source)
 }
 
-/// Does what a command does.
-#[tactic(auto, unfolding(desktop_definitions::specs::Commands::commanded))]
-fn do_command<S: CharSource>(
-    desk: &mut Desk,
-    command: Command,
-    call: Call,
-    source: &mut S,
-) -> StepResult
+/// Does what a command says.
+#[tactic(auto, unfolding(desktop_definitions::specs::Commands::commanded, desktop_definitions::specs::Call::name_of, desktop_definitions::specs::Call::number_of))]
+fn obey<S: CharSource>(desk: &mut Desk, command: Command, call: Call, source: &mut S) -> StepResult
     requires { IsCall (S.characters source.old) (kept desk.old) call }
     ensures { Does S.CharSource (λ d. commanded d command call) result
         source.old source.new (kept desk.old) (kept desk.new) }
 {
     match command {
-        Command::EditOpen => command_with_name(desk, NameCommand::OpenDocument, call, source),
-        Command::SystemOpen => command_with_name(desk, NameCommand::OpenFile, call, source),
-        Command::SystemSetFont => command_with_name(desk, NameCommand::SetFont, call, source),
-        Command::EditChangeFont => command_with_name(desk, NameCommand::ChangeFont, call, source),
-        Command::SystemSetColor => command_with_number(desk, NumberCommand::SetColor, call, source),
-        Command::SystemSetOffset => command_with_number(
-            desk,
-            NumberCommand::SetOffset,
-            call,
-            source,
-        ),
-        Command::EditChangeColor => command_with_number(
-            desk,
-            NumberCommand::ChangeColor,
-            call,
-            source,
-        ),
-        Command::EditChangeOffset => command_with_number(
-            desk,
-            NumberCommand::ChangeOffset,
-            call,
-            source,
-        ),
+        Command::EditOpen => command_with_value(desk, ByName(OpenDocument), call, source),
+        Command::SystemOpen => command_with_value(desk, ByName(OpenFile), call, source),
+        Command::SystemSetFont => command_with_value(desk, ByName(SetFont), call, source),
+        Command::EditChangeFont => command_with_value(desk, ByName(ChangeFont), call, source),
+        Command::SystemSetColor => command_with_value(desk, ByNumber(SetColor), call, source),
+        Command::SystemSetOffset => command_with_value(desk, ByNumber(SetOffset), call, source),
+        Command::EditChangeColor => command_with_value(desk, ByNumber(ChangeColor), call, source),
+        Command::EditChangeOffset => command_with_value(desk, ByNumber(ChangeOffset), call, source),
         Command::SystemClose => command_with_viewer(desk, ViewerCommand::Close, call, source),
         Command::SystemCopy => command_with_viewer(desk, ViewerCommand::Copy, call, source),
         Command::EditStore => command_with_viewer(desk, ViewerCommand::Store, call, source),
@@ -121,21 +104,34 @@ fn do_command<S: CharSource>(
     }
 }
 
-/// With the name after the word. Refused where there is none.
-fn command_with_name<S: CharSource>(
+/// A command that takes the value after its word, which has to be a name or a number.
+#[derive(Clone, Copy)]
+enum ValueCommand {
+    ByName(NameCommand),
+    ByNumber(NumberCommand),
+}
+
+/// With the value after the word. Refused where there is none, and where it is another one.
+fn command_with_value<S: CharSource>(
     desk: &mut Desk,
-    command: NameCommand,
+    command: ValueCommand,
     call: Call,
     source: &mut S,
 ) -> StepResult
     requires { IsCall (S.characters source.old) (kept desk.old) call }
-    ensures { Does S.CharSource (λ d. given (name_of d call) (done_with_name d command)) result
+    ensures { Does S.CharSource (λ d. done_with_value d command (value_of d call)) result
         source.old source.new (kept desk.old) (kept desk.new) }
 {
     let value = value_of(desk, call, source)?;
-    match as_name(value) {
-        Ok(name) => do_with_name(desk, command, &name, source),
-        Err(code) => Ok(Reply::No(code)),
+    match command {
+        ByName(command) => match as_name(value) {
+            Ok(name) => do_with_name(desk, command, &name, source),
+            Err(code) => Ok(Reply::No(code)),
+        },
+        ByNumber(command) => match as_number(value) {
+            Ok(number) => do_with_number(desk, command, number, source),
+            Err(code) => Ok(Reply::No(code)),
+        },
     }
 }
 
@@ -152,28 +148,10 @@ fn do_with_name<S: CharSource>(
         source.old source.new (kept desk.old) (kept desk.new) }
 {
     match command {
-        NameCommand::OpenDocument => open_document(desk, name, source),
-        NameCommand::OpenFile => open_file(desk, name, source),
-        NameCommand::SetFont => set_look(desk, font_set(name), source),
-        NameCommand::ChangeFont => change_look(desk, font_set(name), source),
-    }
-}
-
-/// With the number after the word. Refused where there is none.
-fn command_with_number<S: CharSource>(
-    desk: &mut Desk,
-    command: NumberCommand,
-    call: Call,
-    source: &mut S,
-) -> StepResult
-    requires { IsCall (S.characters source.old) (kept desk.old) call }
-    ensures { Does S.CharSource (λ d. given (number_of d call) (done_with_number d command)) result
-        source.old source.new (kept desk.old) (kept desk.new) }
-{
-    let value = value_of(desk, call, source)?;
-    match as_number(value) {
-        Ok(number) => do_with_number(desk, command, number, source),
-        Err(code) => Ok(Reply::No(code)),
+        OpenDocument => open_document(desk, name, source),
+        OpenFile => open_file(desk, name, source),
+        SetFont => set_look(desk, font_set(name), source),
+        ChangeFont => change_look(desk, font_set(name), source),
     }
 }
 
@@ -190,10 +168,10 @@ fn do_with_number<S: CharSource>(
         source.old source.new (kept desk.old) (kept desk.new) }
 {
     match command {
-        NumberCommand::SetColor => set_look(desk, colour_set(number), source),
-        NumberCommand::SetOffset => set_look(desk, offset_set(number), source),
-        NumberCommand::ChangeColor => change_look(desk, colour_set(number), source),
-        NumberCommand::ChangeOffset => change_look(desk, offset_set(number), source),
+        SetColor => set_look(desk, colour_set(number), source),
+        SetOffset => set_look(desk, offset_set(number), source),
+        ChangeColor => change_look(desk, colour_set(number), source),
+        ChangeOffset => change_look(desk, offset_set(number), source),
     }
 }
 

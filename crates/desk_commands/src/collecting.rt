@@ -4,7 +4,7 @@ ghost use Rattle.desktop_definitions.specs.Effects.{collected};
 ghost use Rattle.desktop_laws.specs.Rewriting.{IsRewritten};
 ghost use Rattle.desk_core.specs.Words.{FailsAs, OnlyReads, IsOver, kept, IsStop, Does};
 
-use crate::rewriting::{put_buffer, put_files, put_texts};
+use crate::rewriting::{pieces_in, put_pieces, put_table};
 use char_file::CharSource;
 use desk_core::desk::Desk;
 use desk_core::files::Files;
@@ -34,10 +34,10 @@ fn rewritten<S: CharSource>(desk: &Desk, source: &mut S) -> Result<WrittenAnew, 
     ensures faults { FailsAs Stop.Fault IsStop result (S.failures source.old) (S.failures source.new) }
 {
     let mut made = Vec::new(desk.alloc);
-    let texts = put_texts(desk.alloc, &desk.texts, &mut made, source)?;
-    let files = put_files(desk.alloc, &desk.files, &mut made, source)?;
-    let copied = put_buffer(desk.alloc, &desk.copied, &mut made, source)?;
-    let deleted = put_buffer(desk.alloc, &desk.deleted, &mut made, source)?;
+    let texts = put_table(desk.alloc, &desk.texts, &mut made, source)?;
+    let files = put_table(desk.alloc, &desk.files, &mut made, source)?;
+    let copied = put_pieces(desk.alloc, pieces_in(&desk.copied), &mut made, source)?;
+    let deleted = put_pieces(desk.alloc, pieces_in(&desk.deleted), &mut made, source)?;
     Ok(WrittenAnew {
         texts,
         files,

@@ -2,12 +2,10 @@
 //! name them there. The old texts stay.
 ghost use Rattle.std.specs.Prelude.{◌≡◌, ◌+◌, ◌<◌, ◌≤◌, ◌^◌, length};
 ghost use Rattle.piece_ring.specs.Flat.{characters_of};
-ghost use Rattle.desk_core.specs.Words.{flat, bytes, nat_cmp};
-ghost use Rattle.desk_commands.specs.Words.{name_cmp};
+ghost use Rattle.desk_core.specs.Words.{flat, bytes};
 ghost use Rattle.desk_commands.specs.Rewriting.{CanPut, CanPutAll, Adds, Rewrites, RewritesAll};
 
 use char_file::CharSource;
-use desk_core::files::Files;
 use desk_core::stop::Stop;
 use piece_ring::{Cursor, Piece};
 use std::alloc::Global;
@@ -23,7 +21,7 @@ fn pieces_of(text: &Text) -> Cursor<'_>
 }
 
 /// All pieces of a buffer.
-fn pieces_in(buffer: &Buffer) -> Cursor<'_>
+pub fn pieces_in(buffer: &Buffer) -> Cursor<'_>
     ensures { result.left ≡ buffer.now }
 {
     buffer.cursor(0)
@@ -45,7 +43,7 @@ fn put_piece<S: CharSource>(piece: Piece, made: &mut Vec<u8>, source: &mut S) ->
 
 /// The characters of the pieces that are left to a cursor go behind those that are there, and are returned as they
 /// stand there. NoMemory where an allocation is refused, Fault where a character could not be read.
-fn put_pieces<S: CharSource>(
+pub fn put_pieces<S: CharSource>(
     alloc: Global,
     mut left: Cursor<'_>,
     made: &mut Vec<u8>,
@@ -68,21 +66,8 @@ fn put_pieces<S: CharSource>(
     Ok(buffer)
 }
 
-/// A buffer is written anew behind the characters that are there. NoMemory where an allocation is refused, Fault where
-/// a character could not be read.
-pub fn put_buffer<S: CharSource>(
-    alloc: Global,
-    buffer: &Buffer,
-    made: &mut Vec<u8>,
-    source: &mut S,
-) -> Result<Buffer, Stop>
-    requires { CanPut (length (S.characters source.old)) (flat buffer.now) made.old.items }
-    ensures { Rewrites S.CharSource (flat buffer.now) result source.old source.new made.old.items made.new.items }
-{
-    put_pieces(alloc, pieces_in(buffer), made, source)
-}
-
-/// The same of a text.
+/// The characters of a text go behind those that are there, and a text of them as they stand there is returned.
+/// NoMemory where an allocation is refused, Fault where a character could not be read.
 fn put_text<S: CharSource>(
     alloc: Global,
     text: &Text,
@@ -98,40 +83,21 @@ fn put_text<S: CharSource>(
     Ok(new)
 }
 
-/// The same of texts by number, one after another.
-pub fn put_texts<S: CharSource>(
+/// The same of the texts of a table, one after another, whose keys are copied as they are.
+pub fn put_table<K: Ord + Clone, S: CharSource>(
     alloc: Global,
-    texts: &BTreeMap<u16, Text>,
+    table: &BTreeMap<K, Text>,
     made: &mut Vec<u8>,
     source: &mut S,
-) -> Result<BTreeMap<u16, Text>, Stop>
-    requires { CanPutAll nat_cmp (length (S.characters source.old)) texts.now.entries made.old.items }
-    ensures { RewritesAll S.CharSource texts.now.entries (λ new. new.entries) result
+) -> Result<BTreeMap<K, Text>, Stop>
+    requires { CanPutAll K.cmp K.is_clone (length (S.characters source.old)) table.now.entries made.old.items }
+    ensures { RewritesAll S.CharSource table.now.entries (λ new. new.entries) result
         source.old source.new made.old.items made.new.items }
 {
     let mut new = BTreeMap::new(alloc);
-    for (number, text) in texts {
+    for (key, text) in table {
         let moved = put_text(alloc, text, made, source)?;
-        new.insert(*number, moved)?;
-    }
-    Ok(new)
-}
-
-/// The same of files by name, one after another.
-pub fn put_files<S: CharSource>(
-    alloc: Global,
-    files: &Files,
-    made: &mut Vec<u8>,
-    source: &mut S,
-) -> Result<Files, Stop>
-    requires { CanPutAll name_cmp (length (S.characters source.old)) files.now.entries made.old.items }
-    ensures { RewritesAll S.CharSource files.now.entries (λ new. new.entries) result
-        source.old source.new made.old.items made.new.items }
-{
-    let mut new = BTreeMap::new(alloc);
-    for (name, text) in files {
-        let moved = put_text(alloc, text, made, source)?;
-        new.insert(name.clone()?, moved)?;
+        new.insert(key.clone()?, moved)?;
     }
     Ok(new)
 }

@@ -55,10 +55,10 @@ returns g c =
     does_after s g.met.S.CharSource.ground_through (called_by c.args.id c.args.in_menu)
     (λ (x : Desktop). command_at (version_number c.args.version) (bytes_of (text_called x c.args.id c.args.in_menu))
     c.args.pos)
-    (Some (c.in-Some.command, c.in-Some.after)) _ _ c.do_command.new.source d (kept c.do_command.new.desk)
-    c.do_command.result c.in_ok-found.ensures.reads c.in_ok-found.ensures.cause
+    (Some (c.in-Some.command, c.in-Some.after)) _ _ c.obey.new.source d (kept c.obey.new.desk)
+    c.obey.result c.in_ok-found.ensures.reads c.in_ok-found.ensures.cause
     (λ h. sym c.in-Some.is ∙ c.in_ok-found.ensures.call h
     ∙ ap (λ (t : List Piece). called_at (version_number c.args.version) (bytes old (flat t)) c.args.pos)
     c.text_called.ensures
     ∙ called_read (version_number c.args.version) old d c.args.id c.args.in_menu c.args.pos)
-    c.do_command.ensures
+    c.obey.ensures
