@@ -2,7 +2,8 @@
 ghost use Rattle.output_bytes.specs.Sent.{Sends};
 ghost use Rattle.script_streams.specs.Counting.{CountsFault};
 
-use script_streams::{AnswerWriter, OutputFault};
+use output_bytes::OutputFault;
+use script_streams::AnswerWriter;
 
 /// Writes all of the bytes and flushes the writer. It fails where a write or the flush does; then a prefix of the
 /// bytes may have been taken.
