@@ -16,7 +16,7 @@ ghost use Rattle.desk_journal.specs.View.{IsDurable};
 use crate::answering::work_out;
 use desk_journal::{Error, Store};
 use script_answers::{OutputFault, send, short_line};
-use script_lines::{Ending, Line, Request, Script};
+use script_lines::{Line, LineEnd, Request, Script};
 use script_streams::{AnswerWriter, ScriptReader};
 use sector_disk::Disk;
 use std::alloc::{AllocError, Global};
@@ -152,13 +152,13 @@ fn play_lines<R: ScriptReader, W: AnswerWriter, D: Disk>(
     let mut request = Request::Malformed;
     loop {
         match script.take_line(&mut line, reader) {
-            Ending::Feed => {
+            LineEnd::Feed => {
                 if let Err(end) = play_line(alloc, &line, &mut request, writer, store) {
                     return end;
                 }
             }
-            Ending::End => return play_rest(alloc, &line, &mut request, writer, store),
-            Ending::Fault => return PlayEnd::Input,
+            LineEnd::End => return play_rest(alloc, &line, &mut request, writer, store),
+            LineEnd::Fault => return PlayEnd::Input,
         }
     }
 }
