@@ -10,8 +10,8 @@ unfolding drawn_cells
 loop-x-init g c = taken_none _ _
 
 pub returns-in_err-draw_column : goal.returns-in_err-draw_column
-returns-in_err-draw_column g c = front_sent c.from_residual.result _ _ _ _ c.from_residual.ensures.1 (next_front _ _ _ _ _ _ _
-    (next_number (drawn_column c.args.y c.args.cells.now c.args.row.now) c.loop-x.x COLUMNS
+returns-in_err-draw_column g c = front_sent c.from_residual.result _ _ _ _ c.from_residual.ensures.1
+    (next_front _ _ _ _ _ _ _ (next_number (drawn_column c.args.y c.args.cells.now c.args.row.now) c.loop-x.x COLUMNS
     (omega (arith, c.loop-x-test.true))) c.loop-x.invariant c.in_err-draw_column.ensures.front)
 
 pub loop-x-preserved : goal.loop-x-preserved

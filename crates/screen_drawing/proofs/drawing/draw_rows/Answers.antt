@@ -9,8 +9,8 @@ pub loop-y-init : goal.loop-y-init
 loop-y-init g c = taken_none _ _
 
 pub returns-in_err-draw_row : goal.returns-in_err-draw_row
-returns-in_err-draw_row g c = front_sent c.from_residual.result _ _ _ _ c.from_residual.ensures.1 (next_front _ _ _ _ _ _ _
-    (next_number (drawn_row c.args.screen.now) c.loop-y.y ROWS
+returns-in_err-draw_row g c = front_sent c.from_residual.result _ _ _ _ c.from_residual.ensures.1
+    (next_front _ _ _ _ _ _ _ (next_number (drawn_row c.args.screen.now) c.loop-y.y ROWS
     (omega (arith, c.loop-y-test.true))) c.loop-y.invariant c.in_err-draw_row.ensures.front)
 
 pub loop-y-preserved : goal.loop-y-preserved
