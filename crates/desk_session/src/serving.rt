@@ -1,7 +1,6 @@
 //! A sitting over a store, turn by turn.
 ghost use Rattle.std.specs.Prelude.{◌≡◌, false, OnOk, OnErr, IfErr};
-ghost use Rattle.std.specs.Io.KnownBytes.{Appends};
-ghost use Rattle.output_bytes.specs.Sent.{AppendsFront};
+ghost use Rattle.output_bytes.specs.Sent.{Sends};
 ghost use Rattle.desk_journal.specs.Device.{IsSameDevice};
 ghost use Rattle.desk_journal.specs.View.{IsDurable};
 ghost use Rattle.desk_sitting.specs.Sayings.{line_of};
@@ -191,9 +190,7 @@ fn frame_of<'a>(sitting: &Sitting, screen: &'a Screen, line: &'a [u8]) -> Frame<
 ///
 /// Error: `Output`, and a front may have been sent.
 fn follow<W: Write>(writer: &mut W, rings: bool, asks: bool) -> Result<(), Ending>
-    ensures sent { OnOk result (Appends (W.contents writer.old) (W.contents writer.new) (after_frame rings asks)) }
-    ensures front { OnErr result
-        (AppendsFront (W.contents writer.old) (W.contents writer.new) (after_frame rings asks)) }
+    ensures sent { Sends result (W.contents writer.old) (W.contents writer.new) (after_frame rings asks) }
     ensures end { IfErr result (λ end. end ≡ TakesNoMore) }
 {
     ring_if(writer, rings)?;
@@ -202,24 +199,21 @@ fn follow<W: Write>(writer: &mut W, rings: bool, asks: bool) -> Result<(), Endin
 
 /// Rings the bell where that is to be.
 fn ring_if<W: Write>(writer: &mut W, rings: bool) -> Result<(), OutputFault>
-    ensures sent { OnOk result (Appends (W.contents writer.old) (W.contents writer.new) (bell rings)) }
-    ensures front { OnErr result (AppendsFront (W.contents writer.old) (W.contents writer.new) (bell rings)) }
+    ensures { Sends result (W.contents writer.old) (W.contents writer.new) (bell rings) }
 {
     if rings { ring(writer) } else { Ok(()) }
 }
 
 /// Asks the terminal for its size where that is to be.
 fn ask_if<W: Write>(writer: &mut W, asks: bool) -> Result<(), OutputFault>
-    ensures sent { OnOk result (Appends (W.contents writer.old) (W.contents writer.new) (request asks)) }
-    ensures front { OnErr result (AppendsFront (W.contents writer.old) (W.contents writer.new) (request asks)) }
+    ensures { Sends result (W.contents writer.old) (W.contents writer.new) (request asks) }
 {
     if asks { ask(writer) } else { Ok(()) }
 }
 
 /// Asks the terminal for its size.
 fn ask<W: Write>(writer: &mut W) -> Result<(), OutputFault>
-    ensures sent { OnOk result (Appends (W.contents writer.old) (W.contents writer.new) size_request) }
-    ensures front { OnErr result (AppendsFront (W.contents writer.old) (W.contents writer.new) size_request) }
+    ensures { Sends result (W.contents writer.old) (W.contents writer.new) size_request }
 {
     send(writer, &SIZE_REQUEST)?;
     flush(writer)

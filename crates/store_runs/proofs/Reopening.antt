@@ -25,7 +25,8 @@ use Rattle.desk_journal.specs.Session.{session_of}
 use Rattle.desk_journal.proofs.Due.{due_or_room, has_it, has_none}
 use Rattle.desk_journal.proofs.Passing.{shows_means}
 use Rattle.desk_journal.proofs.Prefixes.{steps_both}
-use Rattle.store_runs.specs.Run.{StoreAnswer, Serves, StopsAReopening, MeansSome, events_in, counted, all_counted}
+use Rattle.store_runs.specs.Run.{Counts, StoreAnswer, Serves, StopsAReopening, MeansSome, events_in}
+use Rattle.store_runs.specs.Run.{all_counted, counted, counts_of}
 use Rattle.desk_journal.specs.View.{StoreView, IsDurable}
 
 -- the same device, call after call
@@ -44,23 +45,27 @@ pub record GoesOn {D : Type 0} (d : Ghosts D) (call : StoreCall) (old new : Stor
   pub usable : new.must_reopen ≡ false
   pub durable : IsDurable d new
   pub desktop : d.honest old.disk → new.desktop ≡ steps old.desktop (events_in (call ∷ []))
-  pub counts : (new.layout, new.epoch, new.events) ≡ counted call (old.layout, old.epoch, old.events)
+  pub counts : counts_of new ≡ counted call (counts_of old)
 
 -- an event more, where the journal has room, or as the first one after a checkpoint
 counts_posted : {D : Type 0} (d : Ghosts D) (event : Event) (reply : Reply) (old new : StoreView D)
-    → IsAcknowledged d event reply old new → (new.layout, new.epoch, new.events)
-    ≡ counted (Posting event) (old.layout, old.epoch, old.events)
+    → IsAcknowledged d event reply old new → counts_of new ≡ counted (Posting event) (counts_of old)
 counts_posted d event reply old new told = elim (due_or_room (session_of old)) [
   | inr room ↦
       let there = told.more room in
-      (λ i. ((told.layout ∙ sym room.1) i, there.0 i, there.1 i)) ∙ sym (ap next (has_it (session_of old) room))
+      (λ i. record { layout = (told.layout ∙ sym room.1) i; epoch = there.0 i; events = there.1 i })
+      ∙ sym (ap next (has_it (session_of old) room))
   | inl due ↦
       let there = told.anew due in
-      (λ i. (told.layout i, there.0 i, there.1 i)) ∙ sym (ap next (has_none (session_of old) due))
+      (λ i. record { layout = told.layout i; epoch = there.0 i; events = there.1 i })
+      ∙ sym (ap next (has_none (session_of old) due))
 ]
   where
-    next : Bool → ℕ × ℕ × ℕ
-    next b = if b then (old.layout, old.epoch, old.events + 1) else (LAYOUT, old.epoch + 1, 1)
+    next : Bool → Counts
+    next b =
+        if b
+        then record { layout = old.layout; epoch = old.epoch; events = old.events + 1 }
+        else record { layout = LAYOUT; epoch = old.epoch + 1; events = 1 }
 
 pub went_on : {D : Type 0} (d : Ghosts D) (call : StoreCall) (reply : Reply) (old new : StoreView D)
     → Serves d call (Ok reply) old new → GoesOn d call old new
@@ -78,7 +83,7 @@ went_on d Checkpoint reply old new p = record {
   usable = p.0.ok.usable;
   durable = p.0.ok.durable;
   desktop = p.0.ok.desktop;
-  counts = λ i. (p.0.ok.layout i, p.0.ok.epoch i, p.0.ok.events i);
+  counts = λ i. record { layout = p.0.ok.layout i; epoch = p.0.ok.epoch i; events = p.0.ok.events i };
 }
 
 -- ---- calls one after another
@@ -88,7 +93,7 @@ events_append [] b = refl
 events_append (Posting event ∷ a) b = ap (λ es. event ∷ es) (events_append a b)
 events_append (Checkpoint ∷ a) b = events_append a b
 
-counted_append : (a : List StoreCall) (call : StoreCall) (n : ℕ × ℕ × ℕ)
+counted_append : (a : List StoreCall) (call : StoreCall) (n : Counts)
     → all_counted (a ++ call ∷ []) n ≡ counted call (all_counted a n)
 counted_append [] call n = refl
 counted_append (other ∷ a) call n = counted_append a call (counted other n)
@@ -99,7 +104,7 @@ module _ (calls : List StoreCall) (k : ℕ) (call : StoreCall) (room : k < lengt
   calls_next : take (k + 1) calls ≡ take k calls ++ call ∷ []
   calls_next = take_more calls k call room ∙ ap (λ c. take k calls ++ c ∷ []) (sym here)
 
-  pub counts_next : (n m m' : ℕ × ℕ × ℕ) → m ≡ all_counted (take k calls) n → m' ≡ counted call m
+  pub counts_next : (n m m' : Counts) → m ≡ all_counted (take k calls) n → m' ≡ counted call m
       → m' ≡ all_counted (take (k + 1) calls) n
   counts_next n m m' was is = is ∙ ap (counted call) was ∙ sym (counted_append (take k calls) call n)
       ∙ sym (ap (λ cs. all_counted cs n) calls_next)

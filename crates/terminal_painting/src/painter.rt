@@ -1,8 +1,7 @@
 //! What is sent to a terminal so that it shows a frame.
 ghost use Rattle.std.specs.Prelude.{◌≡◌, ◌<◌, ◌≤◌, ◌==◌, [], length, replicate, slice_index_or};
 ghost use Rattle.std.specs.Prelude.{OnOk, OnErr, IfOk, IfSome};
-ghost use Rattle.std.specs.Io.KnownBytes.{Appends};
-ghost use Rattle.output_bytes.specs.Sent.{AppendsFront};
+ghost use Rattle.output_bytes.specs.Sent.{AppendsFront, Sends};
 ghost use Rattle.viewer_tracks.specs.declared.display.TheConstants.{COLUMNS as columns, ROWS as rows};
 ghost use Rattle.terminal_painting.specs.Frame.{frame_row, frame_rows, height_of, IsInSight};
 ghost use Rattle.terminal_painting.specs.Painting.{IsShown, Leads, Paints, PaintsFront};
@@ -83,9 +82,7 @@ impl Painter {
 
 /// Rings the terminal's bell.
 pub fn ring<W: Write>(writer: &mut W) -> Result<(), OutputFault>
-    ensures sent { OnOk result (Appends (W.contents writer.old) (W.contents writer.new) (spelled Operation.Ring)) }
-    ensures front { OnErr result
-        (AppendsFront (W.contents writer.old) (W.contents writer.new) (spelled Operation.Ring)) }
+    ensures { Sends result (W.contents writer.old) (W.contents writer.new) (spelled Operation.Ring) }
 {
     send_last(writer, &[Operation::Ring])
 }
@@ -158,9 +155,7 @@ fn paint_rows<W: Write>(
 /// Ends a painting: the cursor goes to the caret, or is hidden.
 fn finish<W: Write>(writer: &mut W, caret: Option<(u8, u8)>) -> Result<(), OutputFault>
     requires { IfSome caret (λ place. (place.0 < columns) × (place.1 < rows)) }
-    ensures sent { OnOk result (Appends (W.contents writer.old) (W.contents writer.new) (spelled_all (ending caret))) }
-    ensures front { OnErr result
-        (AppendsFront (W.contents writer.old) (W.contents writer.new) (spelled_all (ending caret))) }
+    ensures { Sends result (W.contents writer.old) (W.contents writer.new) (spelled_all (ending caret)) }
 {
     let Some((x, y)) = caret else {
         return send_last(writer, &[Operation::Hide, Operation::Release]);
@@ -175,9 +170,7 @@ fn finish<W: Write>(writer: &mut W, caret: Option<(u8, u8)>) -> Result<(), Outpu
 /// Writes the bytes of the operations and flushes the writer.
 fn send_last<W: Write>(writer: &mut W, operations: &[Operation]) -> Result<(), OutputFault>
     requires { length operations.now ≤ MOST }
-    ensures sent { OnOk result (Appends (W.contents writer.old) (W.contents writer.new) (spelled_all operations.now)) }
-    ensures front { OnErr result
-        (AppendsFront (W.contents writer.old) (W.contents writer.new) (spelled_all operations.now)) }
+    ensures { Sends result (W.contents writer.old) (W.contents writer.new) (spelled_all operations.now) }
 {
     send(writer, operations)?;
     flush(writer)
