@@ -32,7 +32,7 @@ use Rattle.desk_session.specs.Serving.{none as no_turn, one_more as one_more_tur
 use Rattle.desk_session.specs.Serving.{left, closed, unheard, unseen, faulty, starved, faulty_press, starved_press}
 use Rattle.desk_session.specs.Serving.{stopped, too_long}
 use Rattle.desk_session.specs.Surviving.{Survives, GoesBy, SurvivesEnd}
-use Rattle.desk_session.specs.Surviving.{FramesSurvive, TurnsSurvive, EndsSurvive}
+use Rattle.desk_session.specs.Surviving.{ScenesSurvive, TurnsSurvive, EndsSurvive}
 use Rattle.desk_session.proofs.Turning.{same_device}
 
 -- ---- the events of presses
@@ -164,8 +164,8 @@ module _ {D : Type 0} (d : Ghosts D) where
     device = record { as_large = refl; still = λ honest. honest; already = λ honest. honest };
   }
 
-  pub frames_survive : FramesSurvive d
-  frames_survive hearing old new mid frame = look_survives old.store mid frame.looked
+  pub scenes_survive : ScenesSurvive d
+  scenes_survive hearing old new mid scene = look_survives old.store mid scene.looked
 
   -- a store that shows the desktop after some events, and meant it or the one before
   goes_by_either : (events : List Event) (old new : StoreView D)
@@ -270,7 +270,7 @@ module _ {D : Type 0} (d : Ghosts D) where
     turn_goes : (events : List Event) (old new : TurnState D) → Turns d events old new → d.honest old.store.disk
         → IsDurable d old.store → GoesBy d events old.store new.store
     turn_goes events old new turn honest durable =
-        let looks : IsLookedAt d old.store turn.mid = turn.frame.looked in
+        let looks : IsLookedAt d old.store turn.mid = turn.scene.looked in
         let done : Leads _ (seen old) turn.sitting turn.mid new.store =
         leads turn.does (looks.disk.device.still honest) looks.durable in
         subst (λ es. GoesBy d es old.store new.store) (sym turn.are)
@@ -299,19 +299,19 @@ module _ {D : Type 0} (d : Ghosts D) where
       goes_by = λ _ _. goes;
     }
 
-    -- a press that fails behind the frame
-    behind_frame : (events begun : List Event) (old mid new : StoreView D) → IsLookedAt d old mid → d.honest old.disk
+    -- a press that fails behind the scene
+    behind_scene : (events begun : List Event) (old mid new : StoreView D) → IsLookedAt d old mid → d.honest old.disk
         → IsDurable d old → Survives d events begun mid new → Survives d events begun old new
-    behind_frame events begun old mid new looks honest durable rest =
+    behind_scene events begun old mid new looks honest durable rest =
         survives_on [] events begun old mid new (goes_by_look old mid looks honest durable) rest
 
     faulty_survives : (events begun : List Event) (old new : TurnState D) → Broke d DiskFault events begun old new
         → d.honest old.store.disk → IsDurable d old.store → SurvivesEnd d Fault events begun old.store new.store
     faulty_survives events begun old new broke honest durable =
-        let looks : IsLookedAt d old.store broke.mid = broke.frame.looked in
+        let looks : IsLookedAt d old.store broke.mid = broke.scene.looked in
         let at : Desk = desk_of broke.breaks.sitting broke.breaks.mid in
         record {
-          survives = behind_frame events begun old.store broke.mid new.store looks honest durable
+          survives = behind_scene events begun old.store broke.mid new.store looks honest durable
               (subst (λ es. Survives d events es broke.mid new.store) (sym broke.fails)
               (subst (λ es. Survives d es (accepted_of broke.breaks.press at) broke.mid new.store) (sym broke.are)
               (survives_break DiskFault _ (seen old) broke.mid new.store broke.breaks
@@ -324,9 +324,9 @@ module _ {D : Type 0} (d : Ghosts D) where
     starved_survives : (events begun : List Event) (old new : TurnState D) → Broke d NoMemory events begun old new
         → d.honest old.store.disk → IsDurable d old.store → SurvivesEnd d Memory events [] old.store new.store
     starved_survives events begun old new broke honest durable =
-        let looks : IsLookedAt d old.store broke.mid = broke.frame.looked in
+        let looks : IsLookedAt d old.store broke.mid = broke.scene.looked in
         record {
-          survives = behind_frame events [] old.store broke.mid new.store looks honest durable
+          survives = behind_scene events [] old.store broke.mid new.store looks honest durable
               (subst (λ es. Survives d es [] broke.mid new.store) (sym broke.are)
               (survives_starving _ (seen old) broke.mid new.store broke.breaks
               (looks.disk.device.still honest) looks.durable));

@@ -25,13 +25,13 @@ use Rattle.desk_sitting.specs.Sittings.{accepted, accepted_of, looked}
 use Rattle.desk_session.specs.declared.ending.Ending.{Ending}
 use Rattle.desk_session.specs.declared.ending.Ending.TheVariants.{Left, Closed, Input, Output, Fault, Memory}
 use Rattle.desk_session.specs.Endings.{end_of, end_of_keyboard}
-use Rattle.desk_session.specs.Frames.{IsPainted, IsShown, IsUnshown, after_frame, behind_it, known_by}
+use Rattle.desk_session.specs.Scenes.{IsPainted, IsShown, IsUnshown, after_scene, behind_it, known_by}
 use Rattle.desk_session.specs.Serving.{TurnState, IsBrought, IsLookedAt, IsHeard, IsDeaf, Broke}
 use Rattle.desk_session.specs.Serving.{HasTurned, HasStopped, TakesTurn, CountsEnding, IsUsableAt, screen_of, seen}
 use Rattle.desk_session.specs.Serving.{left, closed}
 use Rattle.desk_session.specs.Serving.{unheard, unseen, faulty, starved, faulty_press, starved_press}
 
--- ---- a frame
+-- ---- a scene
 
 module _ {D : Type 0} (d : Ghosts D) where
   -- what was only read leaves what it left
@@ -57,12 +57,12 @@ module _ {D : Type 0} (d : Ghosts D) where
         durable = still_durable old new looks.disk same durable;
       }
 
--- the output fails behind the frame
+-- the output fails behind the scene
 module _ (s s' : Sitting) (screen screen' : List (List Cell)) (known known' : List (List Face))
     (held between held' : Option (List ℕ)) {H : Type 0} where
   pub cut_behind : {T : Type 0} (result : Result T Ending) → s' ≡ looked screen' s → (H → screen' ≡ screen)
       → IsPainted s' screen' (known_by s.forgets known) known' held between
-      → OnErr result (AppendsFront between held' (after_frame s.rings s.asks))
+      → OnErr result (AppendsFront between held' (after_scene s.rings s.asks))
       → IfErr result (λ end. end ≡ Output) → IfErr result (λ end. H → IsUnshown end s screen known held held')
   cut_behind (Ok value) looks shows painted front is = tt
   cut_behind (Err end) looks shows painted front is = λ h.
@@ -121,7 +121,7 @@ module _ {D : Type 0} (d : Ghosts D) where
     device = device;
   })
 
-  -- the frame isn't shown
+  -- the scene isn't shown
   unshown_stops : (end : Ending) (old new : TurnState D) → IsLookedAt d old.store new.store → new.heard ≡ old.heard
       → IsUnshown end old.sitting (screen_of old.store) old.known old.held new.held → HasStopped d end old new
   unshown_stops Left old new looks heard why = absurd why
@@ -163,15 +163,15 @@ module _ {D : Type 0} (d : Ghosts D) where
         heard = heard ∙ sym (append-nil old.heard);
       })) (λ _ _. usable) (calm_keyboard why (d.failures old.store.disk) (d.failures new.store.disk) calm)
 
-  -- a frame is shown, after which the store and the sitting are these, and this is heard
+  -- a scene is shown, after which the store and the sitting are these, and this is heard
   module _ {old new : TurnState D} (mid : StoreView D) (s : Sitting) (hearing : List Heard)
       (looks : d.honest old.store.disk → IsDurable d old.store → IsLookedAt d old.store mid)
       (sees : d.honest old.store.disk → s ≡ seen old)
       (shown : d.honest old.store.disk
       → IsShown old.sitting (screen_of old.store) old.known new.known old.held new.held)
       (heard : new.heard ≡ old.heard ++ hearing) where
-    frame : d.honest old.store.disk → IsDurable d old.store → IsHeard d hearing old mid new
-    frame honest durable = record { looked = looks honest durable; shown = shown honest; heard = heard }
+    scene : d.honest old.store.disk → IsDurable d old.store → IsHeard d hearing old mid new
+    scene honest durable = record { looked = looks honest durable; shown = shown honest; heard = heard }
 
     pub turned : (s' : Sitting) → new.parser ≡ parser_after old.parser hearing
         → (d.honest mid.disk → IsDurable d mid → Does d (pressed old.parser hearing) s s' mid new.store)
@@ -181,7 +181,7 @@ module _ {D : Type 0} (d : Ghosts D) where
       record {
         hearing = hearing;
         mid = mid;
-        frame = frame honest durable;
+        scene = scene honest durable;
         parser = parser;
         sitting = s';
         does = subst (λ t. Does d (pressed old.parser hearing) t s' mid new.store) (sees honest)
@@ -204,7 +204,7 @@ module _ {D : Type 0} (d : Ghosts D) where
         let broke : Broke d error events begun old new = record {
           hearing = hearing;
           mid = mid;
-          frame = frame honest durable;
+          scene = scene honest durable;
           breaks = breaks;
           are = refl;
           fails = refl;

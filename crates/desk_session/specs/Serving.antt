@@ -1,4 +1,4 @@
--- A sitting over a store, turn by turn: the frame is shown, something is heard, and what is pressed is done. `d` is
+-- A sitting over a store, turn by turn: the scene is shown, something is heard, and what is pressed is done. `d` is
 -- what is known of a disk.
 use Rattle.std.specs.Prelude.{◌≡◌, ◌≢◌, ◌<◌, ◌+◌, ℕ, Bool, true, false, List, [], ◌++◌, Option}
 use Rattle.std.specs.Prelude.{Result, MatchResult, OnOk, IfErr}
@@ -21,7 +21,7 @@ use Rattle.desk_sitting.specs.Sittings.{accepted, accepted_of, brought, looked, 
 use Rattle.desk_session.specs.declared.ending.Ending.{Ending}
 use Rattle.desk_session.specs.declared.ending.Ending.TheVariants.{Left, Closed, Input, Output, Fault, Memory}
 use Rattle.desk_session.specs.declared.serving.TheConstants.{MOST_TURNS}
-use Rattle.desk_session.specs.Frames.{IsShown, IsCutShort}
+use Rattle.desk_session.specs.Scenes.{IsShown, IsCutShort}
 
 -- where a sitting stands between two turns: the parser, the sitting, the store, all that was heard so far, what is
 -- known of the terminal, and what the writer holds
@@ -37,7 +37,7 @@ pub record TurnState (D : Type 0) : Type 0 where
 abbrev pub screen_of : {D : Type 0} → StoreView D → List (List Cell)
 screen_of store = shown_screen store.desktop
 
--- the sitting after the frame was shown
+-- the sitting after the scene was shown
 abbrev pub seen : {D : Type 0} → TurnState D → Sitting
 seen p = looked (screen_of p.store) p.sitting
 
@@ -98,7 +98,7 @@ module _ {D : Type 0} (d : Ghosts D) where
   pub record Turns (events : List Event) (old new : TurnState D) : Type 0 where
     pub hearing : List Heard
     pub mid : StoreView D
-    pub frame : IsHeard hearing old mid new
+    pub scene : IsHeard hearing old mid new
     pub parser : new.parser ≡ parser_after old.parser hearing
     pub sitting : Sitting
     pub does : Does d (pressed old.parser hearing) (seen old) sitting mid new.store
@@ -113,11 +113,11 @@ module _ {D : Type 0} (d : Ghosts D) where
 
   -- ---- how it ends
 
-  -- nothing is heard after the frame
+  -- nothing is heard after the scene
   abbrev pub IsDeaf : TurnState D → TurnState D → Type 0
   IsDeaf old new = IsHeard [] old new.store new
 
-  -- the output takes a front of what has the terminal show the frame
+  -- the output takes a front of what has the terminal show the scene
   pub record IsUnseen (old new : TurnState D) : Type 0 where
     pub looked : IsLookedAt old.store new.store
     pub cut : IsCutShort old.sitting (screen_of old.store) old.known old.held new.held
@@ -134,7 +134,7 @@ module _ {D : Type 0} (d : Ghosts D) where
   pub record Broke (error : Error) (events begun : List Event) (old new : TurnState D) : Type 0 where
     pub hearing : List Heard
     pub mid : StoreView D
-    pub frame : IsHeard hearing old mid new
+    pub scene : IsHeard hearing old mid new
     pub breaks : Breaks d error (pressed old.parser hearing) (seen old) mid new.store
     pub are : events ≡ accepted breaks.done (desk_of (seen old) mid)
     pub fails : begun ≡ accepted_of breaks.press (desk_of breaks.sitting breaks.mid)

@@ -45,9 +45,9 @@ module _ {D : Type 0} (d : Ghosts D) where
   TurnsSurvive = (count : ℕ) (events : List Event) (old new : TurnState D) → IsRun d old count events new
       → d.honest old.store.disk → IsDurable d old.store → GoesBy events old.store new.store
 
-  -- A frame: until the first press after it is done a crash leaves the desktop that is shown.
-  abbrev pub FramesSurvive : Type 0
-  FramesSurvive = (hearing : List Heard) (old new : TurnState D) (mid : StoreView D) → IsHeard d hearing old mid new
+  -- A scene: until the first press after it is done a crash leaves the desktop that is shown.
+  abbrev pub ScenesSurvive : Type 0
+  ScenesSurvive = (hearing : List Heard) (old new : TurnState D) (mid : StoreView D) → IsHeard d hearing old mid new
       → d.honest old.store.disk → IsDurable d old.store
       → LeavesOnly (d.trail old.store.disk) (d.trail mid.disk) (Means (d.size old.store.disk) old.store.desktop)
 
