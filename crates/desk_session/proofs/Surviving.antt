@@ -25,8 +25,8 @@ use Rattle.desk_sitting.specs.declared.sitting.Sitting.{Sitting}
 use Rattle.desk_sitting.specs.Doing.{Breaks, Does, IsDone, desk_of, none as no_press, one_more as one_press}
 use Rattle.desk_sitting.specs.Sittings.{Desk, PressesAreSteps, accepted, accepted_of, after_press, after_presses}
 use Rattle.desk_sitting.specs.Sittings.{click_at, posts}
-use Rattle.desk_session.specs.declared.ending.Ending.{Ending}
-use Rattle.desk_session.specs.declared.ending.Ending.TheVariants.{Left, Closed, Input, Output, Fault, Memory}
+use Rattle.desk_session.specs.declared.ending.SittingEnd.{SittingEnd}
+use Rattle.desk_session.specs.declared.ending.SittingEnd.TheVariants.{Left, Closed, Input, Output, Fault, Memory}
 use Rattle.desk_session.specs.Serving.{TurnState, IsLookedAt, Turns, IsRun, Broke, Stops, Ends, seen}
 use Rattle.desk_session.specs.Serving.{none as no_turn, one_more as one_more_turn}
 use Rattle.desk_session.specs.Serving.{left, closed, unheard, unseen, faulty, starved, faulty_press, starved_press}
@@ -290,7 +290,7 @@ module _ {D : Type 0} (d : Ghosts D) where
 
     -- ---- the end
 
-    well_ended : (end : Ending) (events : List Event) (old new : StoreView D) → GoesBy d events old new
+    well_ended : (end : SittingEnd) (events : List Event) (old new : StoreView D) → GoesBy d events old new
         → SurvivesEnd d end events [] old new
     well_ended end events old new goes = record {
       survives = goes.survives;
@@ -336,7 +336,7 @@ module _ {D : Type 0} (d : Ghosts D) where
         }
 
     -- in the turn in which the sitting ends
-    stop_survives : {end : Ending} {events begun : List Event} {old new : TurnState D}
+    stop_survives : {end : SittingEnd} {events begun : List Event} {old new : TurnState D}
         → Stops d end events begun old new
         → d.honest old.store.disk → IsDurable d old.store → SurvivesEnd d end events begun old.store new.store
     stop_survives (left {events = events} {old = old} {new = new} turn leaves) honest durable =
@@ -357,8 +357,8 @@ module _ {D : Type 0} (d : Ghosts D) where
         starved_survives events begun old new broke honest durable
 
     -- turns, and then the one in which the sitting ends
-    both_survive : (end : Ending) (events more begun : List Event) (old mid new : StoreView D) → GoesBy d events old mid
-        → SurvivesEnd d end more begun mid new → SurvivesEnd d end (events ++ more) begun old new
+    both_survive : (end : SittingEnd) (events more begun : List Event) (old mid new : StoreView D)
+        → GoesBy d events old mid → SurvivesEnd d end more begun mid new → SurvivesEnd d end (events ++ more) begun old new
     both_survive end events more begun old mid new goes rest = record {
       survives = survives_on events more begun old mid new goes rest.survives;
       one = rest.one;
@@ -366,7 +366,7 @@ module _ {D : Type 0} (d : Ghosts D) where
       goes_by = λ no_fault no_want. goes_on events more old mid new goes (rest.goes_by no_fault no_want);
     }
 
-    end_survives : {end : Ending} {turns : ℕ} {more begun : List Event} {mid new : TurnState D}
+    end_survives : {end : SittingEnd} {turns : ℕ} {more begun : List Event} {mid new : TurnState D}
         → Ends d end turns more begun mid new → d.honest mid.store.disk → IsDurable d mid.store
         → SurvivesEnd d end more begun mid.store new.store
     end_survives (stopped stops) honest durable = stop_survives stops honest durable

@@ -22,8 +22,8 @@ use Rattle.desk_journal.specs.View.{StoreView, IsDurable}
 use Rattle.desk_sitting.specs.declared.sitting.Sitting.{Sitting}
 use Rattle.desk_sitting.specs.Doing.{Breaks, Does, OfPresses, desk_of}
 use Rattle.desk_sitting.specs.Sittings.{accepted, accepted_of, looked}
-use Rattle.desk_session.specs.declared.ending.Ending.{Ending}
-use Rattle.desk_session.specs.declared.ending.Ending.TheVariants.{Left, Closed, Input, Output, Fault, Memory}
+use Rattle.desk_session.specs.declared.ending.SittingEnd.{SittingEnd}
+use Rattle.desk_session.specs.declared.ending.SittingEnd.TheVariants.{Left, Closed, Input, Output, Fault, Memory}
 use Rattle.desk_session.specs.Endings.{end_of, end_of_keyboard}
 use Rattle.desk_session.specs.Scenes.{IsPainted, IsShown, IsUnshown, after_scene, behind_it, known_by}
 use Rattle.desk_session.specs.Serving.{TurnState, IsBrought, IsLookedAt, IsHeard, IsDeaf, Broke}
@@ -60,7 +60,7 @@ module _ {D : Type 0} (d : Ghosts D) where
 -- the output fails behind the scene
 module _ (s s' : Sitting) (screen screen' : List (List Cell)) (known known' : List (List Face))
     (held between held' : Option (List ℕ)) {H : Type 0} where
-  pub cut_behind : {T : Type 0} (result : Result T Ending) → s' ≡ looked screen' s → (H → screen' ≡ screen)
+  pub cut_behind : {T : Type 0} (result : Result T SittingEnd) → s' ≡ looked screen' s → (H → screen' ≡ screen)
       → IsPainted s' screen' (known_by s.forgets known) known' held between
       → OnErr result (AppendsFront between held' (after_scene s.rings s.asks))
       → IfErr result (λ end. end ≡ Output) → IfErr result (λ end. H → IsUnshown end s screen known held held')
@@ -107,7 +107,7 @@ module _ {D : Type 0} (d : Ghosts D) where
   }
 
   -- a turn in which the sitting ends
-  ended : {T : Type 0} (result : Result T Ending) (end : Ending) (old new : TurnState D) → result ≡ Err end
+  ended : {T : Type 0} (result : Result T SittingEnd) (end : SittingEnd) (old new : TurnState D) → result ≡ Err end
       → (d.honest old.store.disk → IsDurable d old.store → HasStopped d end old new) → IsUsableAt end new.store
       → CountsEnding end (d.failures old.store.disk) (d.failures new.store.disk)
       → IsSameDevice d old.store.disk new.store.disk → TakesTurn d result old new
@@ -122,7 +122,7 @@ module _ {D : Type 0} (d : Ghosts D) where
   })
 
   -- the scene isn't shown
-  unshown_stops : (end : Ending) (old new : TurnState D) → IsLookedAt d old.store new.store → new.heard ≡ old.heard
+  unshown_stops : (end : SittingEnd) (old new : TurnState D) → IsLookedAt d old.store new.store → new.heard ≡ old.heard
       → IsUnshown end old.sitting (screen_of old.store) old.known old.held new.held → HasStopped d end old new
   unshown_stops Left old new looks heard why = absurd why
   unshown_stops Closed old new looks heard why = absurd why
@@ -132,8 +132,8 @@ module _ {D : Type 0} (d : Ghosts D) where
   unshown_stops Memory old new looks heard why =
       ([], [], starved (record { looked = looks; held = why; heard = heard }))
 
-  pub unshown_ends : {T : Type 0} {old new : TurnState D} (result : Result T Ending) (end : Ending) → result ≡ Err end
-      → (d.honest old.store.disk → IsDurable d old.store → IsLookedAt d old.store new.store)
+  pub unshown_ends : {T : Type 0} {old new : TurnState D} (result : Result T SittingEnd) (end : SittingEnd)
+      → result ≡ Err end → (d.honest old.store.disk → IsDurable d old.store → IsLookedAt d old.store new.store)
       → (d.honest old.store.disk → IsUnshown end old.sitting (screen_of old.store) old.known old.held new.held)
       → new.heard ≡ old.heard → new.store.must_reopen ≡ false
       → CountsEnding end (d.failures old.store.disk) (d.failures new.store.disk)
@@ -147,7 +147,7 @@ module _ {D : Type 0} (d : Ghosts D) where
   deaf_stops keyboard.Closed old new deaf = ([], [], closed deaf)
   deaf_stops keyboard.Fault old new deaf = ([], [], unheard deaf)
 
-  pub deaf_ends : {T : Type 0} {old new : TurnState D} (result : Result T Ending) (why : KeyboardEnd)
+  pub deaf_ends : {T : Type 0} {old new : TurnState D} (result : Result T SittingEnd) (why : KeyboardEnd)
       → result ≡ Err (end_of_keyboard why)
       → (d.honest old.store.disk → IsDurable d old.store → IsLookedAt d old.store new.store)
       → (d.honest old.store.disk
@@ -216,7 +216,7 @@ module _ {D : Type 0} (d : Ghosts D) where
               (events, begun, faulty_press (subst (λ e. Broke d e events begun old new) is broke))
         ]
 
-    pub broken_ends : {T : Type 0} (result : Result T Ending) (error : Error) → result ≡ Err (end_of error)
+    pub broken_ends : {T : Type 0} (result : Result T SittingEnd) (error : Error) → result ≡ Err (end_of error)
         → (d.honest mid.disk → IsDurable d mid → Breaks d error (pressed old.parser hearing) s mid new.store)
         → d.failures mid.disk ≡ d.failures old.store.disk
         → FailsAs {T = T} DiskFault OfPresses (Err error) (d.failures mid.disk) (d.failures new.store.disk)

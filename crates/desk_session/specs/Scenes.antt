@@ -13,8 +13,8 @@ use Rattle.terminal_painting.specs.Spelling.{spelled}
 use Rattle.desk_sitting.specs.declared.sitting.Sitting.{Sitting}
 use Rattle.desk_sitting.specs.Sayings.{line_of}
 use Rattle.desk_sitting.specs.Sittings.{looked}
-use Rattle.desk_session.specs.declared.ending.Ending.{Ending}
-use Rattle.desk_session.specs.declared.ending.Ending.TheVariants.{Left, Closed, Input, Output, Fault, Memory}
+use Rattle.desk_session.specs.declared.ending.SittingEnd.{SittingEnd}
+use Rattle.desk_session.specs.declared.ending.SittingEnd.TheVariants.{Left, Closed, Input, Output, Fault, Memory}
 
 -- the rows of the screen that are in sight, and the line below
 pub record IsSceneOf (s : Sitting) (screen : List (List Cell)) (scene : Scene) : Type 0 where
@@ -74,7 +74,7 @@ pub data IsCutShort (s : Sitting) (screen : List (List Cell)) (known : List (Lis
       → AppendsFront between held' (after_scene s.rings s.asks) → IsCutShort s screen known held held'
 
 -- Why the scene isn't shown. Where the screen can't be worked out, nothing is sent.
-abbrev pub IsUnshown : Ending → Sitting → List (List Cell) → List (List Face) → Option (List ℕ) → Option (List ℕ)
+abbrev pub IsUnshown : SittingEnd → Sitting → List (List Cell) → List (List Face) → Option (List ℕ) → Option (List ℕ)
     → Type 0
 IsUnshown Left s screen known held held' = ⊥
 IsUnshown Closed s screen known held held' = ⊥

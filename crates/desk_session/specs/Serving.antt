@@ -18,8 +18,8 @@ use Rattle.desk_sitting.specs.declared.saying.Saying.{Saying}
 use Rattle.desk_sitting.specs.declared.sitting.Sitting.{Sitting}
 use Rattle.desk_sitting.specs.Doing.{Breaks, Does, desk_of}
 use Rattle.desk_sitting.specs.Sittings.{accepted, accepted_of, brought, looked, new_sitting}
-use Rattle.desk_session.specs.declared.ending.Ending.{Ending}
-use Rattle.desk_session.specs.declared.ending.Ending.TheVariants.{Left, Closed, Input, Output, Fault, Memory}
+use Rattle.desk_session.specs.declared.ending.SittingEnd.{SittingEnd}
+use Rattle.desk_session.specs.declared.ending.SittingEnd.TheVariants.{Left, Closed, Input, Output, Fault, Memory}
 use Rattle.desk_session.specs.declared.serving.TheConstants.{MOST_TURNS}
 use Rattle.desk_session.specs.Scenes.{IsShown, IsCutShort}
 
@@ -62,11 +62,11 @@ pub record IsBrought (old new : Sitting) : Type 0 where
   pub brings : new ≡ brought will_be_heard old
 
 -- where neither the disk nor the memory failed, the store needn't be opened again
-abbrev pub IsUsableAt : {D : Type 0} → Ending → StoreView D → Type 0
+abbrev pub IsUsableAt : {D : Type 0} → SittingEnd → StoreView D → Type 0
 IsUsableAt end store = end ≢ Fault → end ≢ Memory → store.must_reopen ≡ false
 
 -- the number of failures of the disk rose exactly where the sitting ended by its fault
-abbrev pub CountsEnding : Ending → ℕ → ℕ → Type 0
+abbrev pub CountsEnding : SittingEnd → ℕ → ℕ → Type 0
 CountsEnding Left failed failed' = failed' ≡ failed
 CountsEnding Closed failed failed' = failed' ≡ failed
 CountsEnding Input failed failed' = failed' ≡ failed
@@ -75,7 +75,7 @@ CountsEnding Fault failed failed' = failed < failed'
 CountsEnding Memory failed failed' = failed' ≡ failed
 
 -- and it stays where the sitting goes on
-abbrev pub CountsTurn : {T : Type 0} → Result T Ending → ℕ → ℕ → Type 0
+abbrev pub CountsTurn : {T : Type 0} → Result T SittingEnd → ℕ → ℕ → Type 0
 CountsTurn result failed failed' = MatchResult result (λ _. failed' ≡ failed) (λ end. CountsEnding end failed failed')
 
 module _ {D : Type 0} (d : Ghosts D) where
@@ -141,7 +141,7 @@ module _ {D : Type 0} (d : Ghosts D) where
 
   -- A sitting ends in a turn, in which these events are accepted. One more is begun where the disk fails in a press: it
   -- isn't acknowledged, and may be in an image or not. For want of memory it is in none.
-  pub data Stops : Ending → List Event → List Event → TurnState D → TurnState D → Type 0 where
+  pub data Stops : SittingEnd → List Event → List Event → TurnState D → TurnState D → Type 0 where
     left : {events : List Event} {old new : TurnState D} → Turns events old new → new.sitting.leaves ≡ true
         → Stops Left events [] old new
     closed : {old new : TurnState D} → IsDeaf old new → Stops Closed [] [] old new
@@ -158,17 +158,17 @@ module _ {D : Type 0} (d : Ghosts D) where
   abbrev pub HasTurned : TurnState D → TurnState D → Type 0
   HasTurned old new = (events : List Event) × Turns events old new
 
-  abbrev pub HasStopped : Ending → TurnState D → TurnState D → Type 0
+  abbrev pub HasStopped : SittingEnd → TurnState D → TurnState D → Type 0
   HasStopped end old new = (events : List Event) × (begun : List Event) × Stops end events begun old new
 
   -- It ends so after so many turns, or because there were as many as there may be.
-  pub data Ends : Ending → ℕ → List Event → List Event → TurnState D → TurnState D → Type 0 where
-    stopped : {end : Ending} {count : ℕ} {events begun : List Event} {old new : TurnState D}
+  pub data Ends : SittingEnd → ℕ → List Event → List Event → TurnState D → TurnState D → Type 0 where
+    stopped : {end : SittingEnd} {count : ℕ} {events begun : List Event} {old new : TurnState D}
         → Stops end events begun old new → Ends end count events begun old new
     too_long : {place : TurnState D} → Ends Input MOST_TURNS [] [] place place
 
   -- All that a turn promises that returns this.
-  pub record TakesTurn {T : Type 0} (result : Result T Ending) (old new : TurnState D) : Type 0 where
+  pub record TakesTurn {T : Type 0} (result : Result T SittingEnd) (old new : TurnState D) : Type 0 where
     pub goes_on : OnOk result (d.honest old.store.disk → IsDurable d old.store → HasTurned old new)
     pub stays : OnOk result (new.sitting.leaves ≡ false)
     pub stops : IfErr result (λ end. d.honest old.store.disk → IsDurable d old.store → HasStopped end old new)

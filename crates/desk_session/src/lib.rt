@@ -11,6 +11,6 @@ mod laws;
 mod serving;
 
 pub use desk_sitting::Saying;
-pub use ending::Ending;
+pub use ending::SittingEnd;
 pub use laws::sittings_survive;
 pub use serving::{MOST_TURNS, serve};

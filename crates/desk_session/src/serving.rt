@@ -5,7 +5,7 @@ ghost use Rattle.desk_journal.specs.Device.{IsSameDevice};
 ghost use Rattle.desk_journal.specs.View.{IsDurable};
 ghost use Rattle.desk_sitting.specs.Sayings.{line_of};
 ghost use Rattle.desk_sitting.specs.Sittings.{looked};
-ghost use Rattle.desk_session.specs.declared.ending.Ending.TheVariants.{Output as TakesNoMore};
+ghost use Rattle.desk_session.specs.declared.ending.SittingEnd.TheVariants.{Output as TakesNoMore};
 ghost use Rattle.terminal_painting.specs.Scene.{IsInSight};
 ghost use Rattle.desk_session.specs.Scenes.{IsSceneOf, IsHalfPainted, IsPainted, IsShown, IsUnshown};
 ghost use Rattle.desk_session.specs.Scenes.{after_scene, bell, known_by, request, size_request};
@@ -13,7 +13,7 @@ ghost use Rattle.desk_session.specs.Serving.{CountsEnding, CountsTurn, IsBrought
 ghost use Rattle.desk_session.specs.Serving.{TakesTurn, first_place, place_of, screen_of};
 ghost use Rattle.desk_session.specs.Sitting.{IsSat};
 
-use crate::ending::Ending;
+use crate::ending::SittingEnd;
 use crate::laws::sittings_survive;
 use desk_journal::Store;
 use desk_sitting::{Saying, Sitting, do_presses};
@@ -46,7 +46,7 @@ pub fn serve<K: Keyboard, W: Write, D: Disk>(
     store: &mut Store<D>,
     height: u16,
     greeting: Saying,
-) -> Ending
+) -> SittingEnd
     requires { store.old.must_reopen ≡ false }
     ensures sat { D.honest store.old.disk → IsSat D.Disk result
         (first_place height greeting store.old (K.heard keyboard.old) (W.contents writer.old))
@@ -75,7 +75,7 @@ pub fn serve<K: Keyboard, W: Write, D: Disk>(
             return end;
         }
     }
-    Ending::Input
+    SittingEnd::Input
 }
 
 /// One turn: the desktop is shown, something is heard, and what is pressed by it is done.
@@ -90,7 +90,7 @@ fn turn<K: Keyboard, W: Write, D: Disk>(
     keyboard: &mut K,
     writer: &mut W,
     store: &mut Store<D>,
-) -> Result<(), Ending>
+) -> Result<(), SittingEnd>
     requires { store.old.must_reopen ≡ false }
     ensures { TakesTurn D.Disk result
         (place_of parser.old sitting.old store.old (K.heard keyboard.old) painter.old (W.contents writer.old))
@@ -101,7 +101,7 @@ fn turn<K: Keyboard, W: Write, D: Disk>(
     do_presses(alloc, sitting, parser, hearing.as_slice(), store)?;
     bring(sitting, keyboard);
     if sitting.leaves {
-        Err(Ending::Left)
+        Err(SittingEnd::Left)
     } else {
         Ok(())
     }
@@ -128,7 +128,7 @@ fn show<W: Write, D: Disk>(
     painter: &mut Painter,
     writer: &mut W,
     store: &mut Store<D>,
-) -> Result<(), Ending>
+) -> Result<(), SittingEnd>
     requires { store.old.must_reopen ≡ false }
     ensures looks { D.honest store.old.disk → IsDurable D.Disk store.old → IsLookedAt D.Disk store.old store.new }
     ensures sitting { OnOk result (D.honest store.old.disk → sitting.new ≡ looked (screen_of store.old) sitting.old) }
@@ -157,7 +157,7 @@ fn paint<W: Write>(
     painter: &mut Painter,
     writer: &mut W,
     screen: &Screen,
-) -> Result<(), Ending>
+) -> Result<(), SittingEnd>
     ensures painted { OnOk result (IsPainted sitting.now screen.now (known_by forgets painter.old) painter.new
         (W.contents writer.old) (W.contents writer.new)) }
     ensures front { OnErr result (IsHalfPainted sitting.now screen.now (known_by forgets painter.old)
@@ -189,7 +189,7 @@ fn scene_of<'a>(sitting: &Sitting, screen: &'a Screen, line: &'a [u8]) -> Scene<
 /// Sends what comes after the scene.
 ///
 /// Error: `Output`, and a front may have been sent.
-fn follow<W: Write>(writer: &mut W, rings: bool, asks: bool) -> Result<(), Ending>
+fn follow<W: Write>(writer: &mut W, rings: bool, asks: bool) -> Result<(), SittingEnd>
     ensures sent { Sends result (W.contents writer.old) (W.contents writer.new) (after_scene rings asks) }
     ensures end { IfErr result (λ end. end ≡ TakesNoMore) }
 {
