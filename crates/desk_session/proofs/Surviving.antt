@@ -358,7 +358,8 @@ module _ {D : Type 0} (d : Ghosts D) where
 
     -- turns, and then the one in which the sitting ends
     both_survive : (end : SittingEnd) (events more begun : List Event) (old mid new : StoreView D)
-        → GoesBy d events old mid → SurvivesEnd d end more begun mid new → SurvivesEnd d end (events ++ more) begun old new
+        → GoesBy d events old mid → SurvivesEnd d end more begun mid new
+        → SurvivesEnd d end (events ++ more) begun old new
     both_survive end events more begun old mid new goes rest = record {
       survives = survives_on events more begun old mid new goes rest.survives;
       one = rest.one;

@@ -55,7 +55,8 @@ module _ {D : Type 0} (d : Ghosts D) where
       }
 
       sat_with : (end : SittingEnd) (more begun : List Event) (last : TurnState D)
-          → Ends d end count more begun place last → d.honest first.store.disk → IsSat d end first last.store last.heard last.held
+          → Ends d end count more begun place last → d.honest first.store.disk
+          → IsSat d end first last.store last.heard last.held
       sat_with end more begun last why honest =
           let run : (events : List Event) × IsRun d first count events place = come.run honest in
           record {
