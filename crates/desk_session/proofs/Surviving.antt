@@ -22,8 +22,8 @@ use Rattle.terminal_presses.specs.declared.action.Action.TheVariants as action
 use Rattle.terminal_presses.specs.declared.press.Press.{Press}
 use Rattle.terminal_presses.specs.Hands.{handled}
 use Rattle.desk_sitting.specs.declared.sitting.Sitting.{Sitting}
-use Rattle.desk_sitting.specs.Doing.{Breaks, Does, IsDone, desk_of, none as no_press, one_more as one_press}
-use Rattle.desk_sitting.specs.Sittings.{Desk, PressesAreSteps, accepted, accepted_of, after_press, after_presses}
+use Rattle.desk_sitting.specs.Doing.{Breaks, Does, IsDone, seat_of, none as no_press, one_more as one_press}
+use Rattle.desk_sitting.specs.Sittings.{Seat, PressesAreSteps, accepted, accepted_of, after_press, after_presses}
 use Rattle.desk_sitting.specs.Sittings.{click_at, posts}
 use Rattle.desk_session.specs.declared.ending.SittingEnd.{SittingEnd}
 use Rattle.desk_session.specs.declared.ending.SittingEnd.TheVariants.{Left, Closed, Input, Output, Fault, Memory}
@@ -37,7 +37,7 @@ use Rattle.desk_session.proofs.Turning.{same_device}
 
 -- ---- the events of presses
 
-accepted_more : (presses : List Press) (press : Press) (d : Desk)
+accepted_more : (presses : List Press) (press : Press) (d : Seat)
     → accepted (presses ++ press ∷ []) d ≡ accepted presses d ++ accepted_of press (after_presses presses d)
 accepted_more [] press d = append-nil (accepted_of press d)
 accepted_more (first ∷ presses) press d =
@@ -45,7 +45,7 @@ accepted_more (first ∷ presses) press d =
     ∙ sym (append_assoc (accepted_of first d) (accepted presses (after_press first d))
     (accepted_of press (after_presses presses (after_press first d))))
 
-after_more : (presses : List Press) (press : Press) (d : Desk)
+after_more : (presses : List Press) (press : Press) (d : Seat)
     → after_presses (presses ++ press ∷ []) d ≡ after_press press (after_presses presses d)
 after_more [] press d = refl
 after_more (first ∷ presses) press d = after_more presses press (after_press first d)
@@ -59,7 +59,7 @@ few_clicks : (place : Option (ℕ × ℕ)) → length (click_at place) ≤ 1
 few_clicks None = omega arith
 few_clicks (Some place) = omega arith
 
-few_posts : (a : Action) (d : Desk) → length (posts a d) ≤ 1
+few_posts : (a : Action) (d : Seat) → length (posts a d) ≤ 1
 few_posts action.Nothing d = omega arith
 few_posts (action.Post event) d = omega arith
 few_posts action.Ring d = omega arith
@@ -70,7 +70,7 @@ few_posts (action.Move page) d = omega arith
 few_posts (action.Step arrow) d = few_clicks _
 few_posts (action.Fit rows columns) d = omega arith
 
-few_accepted : (press : Press) (d : Desk) → length (accepted_of press d) ≤ 1
+few_accepted : (press : Press) (d : Seat) → length (accepted_of press d) ≤ 1
 few_accepted press d =
     let a : Action = (handled d.sitting.sight press d.sitting.hand).1 in
     none_or d.sitting.leaves (if is_worn d.session then [] else posts a d)
@@ -195,44 +195,44 @@ module _ {D : Type 0} (d : Ghosts D) where
 
   -- what presses leave
   record Leads (presses : List Press) (s s' : Sitting) (old new : StoreView D) : Type 0 where
-    pub goes : GoesBy d (accepted presses (desk_of s old)) old new
-    pub desk : desk_of s' new ≡ after_presses presses (desk_of s old)
+    pub goes : GoesBy d (accepted presses (seat_of s old)) old new
+    pub seat : seat_of s' new ≡ after_presses presses (seat_of s old)
 
   module _ (law : PressesAreSteps) where
-    press_steps : (press : Press) (e : Desk)
+    press_steps : (press : Press) (e : Seat)
         → (after_press press e).session.desktop ≡ steps e.session.desktop (accepted_of press e)
     press_steps press e = law (press ∷ []) e ∙ ap (steps e.session.desktop) (append-nil (accepted_of press e))
 
     goes_by_press : (press : Press) (s s' : Sitting) (old new : StoreView D)
-        → IsDone d (after_press press (desk_of s old)) s' old new → d.honest new.disk
-        → GoesBy d (accepted_of press (desk_of s old)) old new
+        → IsDone d (after_press press (seat_of s old)) s' old new → d.honest new.disk
+        → GoesBy d (accepted_of press (seat_of s old)) old new
     goes_by_press press s s' old new done honest =
-        goes_by_either (accepted_of press (desk_of s old)) old new done.any_moment
-        (ap (λ (e : Desk). e.session.desktop) done.desk ∙ press_steps press (desk_of s old)) honest done.durable
+        goes_by_either (accepted_of press (seat_of s old)) old new done.any_moment
+        (ap (λ (e : Seat). e.session.desktop) done.seat ∙ press_steps press (seat_of s old)) honest done.durable
         done.device
 
     -- one press more
     leads_more : (presses : List Press) (press : Press) (s s' s'' : Sitting) (old mid new : StoreView D)
-        → Leads presses s s' old mid → IsDone d (after_press press (desk_of s' mid)) s'' mid new → d.honest mid.disk
+        → Leads presses s s' old mid → IsDone d (after_press press (seat_of s' mid)) s'' mid new → d.honest mid.disk
         → Leads (presses ++ press ∷ []) s s'' old new
     leads_more presses press s s' s'' old mid new before done honest =
-        let start : Desk = desk_of s old in
-        let goes : GoesBy d (accepted presses start ++ accepted_of press (desk_of s' mid)) old new =
-        goes_on (accepted presses start) (accepted_of press (desk_of s' mid)) old mid new before.goes
+        let start : Seat = seat_of s old in
+        let goes : GoesBy d (accepted presses start ++ accepted_of press (seat_of s' mid)) old new =
+        goes_on (accepted presses start) (accepted_of press (seat_of s' mid)) old mid new before.goes
         (goes_by_press press s' s'' mid new done (done.device.still honest)) in
         record {
           goes = subst (λ es. GoesBy d es old new)
-              (ap (λ e. accepted presses start ++ accepted_of press e) before.desk
+              (ap (λ e. accepted presses start ++ accepted_of press e) before.seat
               ∙ sym (accepted_more presses press start))
               goes;
-          desk = done.desk ∙ ap (after_press press) before.desk ∙ sym (after_more presses press start);
+          seat = done.seat ∙ ap (after_press press) before.seat ∙ sym (after_more presses press start);
         }
 
     leads : {presses : List Press} {s s' : Sitting} {old new : StoreView D} → Does d presses s s' old new
         → d.honest old.disk → IsDurable d old → Leads presses s s' old new
     leads (no_press {store = store}) honest durable = record {
       goes = goes_nowhere store honest durable;
-      desk = refl;
+      seat = refl;
     }
     leads (one_press {presses = presses} {s = s} {s' = s'} {s'' = s''} {old = old} {mid = mid} {new = new}
         press before done) honest durable =
@@ -242,14 +242,14 @@ module _ {D : Type 0} (d : Ghosts D) where
     -- presses of which the last one fails
     survives_break : (error : Error) (presses : List Press) (s : Sitting) (old new : StoreView D)
         → (breaks : Breaks d error presses s old new) → d.honest old.disk → IsDurable d old
-        → Survives d (accepted breaks.done (desk_of s old))
-        (accepted_of breaks.press (desk_of breaks.sitting breaks.mid)) old new
+        → Survives d (accepted breaks.done (seat_of s old))
+        (accepted_of breaks.press (seat_of breaks.sitting breaks.mid)) old new
     survives_break error presses s old new breaks honest durable =
         let first : Leads breaks.done s breaks.sitting old breaks.mid = leads breaks.does honest durable in
-        let at : Desk = desk_of breaks.sitting breaks.mid in
+        let at : Seat = seat_of breaks.sitting breaks.mid in
         let begun : List Event = accepted_of breaks.press at in
-        subst (λ es. Survives d es begun old new) (append-nil (accepted breaks.done (desk_of s old)))
-        (survives_on (accepted breaks.done (desk_of s old)) [] begun old breaks.mid new first.goes
+        subst (λ es. Survives d es begun old new) (append-nil (accepted breaks.done (seat_of s old)))
+        (survives_on (accepted breaks.done (seat_of s old)) [] begun old breaks.mid new first.goes
         (either_survives begun breaks.mid new
         (subst (λ e. LeavesOnly (d.trail breaks.mid.disk) (d.trail new.disk)
         (MeansEither (d.size breaks.mid.disk) breaks.mid.desktop e)) (press_steps breaks.press at)
@@ -258,11 +258,11 @@ module _ {D : Type 0} (d : Ghosts D) where
     -- for want of memory
     survives_starving : (presses : List Press) (s : Sitting) (old new : StoreView D)
         → (breaks : Breaks d NoMemory presses s old new) → d.honest old.disk → IsDurable d old
-        → Survives d (accepted breaks.done (desk_of s old)) [] old new
+        → Survives d (accepted breaks.done (seat_of s old)) [] old new
     survives_starving presses s old new breaks honest durable =
         let first : Leads breaks.done s breaks.sitting old breaks.mid = leads breaks.does honest durable in
-        subst (λ es. Survives d es [] old new) (append-nil (accepted breaks.done (desk_of s old)))
-        (survives_on (accepted breaks.done (desk_of s old)) [] [] old breaks.mid new first.goes
+        subst (λ es. Survives d es [] old new) (append-nil (accepted breaks.done (seat_of s old)))
+        (survives_on (accepted breaks.done (seat_of s old)) [] [] old breaks.mid new first.goes
         (same_survives breaks.mid new (breaks.undone.starved refl)))
 
     -- ---- turns
@@ -309,7 +309,7 @@ module _ {D : Type 0} (d : Ghosts D) where
         → d.honest old.store.disk → IsDurable d old.store → SurvivesEnd d Fault events begun old.store new.store
     faulty_survives events begun old new broke honest durable =
         let looks : IsLookedAt d old.store broke.mid = broke.scene.looked in
-        let at : Desk = desk_of broke.breaks.sitting broke.breaks.mid in
+        let at : Seat = seat_of broke.breaks.sitting broke.breaks.mid in
         record {
           survives = behind_scene events begun old.store broke.mid new.store looks honest durable
               (subst (λ es. Survives d events es broke.mid new.store) (sym broke.fails)

@@ -20,7 +20,7 @@ use Rattle.desk_journal.specs.Looking.{OnlyLooks}
 use Rattle.desk_journal.specs.Session.{Session, session_of}
 use Rattle.desk_journal.specs.View.{StoreView, IsDurable}
 use Rattle.desk_sitting.specs.declared.sitting.Sitting.{Sitting}
-use Rattle.desk_sitting.specs.Doing.{Breaks, Does, OfPresses, desk_of}
+use Rattle.desk_sitting.specs.Doing.{Breaks, Does, OfPresses, seat_of}
 use Rattle.desk_sitting.specs.Sittings.{accepted, accepted_of, looked}
 use Rattle.desk_session.specs.declared.ending.SittingEnd.{SittingEnd}
 use Rattle.desk_session.specs.declared.ending.SittingEnd.TheVariants.{Left, Closed, Input, Output, Fault, Memory}
@@ -177,7 +177,7 @@ module _ {D : Type 0} (d : Ghosts D) where
         → (d.honest mid.disk → IsDurable d mid → Does d (pressed old.parser hearing) s s' mid new.store)
         → IsBrought s' new.sitting → d.honest old.store.disk → IsDurable d old.store → HasTurned d old new
     turned s' parser does brings honest durable = (
-      accepted (pressed old.parser hearing) (desk_of (seen old) mid),
+      accepted (pressed old.parser hearing) (seat_of (seen old) mid),
       record {
         hearing = hearing;
         mid = mid;
@@ -199,8 +199,8 @@ module _ {D : Type 0} (d : Ghosts D) where
         let breaks : Breaks d error (pressed old.parser hearing) (seen old) mid new.store =
         subst (λ t. Breaks d error (pressed old.parser hearing) t mid new.store) (sees honest)
         (fails ((looks honest durable).disk.device.still honest) (looks honest durable).durable) in
-        let events : List Event = accepted breaks.done (desk_of (seen old) mid) in
-        let begun : List Event = accepted_of breaks.press (desk_of breaks.sitting breaks.mid) in
+        let events : List Event = accepted breaks.done (seat_of (seen old) mid) in
+        let begun : List Event = accepted_of breaks.press (seat_of breaks.sitting breaks.mid) in
         let broke : Broke d error events begun old new = record {
           hearing = hearing;
           mid = mid;

@@ -16,7 +16,7 @@ use Rattle.terminal_presses.specs.declared.press.Heard.{Heard}
 use Rattle.terminal_presses.specs.Presses.{at_rest, parser_after, pressed}
 use Rattle.desk_sitting.specs.declared.saying.Saying.{Saying}
 use Rattle.desk_sitting.specs.declared.sitting.Sitting.{Sitting}
-use Rattle.desk_sitting.specs.Doing.{Breaks, Does, desk_of}
+use Rattle.desk_sitting.specs.Doing.{Breaks, Does, seat_of}
 use Rattle.desk_sitting.specs.Sittings.{accepted, accepted_of, brought, looked, new_sitting}
 use Rattle.desk_session.specs.declared.ending.SittingEnd.{SittingEnd}
 use Rattle.desk_session.specs.declared.ending.SittingEnd.TheVariants.{Left, Closed, Input, Output, Fault, Memory}
@@ -102,7 +102,7 @@ module _ {D : Type 0} (d : Ghosts D) where
     pub parser : new.parser ≡ parser_after old.parser hearing
     pub sitting : Sitting
     pub does : Does d (pressed old.parser hearing) (seen old) sitting mid new.store
-    pub are : events ≡ accepted (pressed old.parser hearing) (desk_of (seen old) mid)
+    pub are : events ≡ accepted (pressed old.parser hearing) (seat_of (seen old) mid)
     pub brings : IsBrought sitting new.sitting
 
   -- so many turns, one after another, in which these events are accepted, and after none of which the person has left
@@ -136,8 +136,8 @@ module _ {D : Type 0} (d : Ghosts D) where
     pub mid : StoreView D
     pub scene : IsHeard hearing old mid new
     pub breaks : Breaks d error (pressed old.parser hearing) (seen old) mid new.store
-    pub are : events ≡ accepted breaks.done (desk_of (seen old) mid)
-    pub fails : begun ≡ accepted_of breaks.press (desk_of breaks.sitting breaks.mid)
+    pub are : events ≡ accepted breaks.done (seat_of (seen old) mid)
+    pub fails : begun ≡ accepted_of breaks.press (seat_of breaks.sitting breaks.mid)
 
   -- A sitting ends in a turn, in which these events are accepted. One more is begun where the disk fails in a press: it
   -- isn't acknowledged, and may be in an image or not. For want of memory it is in none.

@@ -1,6 +1,6 @@
 //! A person at a terminal, before a store.
 ghost use Rattle.std.specs.Prelude.{◌≡◌, ◌≢◌, false, OnOk, IfErr};
-ghost use Rattle.desk_sitting.specs.Doing.{Takes, desk_of};
+ghost use Rattle.desk_sitting.specs.Doing.{Takes, seat_of};
 ghost use Rattle.desk_sitting.specs.Sayings.{line_of};
 ghost use Rattle.desk_sitting.specs.Sittings.{acted, acted_alone, after_press, brought, clicked, looked, new_sitting};
 ghost use Rattle.desk_sitting.specs.Sittings.{posted, refused, replied};
@@ -127,7 +127,7 @@ impl Sitting {
         store: &mut Store<D>,
     ) -> Result<(), Error>
         requires { store.old.must_reopen ≡ false }
-        ensures { Takes D.Disk (after_press press (desk_of self.old store.old)) result self.new store.old store.new }
+        ensures { Takes D.Disk (after_press press (seat_of self.old store.old)) result self.new store.old store.new }
     {
         if self.leaves {
             return Ok(());
@@ -144,7 +144,7 @@ impl Sitting {
         store: &mut Store<D>,
     ) -> Result<(), Error>
         requires { store.old.must_reopen ≡ false }
-        ensures { Takes D.Disk (acted action (desk_of self.old store.old)) result self.new store.old store.new }
+        ensures { Takes D.Disk (acted action (seat_of self.old store.old)) result self.new store.old store.new }
     {
         match action {
             Action::Post(event) => self.post(alloc, &event, store),
@@ -189,7 +189,7 @@ impl Sitting {
         store: &mut Store<D>,
     ) -> Result<(), Error>
         requires { store.old.must_reopen ≡ false }
-        ensures { Takes D.Disk (acted (Action.Step arrow) (desk_of self.old store.old)) result self.new store.old
+        ensures { Takes D.Disk (acted (Action.Step arrow) (seat_of self.old store.old)) result self.new store.old
             store.new }
     {
         let mut screen = Screen::new();
@@ -205,7 +205,7 @@ impl Sitting {
         store: &mut Store<D>,
     ) -> Result<(), Error>
         requires { store.old.must_reopen ≡ false }
-        ensures { Takes D.Disk (clicked place (desk_of self.old store.old)) result self.new store.old store.new }
+        ensures { Takes D.Disk (clicked place (seat_of self.old store.old)) result self.new store.old store.new }
     {
         match place {
             None => {
@@ -233,7 +233,7 @@ impl Sitting {
         store: &mut Store<D>,
     ) -> Result<(), Error>
         requires { store.old.must_reopen ≡ false }
-        ensures { Takes D.Disk (posted event.now (desk_of self.old store.old)) result self.new store.old store.new }
+        ensures { Takes D.Disk (posted event.now (seat_of self.old store.old)) result self.new store.old store.new }
     {
         match store.post(alloc, event) {
             Ok(reply) => {
