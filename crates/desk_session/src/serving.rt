@@ -96,7 +96,7 @@ fn turn<K: Keyboard, W: Write, D: Disk>(
         (place_of parser.old sitting.old store.old (K.heard keyboard.old) painter.old (W.contents writer.old))
         (place_of parser.new sitting.new store.new (K.heard keyboard.new) painter.new (W.contents writer.new)) }
 {
-    show(alloc, sitting, painter, writer, store)?;
+    show(alloc, store, sitting, painter, writer)?;
     let hearing = keyboard.hear()?;
     do_presses(alloc, sitting, parser, hearing.as_slice(), store)?;
     bring(sitting, keyboard);
@@ -124,10 +124,10 @@ fn bring<K: Keyboard>(sitting: &mut Sitting, keyboard: &mut K)
 /// Errors: `Fault` and `Memory`, and nothing was sent; `Output`, and a front may have been sent.
 fn show<W: Write, D: Disk>(
     alloc: Global,
+    store: &mut Store<D>,
     sitting: &mut Sitting,
     painter: &mut Painter,
     writer: &mut W,
-    store: &mut Store<D>,
 ) -> Result<(), SittingEnd>
     requires { store.old.must_reopen ≡ false }
     ensures looks { D.honest store.old.disk → IsDurable D.Disk store.old → IsLookedAt D.Disk store.old store.new }
