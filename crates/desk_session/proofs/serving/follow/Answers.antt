@@ -1,5 +1,5 @@
 use Rattle.output_bytes.proofs.Taking.{first_front, front_sent, second_front}
-use Rattle.desk_session.specs.Frames.{bell, request}
+use Rattle.desk_session.specs.Scenes.{bell, request}
 use Rattle.desk_session.proofs.serving.follow.Goals as goal
 
 pub returns-in_err-ring_if-clause-sent : goal.returns-in_err-ring_if-clause-sent
