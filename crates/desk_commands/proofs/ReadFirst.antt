@@ -37,7 +37,7 @@ module _ {S : Type 0} (s : Ghosts S) where
       → (a ≡ read (seen (s.characters old) d) → F (seen (s.characters old) d) a ≡ effect (seen (s.characters old) d))
       → IfOk result (Settles s (λ x. F x a) mid new d after)
       → IfOk result (Settles s effect old new d after)
-  settles_there F read an effect old mid new d after result reads is same answered =
+  settles_there F read a effect old mid new d after result reads is same answered =
       IfOk-weaker result (Settles s (λ x. F x a) mid new d after) (Settles s effect old new d after)
       (λ reply done. read_answered (s.honest old) (s.honest mid) (s.characters old) (s.characters mid)
       (s.characters new) d after _ _ reply reads.still reads.as_long
@@ -76,8 +76,8 @@ module _ {S : Type 0} (s : Ghosts S) where
         → Reads old mid → s.failures mid ≡ s.failures old → (s.honest old → a ≡ read (seen (s.characters old) d))
         → (a ≡ read (seen (s.characters old) d) → F (seen (s.characters old) d) a ≡ effect (seen (s.characters old) d))
         → Does s (λ x. F x a) result mid new d after → Does s effect result old new d after
-    does_there F read an effect old mid new d after result reads calm is same rest = record {
-      answered = settles_there F read an effect old mid new d after result reads is same rest.answered;
+    does_there F read a effect old mid new d after result reads calm is same rest = record {
+      answered = settles_there F read a effect old mid new d after result reads is same rest.answered;
       uses = uses_after old mid new result reads calm rest.uses;
     }
 
