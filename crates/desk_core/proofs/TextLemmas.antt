@@ -10,8 +10,8 @@ use Rattle.piece_ring.specs.declared.piece.Look.{Look}
 use Rattle.piece_ring.specs.declared.piece.Piece.{Piece}
 use Rattle.piece_ring.specs.Flat.{flat}
 use Rattle.piece_ring.specs.Lengths.{length-inserted, length-deleted, length-looks_changed}
-use Rattle.piece_ring.specs.Offsets.{AreWithin, inserted-AreWithin, deleted-AreWithin, looks_changed-AreWithin}
-use Rattle.piece_ring.specs.Text.{Text, inserted, deleted, looks_changed}
+use Rattle.piece_ring.specs.Offsets.{inserted-AreWithin, deleted-AreWithin, looks_changed-AreWithin}
+use Rattle.piece_ring.specs.Text.{Text, inserted, deleted, looks_changed, AreWithin}
 use Rattle.readers_scanners.specs.Reading.{bytes}
 use Rattle.viewer_tracks.specs.Columns.{IsPlaced, IsOnTop, times_placed, times_meant}
 use Rattle.desktop_definitions.specs.declared.viewer.Viewer.{Viewer}

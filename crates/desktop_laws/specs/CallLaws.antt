@@ -11,7 +11,7 @@ use Rattle.command_table.specs.Parameters.{IsPlace, value, names}
 use Rattle.desktop_definitions.specs.declared.call.Call.{Call}
 use Rattle.desktop_definitions.specs.declared.viewer.Selection.{Selection}
 use Rattle.desktop_definitions.specs.Desktop.{KeptDesktop}
-use Rattle.desktop_definitions.specs.Viewers.{viewer_or_none, newest, main_of, menu_of}
+use Rattle.desktop_definitions.specs.Viewers.{viewer_or_none, newest, main_of, menu_of, kept_main}
 use Rattle.desktop_definitions.specs.Change.{bytes_of}
 use Rattle.desktop_definitions.specs.Call.{text_called, seen_at_marker, selection_place, menu_at_marker, value_of}
 use Rattle.desktop_definitions.specs.Call.{names_of}
@@ -21,7 +21,7 @@ use Rattle.desktop_definitions.specs.Seen.{seen}
 use Rattle.desktop_laws.specs.SeenLaws.{within_counted}
 use Rattle.desktop_definitions.specs.Sound.{IsBuilt, IsWithin, IsOver}
 use Rattle.desktop_laws.specs.RowLaws.{over_built}
-use Rattle.desktop_laws.specs.RowPartLaws.{kept_main, kept_main_seen, kept_text_seen, kept_newest, text_within}
+use Rattle.desktop_laws.specs.RowPartLaws.{kept_main_seen, kept_text_seen, kept_newest, text_within}
 
 -- ---- of a desktop that is kept
 

@@ -17,9 +17,8 @@ use Rattle.std.proofs.lemmas.Map.Views.{All-values-set_value}
 use Rattle.piece_ring.specs.declared.piece.Look.{Look}
 use Rattle.piece_ring.specs.declared.piece.Piece.{Piece}
 use Rattle.piece_ring.specs.Flat.{flat}
-use Rattle.piece_ring.specs.Offsets.{AreWithin}
 use Rattle.piece_ring.specs.Renaming.{renamed-inserted, renamed-deleted, renamed-looks_changed}
-use Rattle.piece_ring.specs.Text.{Text, inserted, deleted, looks_changed}
+use Rattle.piece_ring.specs.Text.{Text, inserted, deleted, looks_changed, AreWithin}
 use Rattle.readers_scanners.specs.Reading.{contents, bytes}
 use Rattle.viewer_tracks.specs.Columns.{IsOnTop}
 use Rattle.text_frames.specs.Rules.{shown_org}

@@ -18,8 +18,7 @@ use Rattle.piece_ring.specs.declared.piece.Look.{Look}
 use Rattle.piece_ring.specs.declared.piece.Piece.{Piece}
 use Rattle.piece_ring.specs.Look.{default_look, has_bit, relooked}
 use Rattle.piece_ring.specs.Flat.{flat, run}
-use Rattle.piece_ring.specs.Offsets.{AreWithin}
-use Rattle.piece_ring.specs.Text.{Text, stretch, inserted, deleted, all_relooked, looks_changed}
+use Rattle.piece_ring.specs.Text.{Text, stretch, inserted, deleted, all_relooked, looks_changed, AreWithin}
 use Rattle.readers_scanners.specs.Reading.{contents}
 use Rattle.text_core.specs.Attributes.{look_at, look_of}
 use Rattle.viewer_tracks.specs.declared.display.TheConstants.{ROWS, COLUMNS}

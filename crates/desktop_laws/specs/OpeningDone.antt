@@ -10,8 +10,8 @@ use Rattle.piece_ring.specs.declared.piece.Piece.{Piece}
 use Rattle.piece_ring.specs.Look.{default_look}
 use Rattle.piece_ring.specs.Flat.{flat, run}
 use Rattle.piece_ring.specs.Lengths.{length-run}
-use Rattle.piece_ring.specs.Offsets.{AreWithin, run-AreWithin}
-use Rattle.piece_ring.specs.Text.{Text}
+use Rattle.piece_ring.specs.Offsets.{run-AreWithin}
+use Rattle.piece_ring.specs.Text.{Text, AreWithin}
 use Rattle.readers_scanners.specs.Reading.{contents}
 use Rattle.viewer_tracks.specs.declared.display.TheConstants.{ROWS, DEPTH}
 use Rattle.viewer_tracks.specs.declared.display.Track.{Track}

@@ -8,8 +8,8 @@ use Rattle.piece_ring.specs.declared.piece.Piece.{Piece}
 use Rattle.piece_ring.specs.Look.{default_look}
 use Rattle.piece_ring.specs.Flat.{flat, run}
 use Rattle.piece_ring.specs.Lengths.{length-run}
-use Rattle.piece_ring.specs.Offsets.{AreWithin, AreWithin-longer, run-AreWithin}
-use Rattle.piece_ring.specs.Text.{Text}
+use Rattle.piece_ring.specs.Offsets.{AreWithin-longer, run-AreWithin}
+use Rattle.piece_ring.specs.Text.{Text, AreWithin}
 use Rattle.readers_scanners.specs.Reading.{contents}
 use Rattle.event_bytes.specs.Bytes.{is_name}
 use Rattle.event_bytes.specs.declared.event.Event.TheVariants.{File}

@@ -24,7 +24,7 @@ use Rattle.desktop_definitions.specs.declared.reply.Reply.TheVariants.{Done, No}
 use Rattle.desktop_definitions.specs.Limits.{most_pattern, no_caret, no_selection, not_found, full}
 use Rattle.desktop_laws.specs.TableLaws.{length_seen_text}
 use Rattle.desktop_definitions.specs.Desktop.{Desktop, KeptDesktop, held}
-use Rattle.desktop_definitions.specs.Viewers.{main_of, newest, selected}
+use Rattle.desktop_definitions.specs.Viewers.{main_of, newest, selected, kept_main}
 use Rattle.desktop_definitions.specs.Needs.{needs, unless}
 use Rattle.desktop_definitions.specs.Change.{bytes_of, showing, caret_shown, put_at_caret}
 use Rattle.desktop_definitions.specs.Shown.{caret_position}
@@ -36,7 +36,7 @@ use Rattle.desktop_definitions.specs.Changed.{IsChanged, Counts}
 use Rattle.desktop_definitions.specs.Outcome.{IsAnswered}
 use Rattle.desktop_laws.specs.RowLaws.{has_space, rest_answered, fewer_answered, full_rest_answered, over_built}
 use Rattle.desktop_laws.specs.RowLaws.{unchanged, changed_as, changed_further}
-use Rattle.desktop_laws.specs.RowPartLaws.{kept_main, kept_main_seen, kept_caret, put_at_caret_counts}
+use Rattle.desktop_laws.specs.RowPartLaws.{kept_main_seen, kept_caret, put_at_caret_counts}
 use Rattle.desktop_laws.specs.KeyLaws.{row_as, main_there_seen}
 use Rattle.desktop_laws.specs.LookedLaws.{looks_stay, shape_stays}
 use Rattle.desktop_laws.specs.LookedLaws.{within_stays}

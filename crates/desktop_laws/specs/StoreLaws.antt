@@ -23,8 +23,7 @@ use Rattle.std.proofs.lemmas.Map.Views.{All-values-insert_entry}
 use Rattle.std.proofs.lemmas.Slice.Eq.{bytes_eq-Decides}
 use Rattle.piece_ring.specs.declared.piece.Piece.{Piece}
 use Rattle.piece_ring.specs.Flat.{flat}
-use Rattle.piece_ring.specs.Offsets.{AreWithin}
-use Rattle.piece_ring.specs.Text.{Text}
+use Rattle.piece_ring.specs.Text.{Text, AreWithin}
 use Rattle.event_bytes.specs.Bytes.{is_name}
 use Rattle.command_table.specs.Deciding.{is_among, are_distinct, can_be_deleted, most_names}
 use Rattle.command_table.specs.Parameters.{first_names}

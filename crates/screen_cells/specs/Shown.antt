@@ -1,7 +1,7 @@
 -- Viewers as they are handed in, and what a track shows in a row.
 use Rattle.std.specs.Prelude.{◌≤◌, ◌-◌, ◌==◌, ℕ, if◌then◌else◌, List, length}
 use Rattle.piece_ring.specs.Flat.{flat}
-use Rattle.piece_ring.specs.Offsets.{AreWithin}
+use Rattle.piece_ring.specs.Text.{AreWithin}
 use Rattle.readers_scanners.specs.Reading.{contents}
 use Rattle.text_frames.specs.Row.{ShownCell}
 use Rattle.screen_cells.specs.declared.shown.Shown.{Shown}

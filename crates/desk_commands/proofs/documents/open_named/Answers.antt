@@ -1,7 +1,7 @@
 use Rattle.std.specs.Prelude.{⊤}
 use Rattle.std.proofs.Common.{rules, ◌≡◌, ℕ, List, Ok, false, sym, ap, subst, ◌∙◌}
 use Rattle.std.proofs.lemmas.Result.{IfOk-weaker}
-use Rattle.piece_ring.specs.Offsets.{AreWithin}
+use Rattle.piece_ring.specs.Text.{AreWithin}
 use Rattle.desktop_definitions.specs.Change.{more_written}
 use Rattle.desktop_definitions.specs.Opening.{menu_line, opening, dropped}
 use Rattle.desktop_definitions.specs.Seen.{seen}
