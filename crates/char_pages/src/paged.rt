@@ -34,7 +34,8 @@ impl<'a, D: Disk> Paged<'a, D> {
 impl<'a, D: Disk> CharSource for Paged<'a, D> {
     ghost use Rattle.sector_disk.specs.Trail.{now};
     ghost use Rattle.char_pages.specs.Pages.{paged_characters};
-    ghost use Rattle.char_pages.specs.Ground.{OnSamePages, pages_self, pages_through};
+    ghost use Rattle.char_pages.specs.Ground.{OnSamePages};
+    ghost use Rattle.char_pages.specs.GroundLaws.{pages_self, pages_through};
 
     ghost characters = { λ s. paged_characters (now (D.trail s.disk.now)).reads s.pages.now };
 

@@ -22,8 +22,9 @@ use Rattle.desktop_definitions.specs.Opening.{new_id, new_number, with_new, with
 use Rattle.desktop_definitions.specs.Outcome.{IsAnswered}
 use Rattle.desktop_definitions.specs.Seen.{seen, seen_table}
 use Rattle.desktop_definitions.specs.Sound.{IsKeptWhole}
-use Rattle.desktop_laws.specs.OpeningDone.{CanOpen, opened_desk, written_opened}
-use Rattle.desktop_laws.specs.LeftLaws.{kept_left, still_shown, held_left, left_fewer}
+use Rattle.desktop_laws.specs.OpeningDone.{opened_desk, written_opened}
+use Rattle.desktop_laws.specs.DeskWords.{CanOpen, kept_left, still_shown}
+use Rattle.desktop_laws.specs.LeftLaws.{held_left, left_fewer}
 use Rattle.desktop_definitions.specs.Call.{text_called}
 use Rattle.desktop_definitions.specs.Viewers.{text_in, without_viewer, viewer_or_none}
 use Rattle.desktop_definitions.specs.Limits.{most_held}

@@ -20,7 +20,8 @@ use Rattle.desktop_definitions.specs.Outcome.{IsAnswered}
 use Rattle.desktop_definitions.specs.Seen.{seen, seen_text, seen_table}
 use Rattle.desktop_definitions.specs.Sound.{IsBuilt, IsOver}
 use Rattle.desktop_definitions.specs.Changed.{IsExtended, IsStanding}
-use Rattle.desktop_laws.specs.RowLaws.{has_space, over_built}
+use Rattle.desktop_laws.specs.RowLaws.{over_built}
+use Rattle.desktop_laws.specs.DeskWords.{has_space}
 use Rattle.desktop_laws.specs.RowPartLaws.{kept_main_seen, kept_main_long, text_within}
 use Rattle.desktop_laws.specs.LookedLaws.{kept_text_looks}
 use Rattle.desktop_laws.specs.StoreLaws.{storing_stands, storing_short, storing_answered}

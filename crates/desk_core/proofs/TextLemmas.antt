@@ -25,8 +25,8 @@ use Rattle.desktop_definitions.specs.Change.{followed, insertion, deletion, look
 use Rattle.desktop_definitions.specs.Seen.{seen, seen_text}
 use Rattle.desktop_definitions.specs.Sound.{IsBuilt}
 use Rattle.desktop_definitions.specs.Changed.{IsChanged}
-use Rattle.desktop_laws.specs.ShapeLaws.{CanFollow, AreMoved}
-use Rattle.desktop_laws.specs.EditLaws.{IsSet, set_there, set_long, set_orgs, set_within, set_changed}
+use Rattle.desktop_laws.specs.DeskWords.{CanFollow, AreMoved, IsSet}
+use Rattle.desktop_laws.specs.EditLaws.{set_there, set_long, set_orgs, set_within, set_changed}
 use Rattle.desktop_laws.specs.EditLaws.{insertion_seen, deletion_seen, looks_seen, looks_changed_so, unchanged}
 use Rattle.desktop_laws.specs.EditLaws.{insertion_none, caret_shown_changed}
 use Rattle.desktop_laws.specs.TextLaws.{long_seen, text_within}

@@ -19,7 +19,7 @@ pub use Rattle.desktop_definitions.specs.Seen.{seen, seen_table, seen_text}
 pub use Rattle.desktop_definitions.specs.Sound.{IsKeptWhole, IsBuilt, IsOver}
 pub use Rattle.desktop_definitions.specs.Changed.{IsChanged}
 pub use Rattle.desktop_definitions.specs.Opening.{dropped}
-pub use Rattle.desktop_laws.specs.ShapeLaws.{AreMoved, CanFollow}
+pub use Rattle.desktop_laws.specs.DeskWords.{AreMoved, CanFollow}
 pub use Rattle.desk_core.specs.Kept.{kept}
 pub use Rattle.desk_core.specs.Stops.{IsStop}
 pub use Rattle.desk_core.specs.Positions.{IsPosition, IsOpenAt, CanGo}

@@ -31,10 +31,7 @@ use Rattle.desktop_laws.specs.PlacedLaws.{seen_dropped, seen_anew, dropped_withi
 use Rattle.desktop_laws.specs.PlacedLaws.{anew_held, dropped_written, done, fits_within, at_columns, over_after}
 use Rattle.desktop_laws.specs.RowLaws.{known_no_viewer}
 use Rattle.desktop_laws.specs.LookedLaws.{looks_stay}
-
--- a viewer with its place, as a closed one
-abbrev pub place_closed : Columns → ℕ → ClosedViewer
-place_closed columns v = record { viewer = v; track = track_of columns v; top = placed_top columns v }
+use Rattle.desktop_laws.specs.DeskWords.{place_closed}
 
 -- ---- viewers that stand elsewhere
 

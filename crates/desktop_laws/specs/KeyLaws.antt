@@ -42,7 +42,8 @@ use Rattle.desktop_definitions.specs.Changed.{texts_shown, IsChanged, Counts}
 use Rattle.desktop_definitions.specs.Outcome.{reply_codes, IsAnswered}
 use Rattle.desktop_laws.specs.PlaceLaws.{on_top_placed}
 use Rattle.desktop_laws.specs.OutcomeLaws.{refused, seen_grown, length_in_look}
-use Rattle.desktop_laws.specs.RowLaws.{has_space, row_answered, rest_answered, changed_answered, full_answered}
+use Rattle.desktop_laws.specs.RowLaws.{row_answered, rest_answered, changed_answered, full_answered}
+use Rattle.desktop_laws.specs.DeskWords.{has_space}
 use Rattle.desktop_laws.specs.RowLaws.{full_rest_answered, over_built, changed_as, changed_under, changed_further}
 use Rattle.desktop_laws.specs.RowLaws.{main_seen, same_main, text_held}
 use Rattle.desktop_laws.specs.MarkLaws.{with_caret_changed, with_selection_changed, escaped_changed}

@@ -45,6 +45,7 @@ use Rattle.desktop_laws.specs.OpenedLaws.{opening_to, opening_on_is, opening_ove
 use Rattle.desktop_laws.specs.OpenedLaws.{covering_anew, seen_opening_to, opening_seen, text_built, new_kept}
 use Rattle.desktop_definitions.specs.Looks.{AreLooks}
 use Rattle.desktop_laws.specs.LookedLaws.{default_is_look, run_looks, seen_looks, written_shaped, within_stays}
+use Rattle.desktop_laws.specs.DeskWords.{CanOpen}
 
 -- ---- how many there are
 
@@ -82,12 +83,6 @@ new_fresh d whole placed =
     let none : times_there d.columns d.closed v ≡ 0
     = once ∙ (λ k. if is_some (unused_none d.viewers k) then 1 else 0) in
     absurd (omega (arith, none, placed))
-
--- A text more and a viewer more have numbers of 16 bits, and that viewer stands nowhere yet.
-pub record CanOpen (d : KeptDesktop) : Type 0 where
-  pub texts : length d.texts < 2 ^ 16
-  pub viewers : length d.viewers < 2 ^ 16
-  pub fresh : ¬ IsPlaced (new_id d) d.columns
 
 pub can_open : (d : KeptDesktop) → IsKeptWhole d → CanOpen d
 can_open d whole = record {

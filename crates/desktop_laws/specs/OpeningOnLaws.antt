@@ -58,6 +58,7 @@ use Rattle.desktop_laws.specs.OpeningDone.{written_answered, CanStand, IsOpening
 use Rattle.desktop_laws.specs.RowPartLaws.{kept_text_seen, text_within}
 use Rattle.desktop_definitions.specs.Looks.{AreLooks}
 use Rattle.desktop_laws.specs.LookedLaws.{found_looks, kept_text_looks, kept_files_looks}
+use Rattle.desktop_laws.specs.DeskWords.{IsPlaceOf}
 
 pub whole_built : (d : KeptDesktop) → IsKeptWhole d → IsBuilt d.written d
 whole_built d whole = record { within = whole.within; shaped = λ characters. (whole.sound characters).shaped }
@@ -195,14 +196,6 @@ module _ (t : List Entry) where
       and_false : (a b : Bool) → b ≡ false → a && b ≡ false
       and_false true b is = is
       and_false false b is = refl
-
--- where a viewer stands: its left column, the row at which it begins and the one before which it ends
-pub record IsPlaceOf (c : Columns) (v x bottom top : ℕ) : Type 0 where
-  pub left : x ≡ left_of (track_of c v)
-  pub begins : bottom ≡ placed_bottom c v
-  pub ends : top ≡ placed_top c v
-  pub some : bottom < top
-  pub within : top ≤ ROWS
 
 pub half_free : (c : Columns) (v x bottom top : ℕ) → IsColumns c → IsOnTop v c → IsPlaceOf c v x bottom top
     → ¬ (top - bottom ≡ 1) → replaced_at c x (bottom + (top - bottom) / 2) ≡ None

@@ -37,10 +37,7 @@ use Rattle.desktop_definitions.specs.Changed.{texts_shown, IsChanged, Counts}
 use Rattle.desktop_definitions.specs.Outcome.{reply_codes, IsAnswered}
 use Rattle.desktop_laws.specs.OutcomeLaws.{refused, acted, within_longer}
 use Rattle.desktop_laws.specs.LookedLaws.{written_shaped, within_stays}
-
--- Whether the limits on characters hold once so many are made, and so many more and so many fewer are held.
-unfoldable pub has_space : Desktop → ℕ → ℕ → ℕ → Bool
-has_space d made more fewer = nat_le (d.written + made) most_written && nat_le (held d + more) (most_held + fewer)
+use Rattle.desktop_laws.specs.DeskWords.{has_space}
 
 -- ---- the codes
 

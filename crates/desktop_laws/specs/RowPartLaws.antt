@@ -31,7 +31,8 @@ use Rattle.desktop_definitions.specs.Step.{settled}
 use Rattle.desktop_definitions.specs.Sound.{IsSelection, IsSound, IsWithin, IsBuilt, IsOver}
 use Rattle.desktop_definitions.specs.Changed.{IsChanged, Counts}
 use Rattle.desktop_definitions.specs.Outcome.{IsAnswered}
-use Rattle.desktop_laws.specs.RowLaws.{has_space, changed_as, changed_further, counts_then, rest_answered}
+use Rattle.desktop_laws.specs.RowLaws.{changed_as, changed_further, counts_then, rest_answered}
+use Rattle.desktop_laws.specs.DeskWords.{has_space}
 use Rattle.desktop_definitions.specs.Looks.{AreLooks}
 use Rattle.desktop_laws.specs.LookedLaws.{seen_looks, stretch_looks, kept_text_looks}
 use Rattle.desktop_laws.specs.LookedLaws.{kept_copied_looks, kept_deleted_looks}

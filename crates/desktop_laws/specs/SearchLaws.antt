@@ -34,7 +34,8 @@ use Rattle.desktop_definitions.specs.Step.{settled, Outcome}
 use Rattle.desktop_definitions.specs.Sound.{IsBuilt, IsOver}
 use Rattle.desktop_definitions.specs.Changed.{IsChanged, Counts}
 use Rattle.desktop_definitions.specs.Outcome.{IsAnswered}
-use Rattle.desktop_laws.specs.RowLaws.{has_space, rest_answered, fewer_answered, full_rest_answered, over_built}
+use Rattle.desktop_laws.specs.RowLaws.{rest_answered, fewer_answered, full_rest_answered, over_built}
+use Rattle.desktop_laws.specs.DeskWords.{has_space, start_in}
 use Rattle.desktop_laws.specs.RowLaws.{unchanged, changed_as, changed_further}
 use Rattle.desktop_laws.specs.RowPartLaws.{kept_main_seen, kept_caret, put_at_caret_counts}
 use Rattle.desktop_laws.specs.KeyLaws.{row_as, main_there_seen}
@@ -235,10 +236,6 @@ pattern_changed H characters d pattern built few = record {
 }
 
 -- ---- a search
-
--- where it starts
-abbrev pub start_in : ℕ → Option Caret → ℕ
-start_in v caret = unwrap_or (caret_position v caret) 0
 
 caret_within : (v long : ℕ) (c : Caret) (same : Bool) → (c.viewer == v) ≡ same → (c.viewer ≡ v → c.position ≤ long)
     → unwrap_or (if same then Some c.position else None) 0 ≤ long

@@ -109,7 +109,8 @@ use Rattle.desktop_laws.specs.OpenLaws.{unused_none}
 use Rattle.desktop_laws.specs.OpenedLaws.{at_cell, over, left_at, CanShow, text_more, opening_is, text_shaped, new_shown}
 use Rattle.desktop_laws.specs.OpeningDone.{opened_shaped}
 use Rattle.desktop_laws.specs.OpeningOnLaws.{log_can, viewer_can}
-use Rattle.desktop_laws.specs.ClosingLaws.{place_closed, closed_desktop, closed_columns, closed_before, put_away_is}
+use Rattle.desktop_laws.specs.ClosingLaws.{closed_desktop, closed_columns, closed_before, put_away_is}
+use Rattle.desktop_laws.specs.DeskWords.{place_closed}
 use Rattle.desktop_laws.specs.ClosingLaws.{closed_anew, restood, closed_nowhere, recalled_columns, replaced_by_closed}
 use Rattle.desktop_laws.specs.ClosingLaws.{brought_back_is, recalled_anew}
 use Rattle.desktop_laws.specs.EditLaws.{with_org_shaped, with_caret_shaped, with_selection_shaped, unselected_shaped}

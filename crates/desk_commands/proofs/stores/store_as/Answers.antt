@@ -3,7 +3,8 @@ use Rattle.std.proofs.Common.{rules, ◌≡◌, ◌∙◌, ◌+◌, length, [], 
 use Rattle.piece_ring.specs.Flat.{flat}
 use Rattle.desktop_definitions.specs.Viewers.{main_of, kept_main}
 use Rattle.desktop_definitions.specs.Seen.{seen}
-use Rattle.desktop_laws.specs.RowLaws.{has_space, space_written}
+use Rattle.desktop_laws.specs.RowLaws.{space_written}
+use Rattle.desktop_laws.specs.DeskWords.{has_space}
 use Rattle.desktop_laws.specs.RowPartLaws.{kept_main_long}
 use Rattle.desktop_laws.specs.KeyLaws.{main_small}
 use Rattle.desktop_laws.specs.StoreLaws.{files_small, storing_refused, storing_full}
