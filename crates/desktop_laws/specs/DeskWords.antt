@@ -1,5 +1,5 @@
 -- Words in which the code that does events speaks of a desktop, beside its definitions.
-use Rattle.std.specs.Prelude.{◌≡◌, ¬, ◌<◌, ◌≤◌, ℕ, ◌+◌, ◌^◌, ◌==◌, nat_le, Bool, true, false, not, ◌&&◌, ◌||◌}
+use Rattle.std.specs.Prelude.{◌≡◌, ◌<◌, ◌≤◌, ℕ, ◌+◌, ◌^◌, ◌==◌, nat_le, Bool, true, false, not, ◌&&◌, ◌||◌}
 use Rattle.std.specs.Prelude.{if◌then◌else◌, List, length, get_or, sum_by, Option, Some, None, option_map}
 use Rattle.std.specs.Option.{unwrap_or}
 use Rattle.std.specs.List.{list_any}
@@ -18,9 +18,10 @@ use Rattle.desktop_definitions.specs.declared.viewer.ClosedViewer.{ClosedViewer}
 use Rattle.desktop_definitions.specs.Limits.{most_written, most_held}
 use Rattle.desktop_definitions.specs.Tables.{Texts, Files, named}
 use Rattle.desktop_definitions.specs.Desktop.{Desktop, KeptDesktop, held}
-use Rattle.desktop_definitions.specs.Viewers.{caret_position, kept_main, newest, text_in}
+use Rattle.desktop_definitions.specs.Viewers.{kept_main, newest, text_in}
 use Rattle.desktop_definitions.specs.Call.{text_called, seen_at_marker}
 use Rattle.desktop_definitions.specs.Opening.{new_id}
+use Rattle.desktop_definitions.specs.Shown.{caret_position}
 use Rattle.command_table.specs.Deciding.{is_among}
 use Rattle.desktop_laws.specs.Rewriting.{kept_length}
 
