@@ -4,8 +4,8 @@ use Rattle.std.specs.Prelude.{◌≡◌, ◌≤◌, ℕ, ◌+◌, ◌==◌, Bool
 use Rattle.std.specs.Prelude.{if◌then◌else◌, Option, Some, None, option_map, Ok}
 use Rattle.std.proofs.Common.{refl, sym, ap, subst, ◌∙◌, arith}
 use Rattle.std.proofs.lemmas.Bool.{eqb-false, eq-eqb, ne_eqb}
-use Rattle.viewer_tracks.specs.Columns.{Columns, IsColumns, IsPlaced, IsOnTop, times_placed, times_meant, track_of}
-use Rattle.viewer_tracks.specs.Columns.{placed_top, after_close, after_open, replaced_at}
+use Rattle.viewer_tracks.specs.Columns.{Columns, IsColumns, IsPlaced, IsOnTop, times_placed, times_meant}
+use Rattle.viewer_tracks.specs.Columns.{after_close, after_open, replaced_at}
 use Rattle.viewer_tracks.proofs.PlacedLemmas.{open_shows, close_shows}
 use Rattle.viewer_tracks.specs.Display.{left_of}
 use Rattle.desktop_definitions.specs.declared.viewer.Caret.{Caret}

@@ -1,6 +1,6 @@
 -- Laws of the shape of a desktop: it stays where viewers show the same texts from other positions, and marks are fewer.
-use Rattle.std.specs.Prelude.{◌≡◌, ℕ, suc, ◌+◌, ◌<◌, ◌≤◌, ◌==◌, nat_lt, not, Bool, true, false, cond, ⊤, List, []}
-use Rattle.std.specs.Prelude.{◌∷◌, length, get_or, count_by, Option, Some, None, is_some, IsSome}
+use Rattle.std.specs.Prelude.{◌≡◌, ℕ, suc, ◌+◌, ◌≤◌, ◌==◌, nat_lt, not, Bool, true, false, cond, ⊤, List, []}
+use Rattle.std.specs.Prelude.{◌∷◌, length, count_by, Option, Some, None, is_some, IsSome}
 use Rattle.std.specs.Option.{unwrap_or, ForSome}
 use Rattle.std.specs.List.{AllByRecursion}
 use Rattle.std.specs.List.Sorted.{IsStrictlySortedBy}
