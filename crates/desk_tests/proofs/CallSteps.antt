@@ -217,7 +217,7 @@ with_four = record (placed (entry 2 5 ∷ entry 1 4 ∷ []) with_lists) {
 -- a click of the middle key in column x of a row
 abbrev pub called_at : Desktop → ℕ → ℕ × Effect → Case
 called_at d x row =
-    record { before = d; event = click Middle x row.0; after = (row.1 d).0; reply = (row.1 d).1 }
+    record { before = d; event = click Middle x row.0; after = (row.1 d).desktop; reply = (row.1 d).reply }
 
 -- clicks on the calls of these rows
 abbrev pub called : Desktop → List (ℕ × Effect) → List Case
@@ -226,7 +226,7 @@ called d rows = map (called_at d 52) rows
 -- each with its row, from this one down
 abbrev pub down : ℕ → List Effect → List (ℕ × Effect)
 down y [] = []
-down y (outcome ∷ rest) = (y, outcome) ∷ down (y - 1) rest
+down y (effect ∷ rest) = (y, effect) ∷ down (y - 1) rest
 
 -- each line is clicked, from row 30 down
 abbrev pub calls : List Case
@@ -246,9 +246,9 @@ abbrev pub menu_calls : List Case
 menu_calls =
     refused bare (Point Middle 3 6 1 6) no_command ∷
     done bare (Point Middle 3 6 7 6) (record (placed (entry 2 3 ∷ []) bare) { closed = closed 1 User 7 }) ∷
-    done bare (Point Middle 3 6 20 6) ((copies 6 3 (entry 2 3 ∷ entry 3 2 ∷ entry 1 2 ∷ []) bare).0) ∷
+    done bare (Point Middle 3 6 20 6) ((copies 6 3 (entry 2 3 ∷ entry 3 2 ∷ entry 1 2 ∷ []) bare).desktop) ∷
     refused bare (Point Middle 3 6 33 6) no_selection ∷
-    done bare (Point Middle 3 6 45 6) ((stores bare).0) ∷
+    done bare (Point Middle 3 6 45 6) ((stores bare).desktop) ∷
     []
 
 -- files go, are listed, and the log is stored as it was before the line that says so

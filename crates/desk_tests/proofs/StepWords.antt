@@ -141,7 +141,7 @@ abbrev pub replied : Case → Outcome
 replied c = step c.before c.event
 
 abbrev pub wanted : Case → Outcome
-wanted c = (c.after, c.reply)
+wanted c = outcome_of c.after c.reply
 
 -- the same in a version of the table of commands, and what is wanted in one that has no such word
 abbrev pub replied_in : ℕ → Case → Outcome
