@@ -70,7 +70,7 @@ class Trial:
 
     def sit(self, *words, rows=33, columns=80, before=()):
         sitting = self.begin(*before, self.desk, *words, rows=rows, columns=columns)
-        sitting.wait(lambda: sitting.terminal.frames > 0)
+        sitting.wait(lambda: sitting.terminal.scenes > 0)
         return sitting
 
     def sit_anew(self, before=()):
@@ -114,7 +114,7 @@ class Trial:
     def stored(self, sitting):
         """Has the document in the user track stored, leaves, and returns the document's text."""
         sitting.press(STORE)
-        self.check(sitting.look_anew(), 'no frame')
+        self.check(sitting.look_anew(), 'no scene')
         sitting.press(b'\x11')
         self.check(sitting.end() == 0, f'status {sitting.status}')
         words = [self.desk, 'export', self.path, 'A.Text']
@@ -172,7 +172,7 @@ def control_c(trial):
     for key in (b'\x03', b'\x1a', b'\x1c', b'\x04', b'\x13'):
         sitting.press(key)
     sitting.press(b'stillhere')
-    trial.check(sitting.look_anew(), 'no frame')
+    trial.check(sitting.look_anew(), 'no scene')
     trial.leaves(sitting)
     trial.kept('stillhere', 'stillhere')
 
@@ -237,7 +237,7 @@ def host_file(trial):
             file.write(text)
         sitting = trial.sit(trial.path)
         sitting.press(b'\x0fa text\r')
-        trial.check(sitting.look_anew(), 'no frame')
+        trial.check(sitting.look_anew(), 'no scene')
         kept = trial.stored(sitting)
         trial.check(kept == text, f'{len(kept)} of {count} bytes are kept of a file')
 
@@ -255,7 +255,7 @@ def no_host_file(trial):
         trial.check(sitting.wait(lambda: sitting.terminal.bells > bells, 5), f'{name[:9]}: no bell')
         trial.check(UNREAD in sitting.terminal.line(ROWS), f'{name[:9]}: {sitting.terminal.line(ROWS)!r}')
         sitting.press(b'a')
-        trial.check(sitting.look_anew(), 'no frame')
+        trial.check(sitting.look_anew(), 'no scene')
     trial.leaves(sitting)
     trial.kept('aaaaaa', 'aaaaaa')
 
@@ -271,9 +271,9 @@ def resized(trial):
     for rows, columns in ((24, 80), (12, 90), (50, 132), (33, 80)):
         sitting.resize(rows, columns)
         count = min(rows - 1, ROWS)
-        frame = [*wanted[:count], GREETING] + [''] * (rows - count - 1)
-        trial.check(sitting.wait(lambda: sitting.terminal.lines() == frame, 5), f'another screen in {rows} rows')
-        trial.check(sitting.look_anew() and sitting.wait(lambda: sitting.terminal.lines() == frame, 5),
+        scene = [*wanted[:count], GREETING] + [''] * (rows - count - 1)
+        trial.check(sitting.wait(lambda: sitting.terminal.lines() == scene, 5), f'another screen in {rows} rows')
+        trial.check(sitting.look_anew() and sitting.wait(lambda: sitting.terminal.lines() == scene, 5),
                     f'another one in {rows} rows when it is painted anew')
     trial.leaves(sitting)
 

@@ -103,10 +103,10 @@ def sit(seed, desk, oberon, folder, tool):
 
 
 def sat(sitting, model, rows, chance):
-    """From the first frame until the person has left."""
+    """From the first scene until the person has left."""
     terminal, wrong = sitting.terminal, []
-    if not sitting.wait(lambda: terminal.frames > 0):
-        return ['no frame came']
+    if not sitting.wait(lambda: terminal.scenes > 0):
+        return ['no scene came']
     if not MODES <= terminal.modes:
         wrong.append('the terminal was not set')
     is_whole = rows > ROWS
@@ -116,7 +116,7 @@ def sat(sitting, model, rows, chance):
     sitting.wait(lambda: characters(terminal.cells, model.rows) == wanted)
     sitting.rest(0.3)
     if not sitting.look_anew():
-        wrong.append('no frame came after the last press')
+        wrong.append('no scene came after the last press')
     wrong += compared(terminal, model, wanted)
     sitting.press(chance.choice([b'\x11', b'\x1b[21~']))
     if sitting.end() != 0:

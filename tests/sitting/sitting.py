@@ -90,7 +90,7 @@ class Sitting:
                 self.read(0)
 
     def hear(self, data):
-        """Has the bytes, 63 at most, be heard at one time, and waits for the frame after that. False where none
+        """Has the bytes, 63 at most, be heard at one time, and waits for the scene after that. False where none
         comes."""
         bells = self.terminal.bells
         self.press(data + b'\x01')
@@ -112,10 +112,10 @@ class Sitting:
             self.read(left)
         return True
 
-    def frame(self):
-        """Waits for the first frame after this moment."""
-        seen = self.terminal.frames
-        return self.wait(lambda: self.terminal.frames > seen)
+    def scene(self):
+        """Waits for the first scene after this moment."""
+        seen = self.terminal.scenes
+        return self.wait(lambda: self.terminal.scenes > seen)
 
     def rest(self, seconds):
         """Reads until nothing comes for a time."""
@@ -124,10 +124,10 @@ class Sitting:
 
     def look_anew(self):
         """Has the whole screen painted again. What was shown before that is the terminal's `before` then. False where
-        no such frame comes."""
+        no such scene comes."""
         wipes = self.terminal.wipes
         self.press(b'\x0c')
-        return self.wait(lambda: self.terminal.wipes > wipes and self.terminal.frames > self.terminal.wiped_in)
+        return self.wait(lambda: self.terminal.wipes > wipes and self.terminal.scenes > self.terminal.wiped_in)
 
     def resize(self, rows, columns):
         """Gives the window another size, which the host tells the script."""

@@ -16,7 +16,7 @@ class Terminal:
         self.modes = {25}
         self.pen = PLAIN
         self.row = self.column = 0
-        self.bells = self.frames = self.wipes = self.wiped_in = self.asked = 0
+        self.bells = self.scenes = self.wipes = self.wiped_in = self.asked = 0
         self.answers = []
         self.mistakes = []
         self.rest = b''
@@ -86,7 +86,7 @@ class Terminal:
             self.before = [list(row) for row in self.cells]
             self.cells = self.blank()
             self.wipes += 1
-            self.wiped_in = self.frames
+            self.wiped_in = self.scenes
         elif last == 'K' and not numbers and self.column < self.columns:
             self.cells[self.row][self.column:] = [(' ', self.pen)] * (self.columns - self.column)
         elif last == 'm':
@@ -101,7 +101,7 @@ class Terminal:
         for number in numbers:
             (self.modes.add if is_on else self.modes.discard)(number)
             if number == 2026 and not is_on:
-                self.frames += 1
+                self.scenes += 1
             elif number == 1049 and is_on:
                 self.main, self.cells = self.cells, self.blank()
             elif number == 1049:

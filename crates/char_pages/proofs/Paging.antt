@@ -15,9 +15,11 @@ use Rattle.char_file.specs.Source.{OnlyReads}
 use Rattle.char_pages.specs.declared.pages.Pages.{Pages}
 use Rattle.char_pages.specs.Cached.{AreTrue, AddsSector}
 use Rattle.char_pages.specs.Pages.{paged_characters, base_of, saved_of, rest_of, renewed_of, cached_of}
-use Rattle.char_pages.specs.Ground.{OnlyLooked, OnSamePages, none_more}
+use Rattle.char_pages.specs.Ground.{OnlyLooked, OnSamePages}
+use Rattle.char_pages.specs.GroundLaws.{none_more}
 use Rattle.char_pages.proofs.Caching.{true_with}
-use Rattle.sector_disk.specs.Stored.{stored, stored_at, stored_same, length-stored}
+use Rattle.sector_disk.specs.Stored.{stored}
+use Rattle.sector_disk.specs.StoredLaws.{stored_at, stored_same, length-stored}
 
 module _ (c : Content) (base saved : ℕ) (rest : List ℕ) where
   -- how many there are

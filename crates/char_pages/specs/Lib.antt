@@ -1,3 +1,4 @@
 pub mod Cached
 pub mod Pages
 pub mod Ground
+pub mod GroundLaws

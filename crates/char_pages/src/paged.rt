@@ -11,6 +11,7 @@ use sector_disk::{Disk, Fault};
 /// A source of which the first characters stand on a disk. It borrows the disk, which it only reads, and the pages, and
 /// its last call leaves both as they are found after it. It is honest exactly where the disk is, and what is in memory
 /// of an honest disk is what stands there.
+#[derive(Drop)]
 pub struct Paged<'a, D: Disk> {
     disk: &'a mut D,
     pages: &'a mut Pages,
@@ -23,32 +24,18 @@ impl<'a, D: Disk> Paged<'a, D> {
     pub fn over(disk: &'a mut D, pages: &'a mut Pages) -> Self
         requires on_disk { base_of pages.old + saved_sectors pages.old ≤ D.size disk.old }
         requires told { D.honest disk.old → AreTrue (now (D.trail disk.old)).reads (cached_of pages.old) }
-        ensures disk { result.disk.now ≡ disk.old }
-        ensures pages { result.pages.now ≡ pages.old }
-        ensures same_disk { result.disk.ghost_name ≡ disk.entry.ghost_name }
-        ensures same_pages { result.pages.ghost_name ≡ pages.entry.ghost_name }
+        ensures disk { result.disk ≡ disk.entry }
+        ensures pages { result.pages ≡ pages.entry }
     {
         Paged { disk, pages }
-    }
-}
-
-impl<D: Disk> Drop for Paged<'_, D> {
-    /// Gives disk and pages back. They still fit one another.
-    fn drop(self)
-        ensures disk { self.exit.0.now ≡ self.entry.disk.now }
-        ensures pages { self.exit.1.0.now ≡ self.entry.pages.now }
-        ensures on_disk { base_of self.exit.1.0.now + saved_sectors self.exit.1.0.now ≤ D.size self.exit.0.now }
-        ensures told { D.honest self.exit.0.now
-            → AreTrue (now (D.trail self.exit.0.now)).reads (cached_of self.exit.1.0.now) }
-    {
-        let Paged { disk: _, pages: _ } = self;
     }
 }
 
 impl<'a, D: Disk> CharSource for Paged<'a, D> {
     ghost use Rattle.sector_disk.specs.Trail.{now};
     ghost use Rattle.char_pages.specs.Pages.{paged_characters};
-    ghost use Rattle.char_pages.specs.Ground.{OnSamePages, pages_self, pages_through};
+    ghost use Rattle.char_pages.specs.Ground.{OnSamePages};
+    ghost use Rattle.char_pages.specs.GroundLaws.{pages_self, pages_through};
 
     ghost characters = { λ s. paged_characters (now (D.trail s.disk.now)).reads s.pages.now };
 

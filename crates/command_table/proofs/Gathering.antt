@@ -6,8 +6,7 @@ use Rattle.std.proofs.lemmas.Bool.Decides.{nat_tests}
 use Rattle.std.proofs.lemmas.List.{append-nil}
 use Rattle.char_file.specs.Source.{OnlyReads}
 use Rattle.char_file.proofs.Reading.{no_read, read_on}
-use Rattle.piece_ring.specs.Text.{Text}
-use Rattle.piece_ring.specs.Offsets.{AreWithin}
+use Rattle.piece_ring.specs.Text.{Text, AreWithin}
 use Rattle.readers_scanners.specs.Form.{symbol}
 use Rattle.readers_scanners.specs.Reading.{bytes, Reading}
 use Rattle.readers_scanners.specs.declared.symbol.Symbol.{Symbol}

@@ -7,8 +7,7 @@ use Rattle.std.specs.Result.{result_map_both}
 use Rattle.std.specs.Borrow.{Bor}
 use Rattle.piece_ring.specs.declared.piece.Piece.{Piece}
 use Rattle.piece_ring.specs.Flat.{flat}
-use Rattle.piece_ring.specs.Offsets.{AreWithin}
-use Rattle.piece_ring.specs.Text.{Text}
+use Rattle.piece_ring.specs.Text.{Text, AreWithin}
 use Rattle.readers_scanners.specs.Form.{symbol}
 use Rattle.readers_scanners.specs.Symbol.{IsShaped}
 use Rattle.readers_scanners.specs.declared.symbol.Symbol.{Symbol}

@@ -18,7 +18,7 @@ fn tell(rt: &HostRuntime, search: &Search) -> io::Result<()> {
         Some(wrong) => {
             println!(rt;
                 "wrong after {} images: seed {}, {}",
-                search.images, wrong.seed, wrong.scene
+                search.images, wrong.seed, wrong.trial
             )?;
             println!(rt; "stopped at call {}, with the fillings", wrong.stop)?;
             for (n, filling) in wrong.fillings.iter() {

@@ -13,9 +13,9 @@ mod images;
 mod random;
 mod reopening;
 mod rounds;
-mod scene;
 mod search;
 mod stores;
+mod trial;
 
 pub use rounds::searched;
 pub use search::{Search, Wrong};

@@ -1,9 +1,9 @@
 //! Rounds of the search: the stores of a round, and what is stopped over them.
 
 use crate::random::Random;
-use crate::scene::Scene;
 use crate::search::Search;
 use crate::stores::{after, aged, fresh};
+use crate::trial::Trial;
 use command_table::Version;
 use sector_disk::MemoryDisk;
 use std::alloc::{AllocError, Global};
@@ -141,8 +141,8 @@ fn posts(
     let mut disk = disk;
     for _ in 0..2 {
         let event = line(&mut search.random);
-        let scene = Scene::new(alloc, name, &disk, event, false)?;
-        search.try_scene(alloc, &scene)?;
+        let trial = Trial::new(alloc, name, &disk, event, false)?;
+        search.run_trial(alloc, &trial)?;
         disk = after(alloc, &disk, event)?;
     }
     Ok(disk)
@@ -155,8 +155,8 @@ fn checkpoint(
     disk: MemoryDisk,
     name: &'static str,
 ) -> Result<MemoryDisk, AllocError> {
-    let scene = Scene::new(alloc, name, &disk, CHECKPOINT, false)?;
-    search.try_scene(alloc, &scene)?;
+    let trial = Trial::new(alloc, name, &disk, CHECKPOINT, false)?;
+    search.run_trial(alloc, &trial)?;
     after(alloc, &disk, CHECKPOINT)
 }
 
@@ -174,8 +174,8 @@ fn full_journal(
     add_lines(&mut script, &mut search.random, JOURNAL)?;
     let full = after(alloc, &disk, &script)?;
     let event = line(&mut search.random);
-    let scene = Scene::new(alloc, name, &full, event, true)?;
-    search.try_scene(alloc, &scene)
+    let trial = Trial::new(alloc, name, &full, event, true)?;
+    search.run_trial(alloc, &trial)
 }
 
 /// A store that has all its events in the journal of slot 0.

@@ -3,8 +3,8 @@
 use crate::images::{counted, drawn, image, ways};
 use crate::random::Random;
 use crate::reopening::{Opening, opened, recovered};
-use crate::scene::Scene;
 use crate::stores::{calls_to_open, played, shown};
+use crate::trial::Trial;
 use sector_disk::{Fuse, MemoryDisk};
 use std::alloc::{AllocError, Global};
 
@@ -17,7 +17,7 @@ pub struct Wrong {
     /// The seed of its round.
     pub seed: u32,
     /// What was stopped.
-    pub scene: &'static str,
+    pub trial: &'static str,
     /// The number of the disk's call at which it was stopped.
     pub stop: u64,
     /// The pending sectors, each with the number of its filling.
@@ -42,7 +42,7 @@ pub struct Search {
 /// The stop at hand.
 #[derive(Clone, Copy)]
 struct Stop {
-    scene: &'static str,
+    trial: &'static str,
     call: u64,
     acknowledged: bool,
 }
@@ -52,11 +52,11 @@ fn is_answer(said: &[u8]) -> bool {
     said == b"ok\n".as_slice() || said.starts_with(b"no ")
 }
 
-/// Plays the line of a scene over a disk that fails after so many calls: the disk, and whether it was answered.
-fn stopped(alloc: Global, scene: &Scene, calls: u64) -> Result<(MemoryDisk, bool), AllocError> {
+/// Plays the line of a trial over a disk that fails after so many calls: the disk, and whether it was answered.
+fn stopped(alloc: Global, trial: &Trial, calls: u64) -> Result<(MemoryDisk, bool), AllocError> {
     let mut said = Vec::new(alloc);
-    let fuse = Fuse::new(scene.disk.crash(alloc, &[])?, calls);
-    let disk = played(alloc, fuse, &scene.line, &mut said).into_inner();
+    let fuse = Fuse::new(trial.disk.crash(alloc, &[])?, calls);
+    let disk = played(alloc, fuse, &trial.line, &mut said).into_inner();
     Ok((disk, is_answer(&said)))
 }
 
@@ -85,9 +85,9 @@ impl Search {
     }
 
     /// How many images are tried at one stop.
-    fn most(&self, scene: &Scene) -> u64 {
+    fn most(&self, trial: &Trial) -> u64 {
         let most = (self.wanted / 100).max(36).min(2_000);
-        if scene.is_long { most / 6 } else { most }
+        if trial.is_long { most / 6 } else { most }
     }
 
     /// Tries one image: opening it is stopped again and again, and what it shows in the end must be allowed.
@@ -96,19 +96,19 @@ impl Search {
         alloc: Global,
         disk: &mut MemoryDisk,
         fillings: Vec<(u32, u32)>,
-        scene: &Scene,
+        trial: &Trial,
         stop: Stop,
     ) -> Result<(), AllocError> {
         let left = image(alloc, disk, &fillings)?;
-        let again = recovered(alloc, left, scene.calls(), &mut self.random)?;
+        let again = recovered(alloc, left, trial.calls(), &mut self.random)?;
         self.images = self.images.saturating_add(1);
         self.second_stops = self.second_stops.saturating_add(again.stops);
         let shown = shown(alloc, again.disk);
-        let is_right = again.is_told && scene.views.allow(stop.acknowledged, &shown);
+        let is_right = again.is_told && trial.views.allow(stop.acknowledged, &shown);
         if !is_right && self.wrong.is_none() {
             self.wrong = Some(Wrong {
                 seed: self.seed,
-                scene: stop.scene,
+                trial: stop.trial,
                 stop: stop.call,
                 fillings,
             });
@@ -121,11 +121,11 @@ impl Search {
         &mut self,
         alloc: Global,
         disk: &mut MemoryDisk,
-        scene: &Scene,
+        trial: &Trial,
         stop: Stop,
     ) -> Result<(), AllocError> {
         let pending = disk.pending_sectors(alloc)?;
-        let most = self.most(scene);
+        let most = self.most(trial);
         let ways = ways(pending.len(), most);
         for choice in 0..ways.min(most) {
             let fillings = if ways <= most {
@@ -133,22 +133,22 @@ impl Search {
             } else {
                 drawn(alloc, &pending, &mut self.random)?
             };
-            self.try_image(alloc, disk, fillings, scene, stop)?;
+            self.try_image(alloc, disk, fillings, trial, stop)?;
         }
         Ok(())
     }
 
-    /// Stops the line of a scene at each call of the disk.
-    fn try_stops(&mut self, alloc: Global, scene: &Scene) -> Result<(), AllocError> {
-        let opening = calls_to_open(alloc, &scene.disk)?;
+    /// Stops the line of a trial at each call of the disk.
+    fn try_stops(&mut self, alloc: Global, trial: &Trial) -> Result<(), AllocError> {
+        let opening = calls_to_open(alloc, &trial.disk)?;
         for call in 0..MOST_CALLS {
-            let (mut disk, acknowledged) = stopped(alloc, scene, opening.saturating_add(call))?;
+            let (mut disk, acknowledged) = stopped(alloc, trial, opening.saturating_add(call))?;
             let stop = Stop {
-                scene: scene.name,
+                trial: trial.name,
                 call,
                 acknowledged,
             };
-            self.try_images(alloc, &mut disk, scene, stop)?;
+            self.try_images(alloc, &mut disk, trial, stop)?;
             if acknowledged {
                 break;
             }
@@ -156,24 +156,24 @@ impl Search {
         Ok(())
     }
 
-    /// Stops the line of a scene once, after a random number of calls, and then opening what is there: no crash comes
+    /// Stops the line of a trial once, after a random number of calls, and then opening what is there: no crash comes
     /// between the two, so that what was pending is it still.
-    fn try_opening(&mut self, alloc: Global, scene: &Scene) -> Result<(), AllocError> {
-        let opening = calls_to_open(alloc, &scene.disk)?;
+    fn try_opening(&mut self, alloc: Global, trial: &Trial) -> Result<(), AllocError> {
+        let opening = calls_to_open(alloc, &trial.disk)?;
         let calls = opening.saturating_add(self.random.below(12) as u64);
-        let (mut disk, acknowledged) = stopped(alloc, scene, calls)?;
+        let (mut disk, acknowledged) = stopped(alloc, trial, calls)?;
         for call in 0..MOST_CALLS {
-            if !scene.calls().have(call, &mut self.random) {
+            if !trial.calls().have(call, &mut self.random) {
                 continue;
             }
             let (next, opening) = opened(alloc, disk, call);
             disk = next;
             let stop = Stop {
-                scene: "opening after it was stopped",
+                trial: "opening after it was stopped",
                 call,
                 acknowledged,
             };
-            self.try_images(alloc, &mut disk, scene, stop)?;
+            self.try_images(alloc, &mut disk, trial, stop)?;
             if opening != Opening::Stopped {
                 break;
             }
@@ -181,12 +181,12 @@ impl Search {
         Ok(())
     }
 
-    /// Stops a scene, unless enough was tried.
-    pub(crate) fn try_scene(&mut self, alloc: Global, scene: &Scene) -> Result<(), AllocError> {
+    /// Stops a trial, unless enough was tried.
+    pub(crate) fn run_trial(&mut self, alloc: Global, trial: &Trial) -> Result<(), AllocError> {
         if self.is_done() {
             return Ok(());
         }
-        self.try_stops(alloc, scene)?;
-        self.try_opening(alloc, scene)
+        self.try_stops(alloc, trial)?;
+        self.try_opening(alloc, trial)
     }
 }

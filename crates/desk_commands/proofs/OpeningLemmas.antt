@@ -22,11 +22,13 @@ use Rattle.desktop_definitions.specs.Opening.{new_id, new_number, with_new, with
 use Rattle.desktop_definitions.specs.Outcome.{IsAnswered}
 use Rattle.desktop_definitions.specs.Seen.{seen, seen_table}
 use Rattle.desktop_definitions.specs.Sound.{IsKeptWhole}
-use Rattle.desktop_laws.specs.OpeningDone.{CanOpen, opened_desk, written_opened}
-use Rattle.desktop_laws.specs.LeftLaws.{kept_left, still_shown, held_left, left_fewer}
+use Rattle.desktop_laws.specs.OpeningDone.{opened_desk, written_opened}
+use Rattle.desktop_laws.specs.DeskWords.{CanOpen, kept_left, still_shown}
+use Rattle.desktop_laws.specs.LeftLaws.{held_left, left_fewer}
 use Rattle.desktop_definitions.specs.Call.{text_called}
 use Rattle.desktop_definitions.specs.Viewers.{text_in, without_viewer, viewer_or_none}
 use Rattle.desktop_definitions.specs.Limits.{most_held}
+use Rattle.desktop_definitions.specs.Step.{Outcome}
 
 -- ---- a loop that counts
 
@@ -122,7 +124,7 @@ same_name name other is = cc
 -- ---- what an opening leaves
 
 -- what is answered of a desktop is answered of one that equals it
-pub answered_there : {H : Type 0} {old new : List ℕ} {d x y : KeptDesktop} {outcome : Desktop × Reply} {reply : Reply}
+pub answered_there : {H : Type 0} {old new : List ℕ} {d x y : KeptDesktop} {outcome : Outcome} {reply : Reply}
     → y ≡ x → IsAnswered H old new d x outcome reply → IsAnswered H old new d y outcome reply
 answered_there {H = H} {old = old} {new = new} {d = d} {outcome = outcome} {reply = reply} is =
     subst (λ (z : KeptDesktop). IsAnswered H old new d z outcome reply) (sym is)

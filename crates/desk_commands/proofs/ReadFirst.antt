@@ -10,7 +10,7 @@ use Rattle.desktop_definitions.specs.declared.reply.Reply.{Reply}
 use Rattle.desktop_definitions.specs.declared.reply.Reply.TheVariants.{No}
 use Rattle.desktop_definitions.specs.Desktop.{Desktop, KeptDesktop}
 use Rattle.desktop_definitions.specs.Seen.{seen}
-use Rattle.desktop_definitions.specs.Step.{settled}
+use Rattle.desktop_definitions.specs.Step.{settled, outcome_of}
 use Rattle.desktop_definitions.specs.Sound.{IsOver}
 use Rattle.desktop_definitions.specs.Outcome.{reply_codes}
 use Rattle.desktop_laws.specs.OutcomeLaws.{refused}
@@ -52,11 +52,12 @@ module _ {S : Type 0} (s : Ghosts S) where
   unfolding settled
   refused_after effect code old mid d reads over known is =
       read_answered (s.honest old) (s.honest mid) (s.characters old) (s.characters mid) (s.characters mid) d d
-      (settled (seen (s.characters old) d) (effect (seen (s.characters old) d))) (seen (s.characters mid) d, No code)
+      (settled (seen (s.characters old) d) (effect (seen (s.characters old) d)))
+      (outcome_of (seen (s.characters mid) d) (No code))
       (No code) reads.still reads.as_long
-      (λ h. ap (λ (l : List ℕ). (seen l d, No code)) (reads.same h)
+      (λ h. ap (λ (l : List ℕ). outcome_of (seen l d) (No code)) (reads.same h)
       ∙ sym (ap (settled (seen (s.characters old) d)) (is h)))
-      (refused (s.honest mid) (s.characters mid) d (seen (s.characters mid) d, No code) code
+      (refused (s.honest mid) (s.characters mid) d (outcome_of (seen (s.characters mid) d) (No code)) code
       (over_after old mid d reads over) known (λ h. refl))
 
   module _ (ground_through : (a b c : S) → s.same_ground a b → s.same_ground b c → s.same_ground a c) where

@@ -17,7 +17,7 @@ use Rattle.char_file.specs.Source.{OnlyReads}
 use Rattle.char_file.proofs.Reading.{read_on}
 use Rattle.piece_ring.specs.Flat.{IsWhole, run, characters_of}
 use Rattle.piece_ring.specs.Lengths.{length-run}
-use Rattle.piece_ring.specs.Offsets.{AreWithin}
+use Rattle.piece_ring.specs.Text.{AreWithin}
 use Rattle.piece_ring.proofs.Runs.{run-append, length-flat-cons}
 use Rattle.readers_scanners.specs.Reading.{bytes}
 use Rattle.readers_scanners.proofs.Counting.{bytes-append, end_within}

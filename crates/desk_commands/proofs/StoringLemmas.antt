@@ -3,8 +3,7 @@ use Rattle.std.specs.Prelude.{◌≡◌, ℕ, ◌+◌, ◌≤◌, true, IsTrue, 
 use Rattle.std.proofs.Common.{ap, sym, subst, ◌∙◌}
 use Rattle.piece_ring.specs.declared.piece.Piece.{Piece}
 use Rattle.piece_ring.specs.Flat.{flat}
-use Rattle.piece_ring.specs.Offsets.{AreWithin}
-use Rattle.piece_ring.specs.Text.{Text}
+use Rattle.piece_ring.specs.Text.{Text, AreWithin}
 use Rattle.event_bytes.specs.Bytes.{is_name}
 use Rattle.readers_scanners.specs.Reading.{contents}
 use Rattle.desktop_definitions.specs.declared.reply.Reply.TheVariants.{Done}
@@ -12,7 +11,7 @@ use Rattle.desktop_definitions.specs.Limits.{most_held, too_many_files}
 use Rattle.desktop_definitions.specs.Needs.{unless}
 use Rattle.desktop_definitions.specs.Tables.{Files, put, has_room, lengths}
 use Rattle.desktop_definitions.specs.Desktop.{KeptDesktop, held}
-use Rattle.desktop_definitions.specs.Viewers.{viewer_or_none, main_of}
+use Rattle.desktop_definitions.specs.Viewers.{viewer_or_none, main_of, kept_main}
 use Rattle.desktop_definitions.specs.Effects.{storing_line, stored_as}
 use Rattle.desktop_definitions.specs.Log.{logged}
 use Rattle.desktop_definitions.specs.Looks.{AreLooks}
@@ -21,8 +20,9 @@ use Rattle.desktop_definitions.specs.Outcome.{IsAnswered}
 use Rattle.desktop_definitions.specs.Seen.{seen, seen_text, seen_table}
 use Rattle.desktop_definitions.specs.Sound.{IsBuilt, IsOver}
 use Rattle.desktop_definitions.specs.Changed.{IsExtended, IsStanding}
-use Rattle.desktop_laws.specs.RowLaws.{has_space, over_built}
-use Rattle.desktop_laws.specs.RowPartLaws.{kept_main, kept_main_seen, kept_main_long, text_within}
+use Rattle.desktop_laws.specs.RowLaws.{over_built}
+use Rattle.desktop_laws.specs.DeskWords.{has_space}
+use Rattle.desktop_laws.specs.RowPartLaws.{kept_main_seen, kept_main_long, text_within}
 use Rattle.desktop_laws.specs.LookedLaws.{kept_text_looks}
 use Rattle.desktop_laws.specs.StoreLaws.{storing_stands, storing_short, storing_answered}
 

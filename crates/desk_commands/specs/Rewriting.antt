@@ -6,9 +6,8 @@ use Rattle.sector_disk.specs.Faults.{FailsAs}
 use Rattle.char_file.specs.Source.{OnlyReads}
 use Rattle.char_file.specs.declared.source.CharSource.{Ghosts}
 use Rattle.piece_ring.specs.declared.piece.Piece.{Piece}
-use Rattle.piece_ring.specs.Text.{Text}
+use Rattle.piece_ring.specs.Text.{Text, AreWithin}
 use Rattle.piece_ring.specs.Flat.{flat}
-use Rattle.piece_ring.specs.Offsets.{AreWithin}
 use Rattle.readers_scanners.specs.Reading.{bytes}
 use Rattle.desktop_definitions.specs.Sound.{AllWithin}
 use Rattle.desktop_laws.specs.Rewriting.{kept_lengths, laid, laid_table, flats, bytes_in}

@@ -5,7 +5,7 @@ ghost use Rattle.viewer_tracks.specs.Columns.{allocated};
 ghost use Rattle.desktop_definitions.specs.Effects.{opened_on_copy, document_opened, file_opened, log_opened};
 ghost use Rattle.desktop_definitions.specs.Effects.{viewer_copied, viewer_grown};
 ghost use Rattle.desktop_definitions.specs.Gesture.{tool_opened};
-ghost use Rattle.desktop_laws.specs.OpeningOnLaws.{IsPlaceOf};
+ghost use Rattle.desktop_laws.specs.DeskWords.{IsPlaceOf};
 ghost use Rattle.desk_core.specs.Words.{flat, AreWithin, Text as AText, ROWS, COLUMNS, IsOnTop, most_written, dropped};
 ghost use Rattle.desk_core.specs.Words.{seen, seen_text, IsKeptWhole, IsOver, kept};
 ghost use Rattle.desk_core.specs.Words.{Does, DoesBringing};

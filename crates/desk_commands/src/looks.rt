@@ -1,5 +1,4 @@
-//! What commands set in looks: a selector (bit 0 the font, bit 1 the colour, bit 2 the vertical offset), and a look of
-//! which it takes a field.
+//! What commands set in looks.
 ghost use Rattle.std.specs.Prelude.{◌≡◌, Ok};
 ghost use Rattle.desktop_definitions.specs.Looks.{font_set, colour_set, offset_set, SetsLook};
 ghost use Rattle.desktop_definitions.specs.Effects.{look_set, selection_set};
@@ -9,12 +8,9 @@ ghost use Rattle.desk_commands.specs.Words.{bad_value};
 use char_file::CharSource;
 use desk_core::desk::Desk;
 use desk_core::stop::StepResult;
-use desktop_definitions::{COLOURS, FONTS, GREATEST_OFFSET, LEAST_OFFSET, Reply, codes};
+use desktop_definitions::{COLOURS, FONTS, GREATEST_OFFSET, LEAST_OFFSET, LookChange, Reply, codes};
 use event_bytes::Name;
 use piece_ring::{DEFAULT_LOOK, Look};
-
-/// A selector, and a look of which it takes a field. None where there is no such look.
-pub type LookChange = Option<(u8, Look)>;
 
 /// The names of the fonts, by their numbers.
 const FONT_NAMES: [&[u8]; FONTS as usize] = [
@@ -26,80 +22,80 @@ const FONT_NAMES: [&[u8]; FONTS as usize] = [
 ];
 
 /// The font of a name. None where there is no such font.
-pub fn font_set(name: &Name) -> LookChange
+pub fn font_set(name: &Name) -> Option<LookChange>
     ensures { result ≡ font_set name.now }
 {
     let name = name.as_bytes();
     let font = FONT_NAMES.iter().position(|font| name == *font)? as u8;
-    Some((
-        1,
-        Look {
+    Some(LookChange {
+        selector: 1,
+        look: Look {
             font,
             ..DEFAULT_LOOK
         },
-    ))
+    })
 }
 
 /// The colour of a number. None where there is no such colour.
-pub fn colour_set(number: i32) -> LookChange
+pub fn colour_set(number: i32) -> Option<LookChange>
     ensures { result ≡ colour_set number }
 {
     if number < 0 || number >= i32::from(COLOURS) {
         return None;
     }
-    Some((
-        2,
-        Look {
+    Some(LookChange {
+        selector: 2,
+        look: Look {
             colour: number as u8,
             ..DEFAULT_LOOK
         },
-    ))
+    })
 }
 
 /// That vertical offset. None where it is out of range.
-pub fn offset_set(number: i32) -> LookChange
+pub fn offset_set(number: i32) -> Option<LookChange>
     ensures { result ≡ offset_set number }
 {
     if number < i32::from(LEAST_OFFSET) || number > i32::from(GREATEST_OFFSET) {
         return None;
     }
-    Some((
-        4,
-        Look {
+    Some(LookChange {
+        selector: 4,
+        look: Look {
             voff: number as i8,
             ..DEFAULT_LOOK
         },
-    ))
+    })
 }
 
 /// What is typed gets a look, in the fields that are set. Refused where none are.
-pub fn set_look<S: CharSource>(desk: &mut Desk, new: LookChange, source: &mut S) -> StepResult
+pub fn set_look<S: CharSource>(desk: &mut Desk, new: Option<LookChange>, source: &mut S) -> StepResult
     requires sets { SetsLook new }
     requires over { IsOver (S.characters source.old) (kept desk.old) }
     ensures { Does S.CharSource (λ d. needs new bad_value λ set. Ok (look_set d set)) result
         source.old source.new (kept desk.old) (kept desk.new) }
 {
-    let Some((selector, look)) = new else {
+    let Some(change) = new else {
         return Ok(Reply::No(codes::BAD_VALUE));
     };
-    desk.look = desk.look.relooked(selector, look);
+    desk.look = desk.look.relooked(change.selector, change.look);
     Ok(Reply::Done)
 }
 
 /// The newest selection gets a look, in the fields that are set, and is the newest then too. Refused where none
 /// are, and without a selection. NoMemory where an allocation is refused.
-pub fn change_look<S: CharSource>(desk: &mut Desk, new: LookChange, source: &mut S) -> StepResult
+pub fn change_look<S: CharSource>(desk: &mut Desk, new: Option<LookChange>, source: &mut S) -> StepResult
     requires sets { SetsLook new }
     requires over { IsOver (S.characters source.old) (kept desk.old) }
     ensures { Does S.CharSource (λ d. needs new bad_value (selection_set d)) result
         source.old source.new (kept desk.old) (kept desk.new) }
 {
-    let Some((selector, look)) = new else {
+    let Some(change) = new else {
         return Ok(Reply::No(codes::BAD_VALUE));
     };
     let Some(selection) = desk.selection() else {
         return Ok(Reply::No(codes::NO_SELECTION));
     };
-    desk.set_looks(selection, selector, look)?;
+    desk.set_looks(selection, change.selector, change.look)?;
     Ok(Reply::Done)
 }

@@ -1,7 +1,7 @@
 //! A text is searched, and what was deleted or copied last is put in.
 ghost use Rattle.std.specs.Prelude.{◌≡◌, ◌+◌, ◌<◌, ◌≤◌, length, take, slice_range, IfOk, IfSome, Ok, if◌then◌else◌};
 ghost use Rattle.desktop_definitions.specs.Effects.{found_at, pattern_after, searched};
-ghost use Rattle.desktop_laws.specs.SearchLaws.{start_in};
+ghost use Rattle.desktop_laws.specs.DeskWords.{start_in};
 ghost use Rattle.desk_core.specs.Words.{CountsFault, OnlyReads, flat, AreWithin, bytes, needs, IsOver};
 ghost use Rattle.desk_core.specs.Words.{kept, Does, TellsAs};
 ghost use Rattle.desk_commands.specs.Calls.{IsViewerOnTop};

@@ -5,7 +5,7 @@ use Rattle.desktop_definitions.specs.declared.reply.Reply.{Reply}
 use Rattle.desktop_definitions.specs.declared.reply.Reply.TheVariants.{Done}
 use Rattle.desktop_definitions.specs.Desktop.{Desktop, KeptDesktop}
 use Rattle.desktop_definitions.specs.Seen.{seen}
-use Rattle.desktop_definitions.specs.Step.{settled}
+use Rattle.desktop_definitions.specs.Step.{settled, Outcome}
 use Rattle.desktop_definitions.specs.Sound.{IsOver}
 use Rattle.desktop_definitions.specs.Outcome.{IsAnswered}
 use Rattle.desk_core.specs.declared.stop.Stop.{Stop}
@@ -28,7 +28,7 @@ outcome_as H old new d after result same answered =
     same answered
 
 -- what is answered of a desktop is answered of one that equals it
-pub answered_there : {H : Type 0} {old new : List ℕ} {d x y : KeptDesktop} {outcome : Desktop × Reply} {reply : Reply}
+pub answered_there : {H : Type 0} {old new : List ℕ} {d x y : KeptDesktop} {outcome : Outcome} {reply : Reply}
     → y ≡ x → IsAnswered H old new d x outcome reply → IsAnswered H old new d y outcome reply
 answered_there {H = H} {old = old} {new = new} {d = d} {outcome = outcome} {reply = reply} is =
     subst (λ (z : KeptDesktop). IsAnswered H old new d z outcome reply) (sym is)

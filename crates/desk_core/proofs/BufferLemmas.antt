@@ -2,7 +2,7 @@
 use Rattle.std.specs.Prelude.{◌≡◌, ◌≤◌, ℕ, List, length}
 use Rattle.std.proofs.Common.{refl}
 use Rattle.piece_ring.specs.Flat.{flat}
-use Rattle.piece_ring.specs.Offsets.{AreWithin}
+use Rattle.piece_ring.specs.Text.{AreWithin}
 use Rattle.desktop_definitions.specs.Limits.{most_held}
 use Rattle.desktop_definitions.specs.Desktop.{KeptDesktop}
 use Rattle.desktop_definitions.specs.Looks.{AreLooks}

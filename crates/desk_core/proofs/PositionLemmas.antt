@@ -9,7 +9,7 @@ use Rattle.std.proofs.lemmas.Bool.{cases_lt}
 use Rattle.std.proofs.lemmas.Bool.Decides.{eqb_tells, nat_tests}
 use Rattle.piece_ring.specs.declared.piece.Piece.{Piece}
 use Rattle.piece_ring.specs.Flat.{flat}
-use Rattle.piece_ring.specs.Offsets.{AreWithin}
+use Rattle.piece_ring.specs.Text.{AreWithin}
 use Rattle.readers_scanners.specs.Reading.{bytes, contents}
 use Rattle.viewer_tracks.specs.Columns.{placed_top, StandsAt, IsPlaced, IsOnTop}
 use Rattle.text_frames.specs.Lines.{greatest, line_start}

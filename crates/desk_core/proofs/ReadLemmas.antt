@@ -9,7 +9,7 @@ use Rattle.desktop_definitions.specs.declared.reply.Reply.TheVariants.{Done}
 use Rattle.desktop_definitions.specs.Desktop.{Desktop, KeptDesktop}
 use Rattle.desktop_definitions.specs.Viewers.{text_in, viewer_or_none, with_org}
 use Rattle.desktop_definitions.specs.Seen.{seen}
-use Rattle.desktop_definitions.specs.Step.{settled}
+use Rattle.desktop_definitions.specs.Step.{settled, Outcome}
 use Rattle.desktop_definitions.specs.Sound.{IsOver}
 use Rattle.desktop_definitions.specs.Outcome.{IsAnswered, IsSameSource}
 use Rattle.desktop_laws.specs.RowLaws.{row_answered, fewer_answered, changed_as, over_built}
@@ -39,7 +39,7 @@ org_answered H old new d after v org outcome over low long same is exact =
     (changed_as outcome (with_org_changed H old d (over_built old d over) v org low) exact))
 
 -- an effect after what was read: its outcome is the same where that is honest
-pub read_answered : (H G : Type 0) (old mid new : List ℕ) (d after : KeptDesktop) (x y : Desktop × Reply)
+pub read_answered : (H G : Type 0) (old mid new : List ℕ) (d after : KeptDesktop) (x y : Outcome)
     (reply : Reply) → (H → G) → length mid ≡ length old → (H → y ≡ x) → IsAnswered G mid new d after y reply
     → IsAnswered H old new d after x reply
 read_answered H G old mid new d after x y reply so long same answered = record {

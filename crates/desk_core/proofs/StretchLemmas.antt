@@ -6,15 +6,15 @@ use Rattle.std.proofs.Common.{refl, sym, ap, subst, ◌∙◌, arith}
 use Rattle.sector_disk.specs.Faults.{OneOf}
 use Rattle.piece_ring.specs.declared.piece.Piece.{Piece}
 use Rattle.piece_ring.specs.Flat.{flat}
-use Rattle.piece_ring.specs.Offsets.{AreWithin, stretch-AreWithin}
-use Rattle.piece_ring.specs.Text.{stretch}
+use Rattle.piece_ring.specs.Offsets.{stretch-AreWithin}
+use Rattle.piece_ring.specs.Text.{stretch, AreWithin}
 use Rattle.readers_scanners.specs.Reading.{bytes}
 use Rattle.text_frames.specs.Cells.{cell_of}
 use Rattle.desktop_definitions.specs.declared.viewer.Selection.{Selection}
 use Rattle.desktop_definitions.specs.declared.reply.Reply.TheVariants.{No}
 use Rattle.desktop_definitions.specs.Desktop.{Desktop, KeptDesktop}
 use Rattle.desktop_definitions.specs.Tables.{numbered}
-use Rattle.desktop_definitions.specs.Viewers.{viewer_or_none, newest, with_selection, rows_of}
+use Rattle.desktop_definitions.specs.Viewers.{viewer_or_none, newest, with_selection, rows_of, kept_main}
 use Rattle.desktop_definitions.specs.Looks.{AreLooks}
 use Rattle.desktop_definitions.specs.Seen.{seen}
 use Rattle.desktop_definitions.specs.Step.{settled}
@@ -22,7 +22,7 @@ use Rattle.desktop_definitions.specs.Sound.{IsKeptWhole, IsBuilt, IsOver}
 use Rattle.desktop_definitions.specs.Outcome.{IsAnswered, reply_codes}
 use Rattle.desktop_laws.specs.RowLaws.{over_built, main_kept}
 use Rattle.desktop_laws.specs.MarkLaws.{with_selection_changed}
-use Rattle.desktop_laws.specs.RowPartLaws.{kept_main, kept_caret, kept_newest, copy_long, copy_looks, text_within}
+use Rattle.desktop_laws.specs.RowPartLaws.{kept_caret, kept_newest, copy_long, copy_looks, text_within}
 use Rattle.desktop_laws.specs.KeyLaws.{refusal_answered, main_small, copy_changed}
 use Rattle.desk_core.specs.Mouse.{position_in, start_of_row}
 use Rattle.desk_core.specs.Positions.{IsPosition, CanGo}

@@ -10,8 +10,8 @@ use Rattle.piece_ring.specs.declared.piece.Look.{Look}
 use Rattle.piece_ring.specs.declared.piece.Piece.{Piece}
 use Rattle.piece_ring.specs.Flat.{flat}
 use Rattle.piece_ring.specs.Lengths.{length-inserted, length-deleted, length-looks_changed}
-use Rattle.piece_ring.specs.Offsets.{AreWithin, inserted-AreWithin, deleted-AreWithin, looks_changed-AreWithin}
-use Rattle.piece_ring.specs.Text.{Text, inserted, deleted, looks_changed}
+use Rattle.piece_ring.specs.Offsets.{inserted-AreWithin, deleted-AreWithin, looks_changed-AreWithin}
+use Rattle.piece_ring.specs.Text.{Text, inserted, deleted, looks_changed, AreWithin}
 use Rattle.readers_scanners.specs.Reading.{bytes}
 use Rattle.viewer_tracks.specs.Columns.{IsPlaced, IsOnTop, times_placed, times_meant}
 use Rattle.desktop_definitions.specs.declared.viewer.Viewer.{Viewer}
@@ -25,8 +25,8 @@ use Rattle.desktop_definitions.specs.Change.{followed, insertion, deletion, look
 use Rattle.desktop_definitions.specs.Seen.{seen, seen_text}
 use Rattle.desktop_definitions.specs.Sound.{IsBuilt}
 use Rattle.desktop_definitions.specs.Changed.{IsChanged}
-use Rattle.desktop_laws.specs.ShapeLaws.{CanFollow, AreMoved}
-use Rattle.desktop_laws.specs.EditLaws.{IsSet, set_there, set_long, set_orgs, set_within, set_changed}
+use Rattle.desktop_laws.specs.DeskWords.{CanFollow, AreMoved, IsSet}
+use Rattle.desktop_laws.specs.EditLaws.{set_there, set_long, set_orgs, set_within, set_changed}
 use Rattle.desktop_laws.specs.EditLaws.{insertion_seen, deletion_seen, looks_seen, looks_changed_so, unchanged}
 use Rattle.desktop_laws.specs.EditLaws.{insertion_none, caret_shown_changed}
 use Rattle.desktop_laws.specs.TextLaws.{long_seen, text_within}

@@ -5,7 +5,7 @@ use Rattle.desktop_definitions.specs.declared.reply.Reply.TheVariants.{Done, No}
 use Rattle.desktop_definitions.specs.declared.reply.Reply.{Reply}
 use Rattle.desktop_definitions.specs.Desktop.{Desktop, KeptDesktop}
 use Rattle.desktop_definitions.specs.Seen.{seen}
-use Rattle.desktop_definitions.specs.Step.{settled}
+use Rattle.desktop_definitions.specs.Step.{settled, outcome_of}
 use Rattle.desktop_definitions.specs.Sound.{IsOver}
 use Rattle.desk_core.specs.declared.stop.Stop.{Stop}
 use Rattle.desk_core.specs.Doing.{SettlesUnread, SettlesBringing}
@@ -16,7 +16,7 @@ over_all over all long = record { counted = long; whole = over.whole }
 
 -- a refusal
 pub refusal_is : {x : Desktop} {effect : Result Desktop ℕ} {code : ℕ} → effect ≡ Err code
-    → (x, No code) ≡ settled x effect
+    → outcome_of x (No code) ≡ settled x effect
 unfolding settled
 refusal_is {x} is = sym (ap (settled x) is)
 
@@ -24,6 +24,6 @@ refusal_is {x} is = sym (ap (settled x) is)
 pub brings_none : (effect : Desktop → Result Desktop ℕ) (d after : KeptDesktop) (result : Result Reply Stop)
     → IfOk result (SettlesUnread effect d after) → IfOk result (SettlesBringing [] (λ all. effect (seen all d)) d after)
 brings_none effect d after (Ok Done) is = λ all long.
-    ap (λ (l : List ℕ). (seen l after, Done)) (append-nil all) ∙ is all long
+    ap (λ (l : List ℕ). outcome_of (seen l after) Done) (append-nil all) ∙ is all long
 brings_none effect d after (Ok (No code)) is = is
 brings_none effect d after (Err stop) is = tt

@@ -2,12 +2,12 @@
 use Rattle.std.specs.Prelude.{ℕ, List, length, ◌+◌, ◌<◌, ◌≤◌, ◌^◌}
 use Rattle.piece_ring.specs.declared.piece.Piece.{Piece}
 use Rattle.piece_ring.specs.Flat.{flat}
-use Rattle.piece_ring.specs.Offsets.{AreWithin}
+use Rattle.piece_ring.specs.Text.{AreWithin}
 use Rattle.viewer_tracks.specs.Columns.{IsOnTop}
 use Rattle.desktop_definitions.specs.Desktop.{KeptDesktop}
 use Rattle.desktop_definitions.specs.Looks.{AreLooks}
 use Rattle.desktop_definitions.specs.Sound.{IsBuilt}
-use Rattle.desktop_laws.specs.RowPartLaws.{kept_main}
+use Rattle.desktop_definitions.specs.Viewers.{kept_main}
 
 -- a position in the main text of a viewer in a track that is shown
 pub record IsPosition (d : KeptDesktop) (v p : ℕ) : Type 0 where

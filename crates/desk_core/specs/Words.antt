@@ -13,14 +13,13 @@ pub use Rattle.desktop_definitions.specs.Limits.{most_written, most_held, no_car
 pub use Rattle.desktop_definitions.specs.Needs.{needs, unless}
 pub use Rattle.desktop_definitions.specs.Tables.{numbered, lengths, with_values}
 pub use Rattle.desktop_definitions.specs.Viewers.{text_in, viewer_or_none, unmarked, caret_outside, selections_outside}
-pub use Rattle.desktop_definitions.specs.Viewers.{newest}
+pub use Rattle.desktop_definitions.specs.Viewers.{newest, kept_main}
 pub use Rattle.desktop_definitions.specs.Change.{followed}
 pub use Rattle.desktop_definitions.specs.Seen.{seen, seen_table, seen_text}
 pub use Rattle.desktop_definitions.specs.Sound.{IsKeptWhole, IsBuilt, IsOver}
 pub use Rattle.desktop_definitions.specs.Changed.{IsChanged}
 pub use Rattle.desktop_definitions.specs.Opening.{dropped}
-pub use Rattle.desktop_laws.specs.ShapeLaws.{AreMoved, CanFollow}
-pub use Rattle.desktop_laws.specs.RowPartLaws.{kept_main}
+pub use Rattle.desktop_laws.specs.DeskWords.{AreMoved, CanFollow}
 pub use Rattle.desk_core.specs.Kept.{kept}
 pub use Rattle.desk_core.specs.Stops.{IsStop}
 pub use Rattle.desk_core.specs.Positions.{IsPosition, IsOpenAt, CanGo}

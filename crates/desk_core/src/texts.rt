@@ -7,7 +7,7 @@ ghost use Rattle.piece_ring.specs.Text.{inserted, deleted, looks_changed};
 ghost use Rattle.desktop_definitions.specs.Looks.{IsLook, AreLooks};
 ghost use Rattle.desktop_definitions.specs.Viewers.{shows, rows_of};
 ghost use Rattle.desktop_definitions.specs.Change.{insertion, deletion, looks_set, showing, caret_shown};
-ghost use Rattle.desktop_laws.specs.EditLaws.{IsSet};
+ghost use Rattle.desktop_laws.specs.DeskWords.{IsSet};
 ghost use Rattle.desk_core.specs.Words.{stretch, with_values, followed, CanFollow, AreMoved, FailsAs, IsOnTop};
 ghost use Rattle.desk_core.specs.Words.{IsPlaced, CountsFault, OnlyReads, flat, AreWithin, bytes, numbered, text_in};
 ghost use Rattle.desk_core.specs.Words.{viewer_or_none, unmarked, seen, seen_text, IsBuilt, IsChanged, kept, IsStop};

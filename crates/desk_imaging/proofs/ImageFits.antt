@@ -19,9 +19,8 @@ use Rattle.piece_ring.specs.declared.piece.Look.{Look}
 use Rattle.piece_ring.specs.declared.piece.Piece.{Piece}
 use Rattle.piece_ring.specs.Flat.{flat, run, characters_of}
 use Rattle.piece_ring.specs.Lengths.{length-run}
-use Rattle.piece_ring.specs.Offsets.{AreWithin, run-AreWithin, append-AreWithin}
-use Rattle.piece_ring.specs.Renaming.{renamed}
-use Rattle.piece_ring.specs.Text.{Text}
+use Rattle.piece_ring.specs.Offsets.{run-AreWithin, append-AreWithin}
+use Rattle.piece_ring.specs.Text.{Text, AreWithin, renamed}
 use Rattle.viewer_tracks.specs.declared.display.TheConstants.{ROWS, DEPTH}
 use Rattle.viewer_tracks.specs.Viewers.{Entry, IsTrack}
 use Rattle.viewer_tracks.specs.Columns.{IsStack}

@@ -12,7 +12,7 @@ use Rattle.desk_journal.specs.Prefixes.{MeansPrefix}
 
 pub steps_both : (d : Desktop) (some more : List Event) → steps d (some ++ more) ≡ steps (steps d some) more
 steps_both d [] more = refl
-steps_both d (event ∷ some) more = steps_both (step d event).0 some more
+steps_both d (event ∷ some) more = steps_both (step d event).desktop some more
 
 -- all of the events are there, and none that was begun
 pub whole_prefix : (size : ℕ) (desktop : Desktop) (events begun : List Event) (c : Content)

@@ -113,9 +113,9 @@ module _ {D : Type 0} (d : Ghosts D) (event : Event) (old mid new : StoreView D)
   renewed_then second = λ usable honest.
       chained (weakened (first usable honest) (λ c means. inl means))
       (subst (λ n. LeavesOnly (d.trail mid.disk) (d.trail new.disk)
-      (MeansEither n old.desktop (step old.desktop event).0)) device.as_large
+      (MeansEither n old.desktop (step old.desktop event).desktop)) device.as_large
       (subst (λ desktop. LeavesOnly (d.trail mid.disk) (d.trail new.disk)
-      (MeansEither (d.size mid.disk) desktop (step desktop event).0)) (renewed.desktop honest)
+      (MeansEither (d.size mid.disk) desktop (step desktop event).desktop)) (renewed.desktop honest)
       (second renewed.usable (device.still honest))))
 
   pub renewed_starved : IsStarved d mid new → IsStarved d old new

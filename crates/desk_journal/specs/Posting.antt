@@ -7,7 +7,7 @@ use Rattle.event_bytes.specs.declared.event.Event.{Event}
 use Rattle.desktop_definitions.specs.declared.reply.Reply.{Reply}
 use Rattle.desktop_definitions.specs.declared.reply.Reply.TheVariants.{No}
 use Rattle.desktop_definitions.specs.Outcome.{IsReply}
-use Rattle.desktop_definitions.specs.Step.{step}
+use Rattle.desktop_definitions.specs.Step.{step, outcome_of}
 use Rattle.desktop_definitions.specs.Unread.{StepsUnread}
 use Rattle.desk_slots.specs.declared.error.Error.{Error}
 use Rattle.desk_slots.specs.declared.error.Error.TheVariants.{NoMemory, Fault, MustReopen, Worn}
@@ -62,12 +62,12 @@ module _ {D : Type 0} (d : Ghosts D) where
   abbrev pub LeavesEither : Event → StoreView D → StoreView D → Type 0
   LeavesEither event old new = old.must_reopen ≡ false → d.honest old.disk
       → LeavesOnly (d.trail old.disk) (d.trail new.disk)
-      (MeansEither (d.size old.disk) old.desktop (step old.desktop event).0)
+      (MeansEither (d.size old.disk) old.desktop (step old.desktop event).desktop)
 
   -- Ok: the event is acknowledged, whatever the reply
   pub record IsAcknowledged (event : Event) (reply : Reply) (old new : StoreView D) : Type 0 where
     -- the desktop and the reply are those of its step
-    pub stepped : d.honest old.disk → (new.desktop, reply) ≡ step old.desktop event
+    pub stepped : d.honest old.disk → outcome_of new.desktop reply ≡ step old.desktop event
     -- from now on a crash leaves that desktop
     pub durable : IsDurable d new
     -- the journal has one event more, or, where a checkpoint was due, is a new one with this event

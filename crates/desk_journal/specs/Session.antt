@@ -49,7 +49,7 @@ renewed s = record { desktop = s.desktop; layout = LAYOUT; epoch = s.epoch + 1; 
 -- an event is stepped, and stands in the journal, whatever its reply
 abbrev pub stepped : Session → Event → Session
 stepped s event = record {
-  desktop = (step s.desktop event).0;
+  desktop = (step s.desktop event).desktop;
   layout = s.layout;
   epoch = s.epoch;
   events = s.events + 1;

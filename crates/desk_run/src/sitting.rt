@@ -4,7 +4,7 @@ ghost use Rattle.std.specs.Prelude.{◌≡◌, false};
 use crate::endings::{kept, lost};
 use desk_journal::Store;
 use desk_keyboard::{DeskKeyboard, StandardInput};
-use desk_session::{Ending, Saying, serve};
+use desk_session::{Saying, SittingEnd, serve};
 use desk_stores::{Trouble, in_memory, make, opened};
 use host_files::{HostFault, lock_alone, lock_or_make};
 use sector_disk::Disk;
@@ -60,7 +60,7 @@ fn sit_at_made(rt: &HostRuntime, rows: u16, made: &str, path: &str) -> u8 {
 }
 
 /// Serves a person at the desktop of a store, in a terminal of so many rows.
-fn sit<D: Disk + Drop>(rt: &HostRuntime, rows: u16, store: Store<D>, greeting: Saying) -> Ending
+fn sit<D: Disk + Drop>(rt: &HostRuntime, rows: u16, store: Store<D>, greeting: Saying) -> SittingEnd
     requires { store.must_reopen ≡ false }
 {
     let mut store = store;

@@ -1,4 +1,3 @@
-pub mod Sending
 pub mod Surviving
 pub mod Turning
 pub mod Whole

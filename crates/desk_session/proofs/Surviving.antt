@@ -22,22 +22,22 @@ use Rattle.terminal_presses.specs.declared.action.Action.TheVariants as action
 use Rattle.terminal_presses.specs.declared.press.Press.{Press}
 use Rattle.terminal_presses.specs.Hands.{handled}
 use Rattle.desk_sitting.specs.declared.sitting.Sitting.{Sitting}
-use Rattle.desk_sitting.specs.Doing.{Breaks, Does, IsDone, desk_of, none as no_press, one_more as one_press}
-use Rattle.desk_sitting.specs.Sittings.{Desk, PressesAreSteps, accepted, accepted_of, after_press, after_presses}
+use Rattle.desk_sitting.specs.Doing.{Breaks, Does, IsDone, seat_of, none as no_press, one_more as one_press}
+use Rattle.desk_sitting.specs.Sittings.{Seat, PressesAreSteps, accepted, accepted_of, after_press, after_presses}
 use Rattle.desk_sitting.specs.Sittings.{click_at, posts}
-use Rattle.desk_session.specs.declared.ending.Ending.{Ending}
-use Rattle.desk_session.specs.declared.ending.Ending.TheVariants.{Left, Closed, Input, Output, Fault, Memory}
+use Rattle.desk_session.specs.declared.ending.SittingEnd.{SittingEnd}
+use Rattle.desk_session.specs.declared.ending.SittingEnd.TheVariants.{Left, Closed, Input, Output, Fault, Memory}
 use Rattle.desk_session.specs.Serving.{TurnState, IsLookedAt, Turns, IsRun, Broke, Stops, Ends, seen}
 use Rattle.desk_session.specs.Serving.{none as no_turn, one_more as one_more_turn}
 use Rattle.desk_session.specs.Serving.{left, closed, unheard, unseen, faulty, starved, faulty_press, starved_press}
 use Rattle.desk_session.specs.Serving.{stopped, too_long}
 use Rattle.desk_session.specs.Surviving.{Survives, GoesBy, SurvivesEnd}
-use Rattle.desk_session.specs.Surviving.{FramesSurvive, TurnsSurvive, EndsSurvive}
+use Rattle.desk_session.specs.Surviving.{ScenesSurvive, TurnsSurvive, EndsSurvive}
 use Rattle.desk_session.proofs.Turning.{same_device}
 
 -- ---- the events of presses
 
-accepted_more : (presses : List Press) (press : Press) (d : Desk)
+accepted_more : (presses : List Press) (press : Press) (d : Seat)
     → accepted (presses ++ press ∷ []) d ≡ accepted presses d ++ accepted_of press (after_presses presses d)
 accepted_more [] press d = append-nil (accepted_of press d)
 accepted_more (first ∷ presses) press d =
@@ -45,7 +45,7 @@ accepted_more (first ∷ presses) press d =
     ∙ sym (append_assoc (accepted_of first d) (accepted presses (after_press first d))
     (accepted_of press (after_presses presses (after_press first d))))
 
-after_more : (presses : List Press) (press : Press) (d : Desk)
+after_more : (presses : List Press) (press : Press) (d : Seat)
     → after_presses (presses ++ press ∷ []) d ≡ after_press press (after_presses presses d)
 after_more [] press d = refl
 after_more (first ∷ presses) press d = after_more presses press (after_press first d)
@@ -59,7 +59,7 @@ few_clicks : (place : Option (ℕ × ℕ)) → length (click_at place) ≤ 1
 few_clicks None = omega arith
 few_clicks (Some place) = omega arith
 
-few_posts : (a : Action) (d : Desk) → length (posts a d) ≤ 1
+few_posts : (a : Action) (d : Seat) → length (posts a d) ≤ 1
 few_posts action.Nothing d = omega arith
 few_posts (action.Post event) d = omega arith
 few_posts action.Ring d = omega arith
@@ -70,7 +70,7 @@ few_posts (action.Move page) d = omega arith
 few_posts (action.Step arrow) d = few_clicks _
 few_posts (action.Fit rows columns) d = omega arith
 
-few_accepted : (press : Press) (d : Desk) → length (accepted_of press d) ≤ 1
+few_accepted : (press : Press) (d : Seat) → length (accepted_of press d) ≤ 1
 few_accepted press d =
     let a : Action = (handled d.sitting.sight press d.sitting.hand).1 in
     none_or d.sitting.leaves (if is_worn d.session then [] else posts a d)
@@ -164,8 +164,8 @@ module _ {D : Type 0} (d : Ghosts D) where
     device = record { as_large = refl; still = λ honest. honest; already = λ honest. honest };
   }
 
-  pub frames_survive : FramesSurvive d
-  frames_survive hearing old new mid frame = look_survives old.store mid frame.looked
+  pub scenes_survive : ScenesSurvive d
+  scenes_survive hearing old new mid scene = look_survives old.store mid scene.looked
 
   -- a store that shows the desktop after some events, and meant it or the one before
   goes_by_either : (events : List Event) (old new : StoreView D)
@@ -195,44 +195,44 @@ module _ {D : Type 0} (d : Ghosts D) where
 
   -- what presses leave
   record Leads (presses : List Press) (s s' : Sitting) (old new : StoreView D) : Type 0 where
-    pub goes : GoesBy d (accepted presses (desk_of s old)) old new
-    pub desk : desk_of s' new ≡ after_presses presses (desk_of s old)
+    pub goes : GoesBy d (accepted presses (seat_of s old)) old new
+    pub seat : seat_of s' new ≡ after_presses presses (seat_of s old)
 
   module _ (law : PressesAreSteps) where
-    press_steps : (press : Press) (e : Desk)
+    press_steps : (press : Press) (e : Seat)
         → (after_press press e).session.desktop ≡ steps e.session.desktop (accepted_of press e)
     press_steps press e = law (press ∷ []) e ∙ ap (steps e.session.desktop) (append-nil (accepted_of press e))
 
     goes_by_press : (press : Press) (s s' : Sitting) (old new : StoreView D)
-        → IsDone d (after_press press (desk_of s old)) s' old new → d.honest new.disk
-        → GoesBy d (accepted_of press (desk_of s old)) old new
+        → IsDone d (after_press press (seat_of s old)) s' old new → d.honest new.disk
+        → GoesBy d (accepted_of press (seat_of s old)) old new
     goes_by_press press s s' old new done honest =
-        goes_by_either (accepted_of press (desk_of s old)) old new done.any_moment
-        (ap (λ (e : Desk). e.session.desktop) done.desk ∙ press_steps press (desk_of s old)) honest done.durable
+        goes_by_either (accepted_of press (seat_of s old)) old new done.any_moment
+        (ap (λ (e : Seat). e.session.desktop) done.seat ∙ press_steps press (seat_of s old)) honest done.durable
         done.device
 
     -- one press more
     leads_more : (presses : List Press) (press : Press) (s s' s'' : Sitting) (old mid new : StoreView D)
-        → Leads presses s s' old mid → IsDone d (after_press press (desk_of s' mid)) s'' mid new → d.honest mid.disk
+        → Leads presses s s' old mid → IsDone d (after_press press (seat_of s' mid)) s'' mid new → d.honest mid.disk
         → Leads (presses ++ press ∷ []) s s'' old new
     leads_more presses press s s' s'' old mid new before done honest =
-        let start : Desk = desk_of s old in
-        let goes : GoesBy d (accepted presses start ++ accepted_of press (desk_of s' mid)) old new =
-        goes_on (accepted presses start) (accepted_of press (desk_of s' mid)) old mid new before.goes
+        let start : Seat = seat_of s old in
+        let goes : GoesBy d (accepted presses start ++ accepted_of press (seat_of s' mid)) old new =
+        goes_on (accepted presses start) (accepted_of press (seat_of s' mid)) old mid new before.goes
         (goes_by_press press s' s'' mid new done (done.device.still honest)) in
         record {
           goes = subst (λ es. GoesBy d es old new)
-              (ap (λ e. accepted presses start ++ accepted_of press e) before.desk
+              (ap (λ e. accepted presses start ++ accepted_of press e) before.seat
               ∙ sym (accepted_more presses press start))
               goes;
-          desk = done.desk ∙ ap (after_press press) before.desk ∙ sym (after_more presses press start);
+          seat = done.seat ∙ ap (after_press press) before.seat ∙ sym (after_more presses press start);
         }
 
     leads : {presses : List Press} {s s' : Sitting} {old new : StoreView D} → Does d presses s s' old new
         → d.honest old.disk → IsDurable d old → Leads presses s s' old new
     leads (no_press {store = store}) honest durable = record {
       goes = goes_nowhere store honest durable;
-      desk = refl;
+      seat = refl;
     }
     leads (one_press {presses = presses} {s = s} {s' = s'} {s'' = s''} {old = old} {mid = mid} {new = new}
         press before done) honest durable =
@@ -242,14 +242,14 @@ module _ {D : Type 0} (d : Ghosts D) where
     -- presses of which the last one fails
     survives_break : (error : Error) (presses : List Press) (s : Sitting) (old new : StoreView D)
         → (breaks : Breaks d error presses s old new) → d.honest old.disk → IsDurable d old
-        → Survives d (accepted breaks.done (desk_of s old))
-        (accepted_of breaks.press (desk_of breaks.sitting breaks.mid)) old new
+        → Survives d (accepted breaks.done (seat_of s old))
+        (accepted_of breaks.press (seat_of breaks.sitting breaks.mid)) old new
     survives_break error presses s old new breaks honest durable =
         let first : Leads breaks.done s breaks.sitting old breaks.mid = leads breaks.does honest durable in
-        let at : Desk = desk_of breaks.sitting breaks.mid in
+        let at : Seat = seat_of breaks.sitting breaks.mid in
         let begun : List Event = accepted_of breaks.press at in
-        subst (λ es. Survives d es begun old new) (append-nil (accepted breaks.done (desk_of s old)))
-        (survives_on (accepted breaks.done (desk_of s old)) [] begun old breaks.mid new first.goes
+        subst (λ es. Survives d es begun old new) (append-nil (accepted breaks.done (seat_of s old)))
+        (survives_on (accepted breaks.done (seat_of s old)) [] begun old breaks.mid new first.goes
         (either_survives begun breaks.mid new
         (subst (λ e. LeavesOnly (d.trail breaks.mid.disk) (d.trail new.disk)
         (MeansEither (d.size breaks.mid.disk) breaks.mid.desktop e)) (press_steps breaks.press at)
@@ -258,11 +258,11 @@ module _ {D : Type 0} (d : Ghosts D) where
     -- for want of memory
     survives_starving : (presses : List Press) (s : Sitting) (old new : StoreView D)
         → (breaks : Breaks d NoMemory presses s old new) → d.honest old.disk → IsDurable d old
-        → Survives d (accepted breaks.done (desk_of s old)) [] old new
+        → Survives d (accepted breaks.done (seat_of s old)) [] old new
     survives_starving presses s old new breaks honest durable =
         let first : Leads breaks.done s breaks.sitting old breaks.mid = leads breaks.does honest durable in
-        subst (λ es. Survives d es [] old new) (append-nil (accepted breaks.done (desk_of s old)))
-        (survives_on (accepted breaks.done (desk_of s old)) [] [] old breaks.mid new first.goes
+        subst (λ es. Survives d es [] old new) (append-nil (accepted breaks.done (seat_of s old)))
+        (survives_on (accepted breaks.done (seat_of s old)) [] [] old breaks.mid new first.goes
         (same_survives breaks.mid new (breaks.undone.starved refl)))
 
     -- ---- turns
@@ -270,7 +270,7 @@ module _ {D : Type 0} (d : Ghosts D) where
     turn_goes : (events : List Event) (old new : TurnState D) → Turns d events old new → d.honest old.store.disk
         → IsDurable d old.store → GoesBy d events old.store new.store
     turn_goes events old new turn honest durable =
-        let looks : IsLookedAt d old.store turn.mid = turn.frame.looked in
+        let looks : IsLookedAt d old.store turn.mid = turn.scene.looked in
         let done : Leads _ (seen old) turn.sitting turn.mid new.store =
         leads turn.does (looks.disk.device.still honest) looks.durable in
         subst (λ es. GoesBy d es old.store new.store) (sym turn.are)
@@ -290,7 +290,7 @@ module _ {D : Type 0} (d : Ghosts D) where
 
     -- ---- the end
 
-    well_ended : (end : Ending) (events : List Event) (old new : StoreView D) → GoesBy d events old new
+    well_ended : (end : SittingEnd) (events : List Event) (old new : StoreView D) → GoesBy d events old new
         → SurvivesEnd d end events [] old new
     well_ended end events old new goes = record {
       survives = goes.survives;
@@ -299,19 +299,19 @@ module _ {D : Type 0} (d : Ghosts D) where
       goes_by = λ _ _. goes;
     }
 
-    -- a press that fails behind the frame
-    behind_frame : (events begun : List Event) (old mid new : StoreView D) → IsLookedAt d old mid → d.honest old.disk
+    -- a press that fails behind the scene
+    behind_scene : (events begun : List Event) (old mid new : StoreView D) → IsLookedAt d old mid → d.honest old.disk
         → IsDurable d old → Survives d events begun mid new → Survives d events begun old new
-    behind_frame events begun old mid new looks honest durable rest =
+    behind_scene events begun old mid new looks honest durable rest =
         survives_on [] events begun old mid new (goes_by_look old mid looks honest durable) rest
 
     faulty_survives : (events begun : List Event) (old new : TurnState D) → Broke d DiskFault events begun old new
         → d.honest old.store.disk → IsDurable d old.store → SurvivesEnd d Fault events begun old.store new.store
     faulty_survives events begun old new broke honest durable =
-        let looks : IsLookedAt d old.store broke.mid = broke.frame.looked in
-        let at : Desk = desk_of broke.breaks.sitting broke.breaks.mid in
+        let looks : IsLookedAt d old.store broke.mid = broke.scene.looked in
+        let at : Seat = seat_of broke.breaks.sitting broke.breaks.mid in
         record {
-          survives = behind_frame events begun old.store broke.mid new.store looks honest durable
+          survives = behind_scene events begun old.store broke.mid new.store looks honest durable
               (subst (λ es. Survives d events es broke.mid new.store) (sym broke.fails)
               (subst (λ es. Survives d es (accepted_of broke.breaks.press at) broke.mid new.store) (sym broke.are)
               (survives_break DiskFault _ (seen old) broke.mid new.store broke.breaks
@@ -324,9 +324,9 @@ module _ {D : Type 0} (d : Ghosts D) where
     starved_survives : (events begun : List Event) (old new : TurnState D) → Broke d NoMemory events begun old new
         → d.honest old.store.disk → IsDurable d old.store → SurvivesEnd d Memory events [] old.store new.store
     starved_survives events begun old new broke honest durable =
-        let looks : IsLookedAt d old.store broke.mid = broke.frame.looked in
+        let looks : IsLookedAt d old.store broke.mid = broke.scene.looked in
         record {
-          survives = behind_frame events [] old.store broke.mid new.store looks honest durable
+          survives = behind_scene events [] old.store broke.mid new.store looks honest durable
               (subst (λ es. Survives d es [] broke.mid new.store) (sym broke.are)
               (survives_starving _ (seen old) broke.mid new.store broke.breaks
               (looks.disk.device.still honest) looks.durable));
@@ -336,7 +336,7 @@ module _ {D : Type 0} (d : Ghosts D) where
         }
 
     -- in the turn in which the sitting ends
-    stop_survives : {end : Ending} {events begun : List Event} {old new : TurnState D}
+    stop_survives : {end : SittingEnd} {events begun : List Event} {old new : TurnState D}
         → Stops d end events begun old new
         → d.honest old.store.disk → IsDurable d old.store → SurvivesEnd d end events begun old.store new.store
     stop_survives (left {events = events} {old = old} {new = new} turn leaves) honest durable =
@@ -357,8 +357,9 @@ module _ {D : Type 0} (d : Ghosts D) where
         starved_survives events begun old new broke honest durable
 
     -- turns, and then the one in which the sitting ends
-    both_survive : (end : Ending) (events more begun : List Event) (old mid new : StoreView D) → GoesBy d events old mid
-        → SurvivesEnd d end more begun mid new → SurvivesEnd d end (events ++ more) begun old new
+    both_survive : (end : SittingEnd) (events more begun : List Event) (old mid new : StoreView D)
+        → GoesBy d events old mid → SurvivesEnd d end more begun mid new
+        → SurvivesEnd d end (events ++ more) begun old new
     both_survive end events more begun old mid new goes rest = record {
       survives = survives_on events more begun old mid new goes rest.survives;
       one = rest.one;
@@ -366,7 +367,7 @@ module _ {D : Type 0} (d : Ghosts D) where
       goes_by = λ no_fault no_want. goes_on events more old mid new goes (rest.goes_by no_fault no_want);
     }
 
-    end_survives : {end : Ending} {turns : ℕ} {more begun : List Event} {mid new : TurnState D}
+    end_survives : {end : SittingEnd} {turns : ℕ} {more begun : List Event} {mid new : TurnState D}
         → Ends d end turns more begun mid new → d.honest mid.store.disk → IsDurable d mid.store
         → SurvivesEnd d end more begun mid.store new.store
     end_survives (stopped stops) honest durable = stop_survives stops honest durable

@@ -20,18 +20,18 @@ use Rattle.desk_journal.specs.Looking.{OnlyLooks}
 use Rattle.desk_journal.specs.Session.{Session, session_of}
 use Rattle.desk_journal.specs.View.{StoreView, IsDurable}
 use Rattle.desk_sitting.specs.declared.sitting.Sitting.{Sitting}
-use Rattle.desk_sitting.specs.Doing.{Breaks, Does, OfPresses, desk_of}
+use Rattle.desk_sitting.specs.Doing.{Breaks, Does, OfPresses, seat_of}
 use Rattle.desk_sitting.specs.Sittings.{accepted, accepted_of, looked}
-use Rattle.desk_session.specs.declared.ending.Ending.{Ending}
-use Rattle.desk_session.specs.declared.ending.Ending.TheVariants.{Left, Closed, Input, Output, Fault, Memory}
+use Rattle.desk_session.specs.declared.ending.SittingEnd.{SittingEnd}
+use Rattle.desk_session.specs.declared.ending.SittingEnd.TheVariants.{Left, Closed, Input, Output, Fault, Memory}
 use Rattle.desk_session.specs.Endings.{end_of, end_of_keyboard}
-use Rattle.desk_session.specs.Frames.{IsPainted, IsShown, IsUnshown, after_frame, behind_it, known_by}
+use Rattle.desk_session.specs.Scenes.{IsPainted, IsShown, IsUnshown, after_scene, behind_it, known_by}
 use Rattle.desk_session.specs.Serving.{TurnState, IsBrought, IsLookedAt, IsHeard, IsDeaf, Broke}
 use Rattle.desk_session.specs.Serving.{HasTurned, HasStopped, TakesTurn, CountsEnding, IsUsableAt, screen_of, seen}
 use Rattle.desk_session.specs.Serving.{left, closed}
 use Rattle.desk_session.specs.Serving.{unheard, unseen, faulty, starved, faulty_press, starved_press}
 
--- ---- a frame
+-- ---- a scene
 
 module _ {D : Type 0} (d : Ghosts D) where
   -- what was only read leaves what it left
@@ -57,12 +57,12 @@ module _ {D : Type 0} (d : Ghosts D) where
         durable = still_durable old new looks.disk same durable;
       }
 
--- the output fails behind the frame
+-- the output fails behind the scene
 module _ (s s' : Sitting) (screen screen' : List (List Cell)) (known known' : List (List Face))
     (held between held' : Option (List ℕ)) {H : Type 0} where
-  pub cut_behind : {T : Type 0} (result : Result T Ending) → s' ≡ looked screen' s → (H → screen' ≡ screen)
+  pub cut_behind : {T : Type 0} (result : Result T SittingEnd) → s' ≡ looked screen' s → (H → screen' ≡ screen)
       → IsPainted s' screen' (known_by s.forgets known) known' held between
-      → OnErr result (AppendsFront between held' (after_frame s.rings s.asks))
+      → OnErr result (AppendsFront between held' (after_scene s.rings s.asks))
       → IfErr result (λ end. end ≡ Output) → IfErr result (λ end. H → IsUnshown end s screen known held held')
   cut_behind (Ok value) looks shows painted front is = tt
   cut_behind (Err end) looks shows painted front is = λ h.
@@ -107,7 +107,7 @@ module _ {D : Type 0} (d : Ghosts D) where
   }
 
   -- a turn in which the sitting ends
-  ended : {T : Type 0} (result : Result T Ending) (end : Ending) (old new : TurnState D) → result ≡ Err end
+  ended : {T : Type 0} (result : Result T SittingEnd) (end : SittingEnd) (old new : TurnState D) → result ≡ Err end
       → (d.honest old.store.disk → IsDurable d old.store → HasStopped d end old new) → IsUsableAt end new.store
       → CountsEnding end (d.failures old.store.disk) (d.failures new.store.disk)
       → IsSameDevice d old.store.disk new.store.disk → TakesTurn d result old new
@@ -121,8 +121,8 @@ module _ {D : Type 0} (d : Ghosts D) where
     device = device;
   })
 
-  -- the frame isn't shown
-  unshown_stops : (end : Ending) (old new : TurnState D) → IsLookedAt d old.store new.store → new.heard ≡ old.heard
+  -- the scene isn't shown
+  unshown_stops : (end : SittingEnd) (old new : TurnState D) → IsLookedAt d old.store new.store → new.heard ≡ old.heard
       → IsUnshown end old.sitting (screen_of old.store) old.known old.held new.held → HasStopped d end old new
   unshown_stops Left old new looks heard why = absurd why
   unshown_stops Closed old new looks heard why = absurd why
@@ -132,8 +132,8 @@ module _ {D : Type 0} (d : Ghosts D) where
   unshown_stops Memory old new looks heard why =
       ([], [], starved (record { looked = looks; held = why; heard = heard }))
 
-  pub unshown_ends : {T : Type 0} {old new : TurnState D} (result : Result T Ending) (end : Ending) → result ≡ Err end
-      → (d.honest old.store.disk → IsDurable d old.store → IsLookedAt d old.store new.store)
+  pub unshown_ends : {T : Type 0} {old new : TurnState D} (result : Result T SittingEnd) (end : SittingEnd)
+      → result ≡ Err end → (d.honest old.store.disk → IsDurable d old.store → IsLookedAt d old.store new.store)
       → (d.honest old.store.disk → IsUnshown end old.sitting (screen_of old.store) old.known old.held new.held)
       → new.heard ≡ old.heard → new.store.must_reopen ≡ false
       → CountsEnding end (d.failures old.store.disk) (d.failures new.store.disk)
@@ -147,7 +147,7 @@ module _ {D : Type 0} (d : Ghosts D) where
   deaf_stops keyboard.Closed old new deaf = ([], [], closed deaf)
   deaf_stops keyboard.Fault old new deaf = ([], [], unheard deaf)
 
-  pub deaf_ends : {T : Type 0} {old new : TurnState D} (result : Result T Ending) (why : KeyboardEnd)
+  pub deaf_ends : {T : Type 0} {old new : TurnState D} (result : Result T SittingEnd) (why : KeyboardEnd)
       → result ≡ Err (end_of_keyboard why)
       → (d.honest old.store.disk → IsDurable d old.store → IsLookedAt d old.store new.store)
       → (d.honest old.store.disk
@@ -163,25 +163,25 @@ module _ {D : Type 0} (d : Ghosts D) where
         heard = heard ∙ sym (append-nil old.heard);
       })) (λ _ _. usable) (calm_keyboard why (d.failures old.store.disk) (d.failures new.store.disk) calm)
 
-  -- a frame is shown, after which the store and the sitting are these, and this is heard
+  -- a scene is shown, after which the store and the sitting are these, and this is heard
   module _ {old new : TurnState D} (mid : StoreView D) (s : Sitting) (hearing : List Heard)
       (looks : d.honest old.store.disk → IsDurable d old.store → IsLookedAt d old.store mid)
       (sees : d.honest old.store.disk → s ≡ seen old)
       (shown : d.honest old.store.disk
       → IsShown old.sitting (screen_of old.store) old.known new.known old.held new.held)
       (heard : new.heard ≡ old.heard ++ hearing) where
-    frame : d.honest old.store.disk → IsDurable d old.store → IsHeard d hearing old mid new
-    frame honest durable = record { looked = looks honest durable; shown = shown honest; heard = heard }
+    scene : d.honest old.store.disk → IsDurable d old.store → IsHeard d hearing old mid new
+    scene honest durable = record { looked = looks honest durable; shown = shown honest; heard = heard }
 
     pub turned : (s' : Sitting) → new.parser ≡ parser_after old.parser hearing
         → (d.honest mid.disk → IsDurable d mid → Does d (pressed old.parser hearing) s s' mid new.store)
         → IsBrought s' new.sitting → d.honest old.store.disk → IsDurable d old.store → HasTurned d old new
     turned s' parser does brings honest durable = (
-      accepted (pressed old.parser hearing) (desk_of (seen old) mid),
+      accepted (pressed old.parser hearing) (seat_of (seen old) mid),
       record {
         hearing = hearing;
         mid = mid;
-        frame = frame honest durable;
+        scene = scene honest durable;
         parser = parser;
         sitting = s';
         does = subst (λ t. Does d (pressed old.parser hearing) t s' mid new.store) (sees honest)
@@ -199,12 +199,12 @@ module _ {D : Type 0} (d : Ghosts D) where
         let breaks : Breaks d error (pressed old.parser hearing) (seen old) mid new.store =
         subst (λ t. Breaks d error (pressed old.parser hearing) t mid new.store) (sees honest)
         (fails ((looks honest durable).disk.device.still honest) (looks honest durable).durable) in
-        let events : List Event = accepted breaks.done (desk_of (seen old) mid) in
-        let begun : List Event = accepted_of breaks.press (desk_of breaks.sitting breaks.mid) in
+        let events : List Event = accepted breaks.done (seat_of (seen old) mid) in
+        let begun : List Event = accepted_of breaks.press (seat_of breaks.sitting breaks.mid) in
         let broke : Broke d error events begun old new = record {
           hearing = hearing;
           mid = mid;
-          frame = frame honest durable;
+          scene = scene honest durable;
           breaks = breaks;
           are = refl;
           fails = refl;
@@ -216,7 +216,7 @@ module _ {D : Type 0} (d : Ghosts D) where
               (events, begun, faulty_press (subst (λ e. Broke d e events begun old new) is broke))
         ]
 
-    pub broken_ends : {T : Type 0} (result : Result T Ending) (error : Error) → result ≡ Err (end_of error)
+    pub broken_ends : {T : Type 0} (result : Result T SittingEnd) (error : Error) → result ≡ Err (end_of error)
         → (d.honest mid.disk → IsDurable d mid → Breaks d error (pressed old.parser hearing) s mid new.store)
         → d.failures mid.disk ≡ d.failures old.store.disk
         → FailsAs {T = T} DiskFault OfPresses (Err error) (d.failures mid.disk) (d.failures new.store.disk)

@@ -4,8 +4,8 @@ use Rattle.sector_disk.specs.declared.disk.Disk.{Ghosts}
 use Rattle.event_bytes.specs.declared.event.Event.{Event}
 use Rattle.desk_journal.specs.Device.{IsSameDevice}
 use Rattle.desk_journal.specs.View.{IsDurable}
-use Rattle.desk_session.specs.declared.ending.Ending.{Ending}
-use Rattle.desk_session.specs.declared.ending.Ending.TheVariants.{Input}
+use Rattle.desk_session.specs.declared.ending.SittingEnd.{SittingEnd}
+use Rattle.desk_session.specs.declared.ending.SittingEnd.TheVariants.{Input}
 use Rattle.desk_session.specs.declared.serving.TheConstants.{MOST_TURNS}
 use Rattle.desk_session.specs.Serving.{TurnState, IsRun, Ends, TakesTurn, HasStopped, none, one_more}
 use Rattle.desk_session.specs.Serving.{stopped, too_long}
@@ -54,8 +54,9 @@ module _ {D : Type 0} (d : Ghosts D) where
         device = same_device d first.store.disk place.store.disk new.store.disk come.device turn.device;
       }
 
-      sat_with : (end : Ending) (more begun : List Event) (last : TurnState D) → Ends d end count more begun place last
-          → d.honest first.store.disk → IsSat d end first last.store last.heard last.held
+      sat_with : (end : SittingEnd) (more begun : List Event) (last : TurnState D)
+          → Ends d end count more begun place last → d.honest first.store.disk
+          → IsSat d end first last.store last.heard last.held
       sat_with end more begun last why honest =
           let run : (events : List Event) × IsRun d first count events place = come.run honest in
           record {
@@ -77,7 +78,7 @@ module _ {D : Type 0} (d : Ghosts D) where
           }
 
       -- a turn in which the sitting ends
-      pub sat_to_end : {T : Type 0} {last : TurnState D} (end : Ending) → TakesTurn d {T = T} (Err end) place last
+      pub sat_to_end : {T : Type 0} {last : TurnState D} (end : SittingEnd) → TakesTurn d {T = T} (Err end) place last
           → d.honest first.store.disk → IsSat d end first last.store last.heard last.held
       sat_to_end {last = last} end turn honest =
           let why : HasStopped d end place last = turn.stops (come.device.still honest) (durable_there honest) in

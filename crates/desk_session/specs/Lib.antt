@@ -1,5 +1,5 @@
 pub mod Endings
-pub mod Frames
+pub mod Scenes
 pub mod Serving
 pub mod Surviving
 pub mod Sitting

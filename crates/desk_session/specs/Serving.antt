@@ -1,4 +1,4 @@
--- A sitting over a store, turn by turn: the frame is shown, something is heard, and what is pressed is done. `d` is
+-- A sitting over a store, turn by turn: the scene is shown, something is heard, and what is pressed is done. `d` is
 -- what is known of a disk.
 use Rattle.std.specs.Prelude.{◌≡◌, ◌≢◌, ◌<◌, ◌+◌, ℕ, Bool, true, false, List, [], ◌++◌, Option}
 use Rattle.std.specs.Prelude.{Result, MatchResult, OnOk, IfErr}
@@ -16,12 +16,12 @@ use Rattle.terminal_presses.specs.declared.press.Heard.{Heard}
 use Rattle.terminal_presses.specs.Presses.{at_rest, parser_after, pressed}
 use Rattle.desk_sitting.specs.declared.saying.Saying.{Saying}
 use Rattle.desk_sitting.specs.declared.sitting.Sitting.{Sitting}
-use Rattle.desk_sitting.specs.Doing.{Breaks, Does, desk_of}
+use Rattle.desk_sitting.specs.Doing.{Breaks, Does, seat_of}
 use Rattle.desk_sitting.specs.Sittings.{accepted, accepted_of, brought, looked, new_sitting}
-use Rattle.desk_session.specs.declared.ending.Ending.{Ending}
-use Rattle.desk_session.specs.declared.ending.Ending.TheVariants.{Left, Closed, Input, Output, Fault, Memory}
+use Rattle.desk_session.specs.declared.ending.SittingEnd.{SittingEnd}
+use Rattle.desk_session.specs.declared.ending.SittingEnd.TheVariants.{Left, Closed, Input, Output, Fault, Memory}
 use Rattle.desk_session.specs.declared.serving.TheConstants.{MOST_TURNS}
-use Rattle.desk_session.specs.Frames.{IsShown, IsCutShort}
+use Rattle.desk_session.specs.Scenes.{IsShown, IsCutShort}
 
 -- where a sitting stands between two turns: the parser, the sitting, the store, all that was heard so far, what is
 -- known of the terminal, and what the writer holds
@@ -37,7 +37,7 @@ pub record TurnState (D : Type 0) : Type 0 where
 abbrev pub screen_of : {D : Type 0} → StoreView D → List (List Cell)
 screen_of store = shown_screen store.desktop
 
--- the sitting after the frame was shown
+-- the sitting after the scene was shown
 abbrev pub seen : {D : Type 0} → TurnState D → Sitting
 seen p = looked (screen_of p.store) p.sitting
 
@@ -62,11 +62,11 @@ pub record IsBrought (old new : Sitting) : Type 0 where
   pub brings : new ≡ brought will_be_heard old
 
 -- where neither the disk nor the memory failed, the store needn't be opened again
-abbrev pub IsUsableAt : {D : Type 0} → Ending → StoreView D → Type 0
+abbrev pub IsUsableAt : {D : Type 0} → SittingEnd → StoreView D → Type 0
 IsUsableAt end store = end ≢ Fault → end ≢ Memory → store.must_reopen ≡ false
 
 -- the number of failures of the disk rose exactly where the sitting ended by its fault
-abbrev pub CountsEnding : Ending → ℕ → ℕ → Type 0
+abbrev pub CountsEnding : SittingEnd → ℕ → ℕ → Type 0
 CountsEnding Left failed failed' = failed' ≡ failed
 CountsEnding Closed failed failed' = failed' ≡ failed
 CountsEnding Input failed failed' = failed' ≡ failed
@@ -75,7 +75,7 @@ CountsEnding Fault failed failed' = failed < failed'
 CountsEnding Memory failed failed' = failed' ≡ failed
 
 -- and it stays where the sitting goes on
-abbrev pub CountsTurn : {T : Type 0} → Result T Ending → ℕ → ℕ → Type 0
+abbrev pub CountsTurn : {T : Type 0} → Result T SittingEnd → ℕ → ℕ → Type 0
 CountsTurn result failed failed' = MatchResult result (λ _. failed' ≡ failed) (λ end. CountsEnding end failed failed')
 
 module _ {D : Type 0} (d : Ghosts D) where
@@ -98,11 +98,11 @@ module _ {D : Type 0} (d : Ghosts D) where
   pub record Turns (events : List Event) (old new : TurnState D) : Type 0 where
     pub hearing : List Heard
     pub mid : StoreView D
-    pub frame : IsHeard hearing old mid new
+    pub scene : IsHeard hearing old mid new
     pub parser : new.parser ≡ parser_after old.parser hearing
     pub sitting : Sitting
     pub does : Does d (pressed old.parser hearing) (seen old) sitting mid new.store
-    pub are : events ≡ accepted (pressed old.parser hearing) (desk_of (seen old) mid)
+    pub are : events ≡ accepted (pressed old.parser hearing) (seat_of (seen old) mid)
     pub brings : IsBrought sitting new.sitting
 
   -- so many turns, one after another, in which these events are accepted, and after none of which the person has left
@@ -113,11 +113,11 @@ module _ {D : Type 0} (d : Ghosts D) where
 
   -- ---- how it ends
 
-  -- nothing is heard after the frame
+  -- nothing is heard after the scene
   abbrev pub IsDeaf : TurnState D → TurnState D → Type 0
   IsDeaf old new = IsHeard [] old new.store new
 
-  -- the output takes a front of what has the terminal show the frame
+  -- the output takes a front of what has the terminal show the scene
   pub record IsUnseen (old new : TurnState D) : Type 0 where
     pub looked : IsLookedAt old.store new.store
     pub cut : IsCutShort old.sitting (screen_of old.store) old.known old.held new.held
@@ -134,14 +134,14 @@ module _ {D : Type 0} (d : Ghosts D) where
   pub record Broke (error : Error) (events begun : List Event) (old new : TurnState D) : Type 0 where
     pub hearing : List Heard
     pub mid : StoreView D
-    pub frame : IsHeard hearing old mid new
+    pub scene : IsHeard hearing old mid new
     pub breaks : Breaks d error (pressed old.parser hearing) (seen old) mid new.store
-    pub are : events ≡ accepted breaks.done (desk_of (seen old) mid)
-    pub fails : begun ≡ accepted_of breaks.press (desk_of breaks.sitting breaks.mid)
+    pub are : events ≡ accepted breaks.done (seat_of (seen old) mid)
+    pub fails : begun ≡ accepted_of breaks.press (seat_of breaks.sitting breaks.mid)
 
   -- A sitting ends in a turn, in which these events are accepted. One more is begun where the disk fails in a press: it
   -- isn't acknowledged, and may be in an image or not. For want of memory it is in none.
-  pub data Stops : Ending → List Event → List Event → TurnState D → TurnState D → Type 0 where
+  pub data Stops : SittingEnd → List Event → List Event → TurnState D → TurnState D → Type 0 where
     left : {events : List Event} {old new : TurnState D} → Turns events old new → new.sitting.leaves ≡ true
         → Stops Left events [] old new
     closed : {old new : TurnState D} → IsDeaf old new → Stops Closed [] [] old new
@@ -158,17 +158,17 @@ module _ {D : Type 0} (d : Ghosts D) where
   abbrev pub HasTurned : TurnState D → TurnState D → Type 0
   HasTurned old new = (events : List Event) × Turns events old new
 
-  abbrev pub HasStopped : Ending → TurnState D → TurnState D → Type 0
+  abbrev pub HasStopped : SittingEnd → TurnState D → TurnState D → Type 0
   HasStopped end old new = (events : List Event) × (begun : List Event) × Stops end events begun old new
 
   -- It ends so after so many turns, or because there were as many as there may be.
-  pub data Ends : Ending → ℕ → List Event → List Event → TurnState D → TurnState D → Type 0 where
-    stopped : {end : Ending} {count : ℕ} {events begun : List Event} {old new : TurnState D}
+  pub data Ends : SittingEnd → ℕ → List Event → List Event → TurnState D → TurnState D → Type 0 where
+    stopped : {end : SittingEnd} {count : ℕ} {events begun : List Event} {old new : TurnState D}
         → Stops end events begun old new → Ends end count events begun old new
     too_long : {place : TurnState D} → Ends Input MOST_TURNS [] [] place place
 
   -- All that a turn promises that returns this.
-  pub record TakesTurn {T : Type 0} (result : Result T Ending) (old new : TurnState D) : Type 0 where
+  pub record TakesTurn {T : Type 0} (result : Result T SittingEnd) (old new : TurnState D) : Type 0 where
     pub goes_on : OnOk result (d.honest old.store.disk → IsDurable d old.store → HasTurned old new)
     pub stays : OnOk result (new.sitting.leaves ≡ false)
     pub stops : IfErr result (λ end. d.honest old.store.disk → IsDurable d old.store → HasStopped end old new)

@@ -4,12 +4,12 @@ use Rattle.sector_disk.specs.declared.disk.Disk.{Ghosts}
 use Rattle.event_bytes.specs.declared.event.Event.{Event}
 use Rattle.desk_journal.specs.View.{StoreView, IsDurable}
 use Rattle.terminal_presses.specs.declared.press.Heard.{Heard}
-use Rattle.desk_session.specs.declared.ending.Ending.{Ending}
+use Rattle.desk_session.specs.declared.ending.SittingEnd.{SittingEnd}
 use Rattle.desk_session.specs.Serving.{TurnState, IsRun, Ends}
 use Rattle.desk_session.specs.Surviving.{SurvivesEnd}
 
 -- From its first place a sitting came to this end, where this is the store, this was heard, and the writer holds this.
-pub record IsSat {D : Type 0} (d : Ghosts D) (end : Ending) (first : TurnState D) (store : StoreView D)
+pub record IsSat {D : Type 0} (d : Ghosts D) (end : SittingEnd) (first : TurnState D) (store : StoreView D)
     (heard : List Heard)
     (held : Option (List ℕ)) : Type 0 where
   pub durable : IsDurable d first.store

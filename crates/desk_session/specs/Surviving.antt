@@ -10,8 +10,8 @@ use Rattle.desk_journal.specs.Device.{IsSameDevice}
 use Rattle.desk_journal.specs.Prefixes.{MeansPrefix}
 use Rattle.desk_journal.specs.View.{StoreView, IsDurable}
 use Rattle.terminal_presses.specs.declared.press.Heard.{Heard}
-use Rattle.desk_session.specs.declared.ending.Ending.{Ending}
-use Rattle.desk_session.specs.declared.ending.Ending.TheVariants.{Fault, Memory}
+use Rattle.desk_session.specs.declared.ending.SittingEnd.{SittingEnd}
+use Rattle.desk_session.specs.declared.ending.SittingEnd.TheVariants.{Fault, Memory}
 use Rattle.desk_session.specs.Serving.{TurnState, IsHeard, IsRun, Ends}
 
 module _ {D : Type 0} (d : Ghosts D) where
@@ -32,7 +32,7 @@ module _ {D : Type 0} (d : Ghosts D) where
 
   -- What a crash leaves of a sitting that comes to this end. At most one event was begun, and none unless the disk
   -- failed. Where neither the disk nor the memory failed, the store went on by the events that were acknowledged.
-  pub record SurvivesEnd (end : Ending) (acknowledged begun : List Event) (old new : StoreView D) : Type 0 where
+  pub record SurvivesEnd (end : SittingEnd) (acknowledged begun : List Event) (old new : StoreView D) : Type 0 where
     pub survives : Survives acknowledged begun old new
     pub one : length begun ≤ 1
     pub none_begun : end ≢ Fault → begun ≡ []
@@ -45,15 +45,15 @@ module _ {D : Type 0} (d : Ghosts D) where
   TurnsSurvive = (count : ℕ) (events : List Event) (old new : TurnState D) → IsRun d old count events new
       → d.honest old.store.disk → IsDurable d old.store → GoesBy events old.store new.store
 
-  -- A frame: until the first press after it is done a crash leaves the desktop that is shown.
-  abbrev pub FramesSurvive : Type 0
-  FramesSurvive = (hearing : List Heard) (old new : TurnState D) (mid : StoreView D) → IsHeard d hearing old mid new
+  -- A scene: until the first press after it is done a crash leaves the desktop that is shown.
+  abbrev pub ScenesSurvive : Type 0
+  ScenesSurvive = (hearing : List Heard) (old new : TurnState D) (mid : StoreView D) → IsHeard d hearing old mid new
       → d.honest old.store.disk → IsDurable d old.store
       → LeavesOnly (d.trail old.store.disk) (d.trail mid.disk) (Means (d.size old.store.disk) old.store.desktop)
 
   -- The rest of the sitting: a crash leaves the desktop that is shown at the place, after a prefix of the events that
   -- are accepted from then on.
   abbrev pub EndsSurvive : Type 0
-  EndsSurvive = (end : Ending) (count turns : ℕ) (events more begun : List Event) (old mid new : TurnState D)
+  EndsSurvive = (end : SittingEnd) (count turns : ℕ) (events more begun : List Event) (old mid new : TurnState D)
       → IsRun d old count events mid → Ends d end turns more begun mid new
       → d.honest old.store.disk → IsDurable d old.store → SurvivesEnd end (events ++ more) begun old.store new.store

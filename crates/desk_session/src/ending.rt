@@ -1,7 +1,7 @@
 //! How a sitting ends.
 
 ghost use Rattle.std.specs.Prelude.{◌≡◌};
-ghost use Rattle.desk_session.specs.declared.ending.Ending.TheVariants.{Output as TakesNoMore};
+ghost use Rattle.desk_session.specs.declared.ending.SittingEnd.TheVariants.{Output as TakesNoMore};
 ghost use Rattle.desk_session.specs.Endings.{end_of, end_of_keyboard};
 
 use desk_journal::Error;
@@ -10,7 +10,7 @@ use terminal_painting::OutputFault;
 
 /// How a sitting came to its end.
 #[derive(Clone, Copy, Debug, PartialEq, Eq)]
-pub enum Ending {
+pub enum SittingEnd {
     /// The person left.
     Left,
     /// The keyboard told that nothing more comes.
@@ -25,35 +25,35 @@ pub enum Ending {
     Memory,
 }
 
-impl From<OutputFault> for Ending {
+impl From<OutputFault> for SittingEnd {
     ghost from_gives = { λ _ end. end ≡ TakesNoMore };
 
     /// A sitting ends by `Output` where the output takes no more.
-    fn from(_fault: OutputFault) -> Ending {
-        Ending::Output
+    fn from(_fault: OutputFault) -> SittingEnd {
+        SittingEnd::Output
     }
 }
 
-impl From<KeyboardEnd> for Ending {
+impl From<KeyboardEnd> for SittingEnd {
     ghost from_gives = { λ why end. end ≡ end_of_keyboard why };
 
     /// A sitting ends by `Closed` or by `Input` where the keyboard does.
-    fn from(why: KeyboardEnd) -> Ending {
+    fn from(why: KeyboardEnd) -> SittingEnd {
         match why {
-            KeyboardEnd::Closed => Ending::Closed,
-            KeyboardEnd::Fault => Ending::Input,
+            KeyboardEnd::Closed => SittingEnd::Closed,
+            KeyboardEnd::Fault => SittingEnd::Input,
         }
     }
 }
 
-impl From<Error> for Ending {
+impl From<Error> for SittingEnd {
     ghost from_gives = { λ error end. end ≡ end_of error };
 
     /// A sitting ends by `Memory` where the store is out of memory, and by `Fault` where it refuses otherwise.
-    fn from(error: Error) -> Ending {
+    fn from(error: Error) -> SittingEnd {
         match error {
-            Error::NoMemory => Ending::Memory,
-            _ => Ending::Fault,
+            Error::NoMemory => SittingEnd::Memory,
+            _ => SittingEnd::Fault,
         }
     }
 }

@@ -1,5 +1,5 @@
 //! What holds of all sittings.
-ghost use Rattle.desk_session.specs.Surviving.{EndsSurvive, FramesSurvive, TurnsSurvive};
+ghost use Rattle.desk_session.specs.Surviving.{EndsSurvive, ScenesSurvive, TurnsSurvive};
 
 use desk_sitting::presses_are_steps;
 use sector_disk::Disk;
@@ -8,7 +8,7 @@ use sector_disk::Disk;
 /// first of the events accepted since then: what was shown is never lost.
 pub fn sittings_survive<D: Disk>()
     ensures turns { TurnsSurvive D.Disk }
-    ensures frames { FramesSurvive D.Disk }
+    ensures scenes { ScenesSurvive D.Disk }
     ensures ends { EndsSurvive D.Disk }
 {
     presses_are_steps();

@@ -1,20 +1,19 @@
 //! A sitting over a store, turn by turn.
 ghost use Rattle.std.specs.Prelude.{◌≡◌, false, OnOk, OnErr, IfErr};
-ghost use Rattle.std.specs.Io.KnownBytes.{Appends};
-ghost use Rattle.output_bytes.specs.Sent.{AppendsFront};
+ghost use Rattle.output_bytes.specs.Sent.{Sends};
 ghost use Rattle.desk_journal.specs.Device.{IsSameDevice};
 ghost use Rattle.desk_journal.specs.View.{IsDurable};
 ghost use Rattle.desk_sitting.specs.Sayings.{line_of};
 ghost use Rattle.desk_sitting.specs.Sittings.{looked};
-ghost use Rattle.desk_session.specs.declared.ending.Ending.TheVariants.{Output as TakesNoMore};
-ghost use Rattle.terminal_painting.specs.Frame.{IsInSight};
-ghost use Rattle.desk_session.specs.Frames.{IsFrameOf, IsHalfPainted, IsPainted, IsShown, IsUnshown};
-ghost use Rattle.desk_session.specs.Frames.{after_frame, bell, known_by, request, size_request};
+ghost use Rattle.desk_session.specs.declared.ending.SittingEnd.TheVariants.{Output as TakesNoMore};
+ghost use Rattle.terminal_painting.specs.Scene.{IsInSight};
+ghost use Rattle.desk_session.specs.Scenes.{IsSceneOf, IsHalfPainted, IsPainted, IsShown, IsUnshown};
+ghost use Rattle.desk_session.specs.Scenes.{after_scene, bell, known_by, request, size_request};
 ghost use Rattle.desk_session.specs.Serving.{CountsEnding, CountsTurn, IsBrought, IsLookedAt, IsUsableAt};
 ghost use Rattle.desk_session.specs.Serving.{TakesTurn, first_place, place_of, screen_of};
 ghost use Rattle.desk_session.specs.Sitting.{IsSat};
 
-use crate::ending::Ending;
+use crate::ending::SittingEnd;
 use crate::laws::sittings_survive;
 use desk_journal::Store;
 use desk_sitting::{Saying, Sitting, do_presses};
@@ -24,7 +23,7 @@ use sector_disk::Disk;
 use std::alloc::Global;
 use std::io::Write;
 use terminal_keyboard::Keyboard;
-use terminal_painting::{Frame, Painter, ring};
+use terminal_painting::{Painter, Scene, ring};
 use terminal_presses::Parser;
 use viewer_tracks::ROWS;
 
@@ -37,7 +36,7 @@ const SIZE_REQUEST: [u8; 5] = [27, 91, 49, 56, 116];
 /// Serves the person at the keyboard: shows the screen in a terminal of `height` rows, and does what is pressed, until
 /// they leave or something fails. The line below begins with the greeting.
 ///
-/// Each event is acknowledged before the next frame is sent, so that no crash takes away what was shown. The store must
+/// Each event is acknowledged before the next scene is sent, so that no crash takes away what was shown. The store must
 /// be one that needn't be opened again. After `Left`, `Closed`, `Input` and `Output` it can be used on; after `Fault`
 /// and `Memory` it must be opened again where an event was posted.
 pub fn serve<K: Keyboard, W: Write, D: Disk>(
@@ -47,7 +46,7 @@ pub fn serve<K: Keyboard, W: Write, D: Disk>(
     store: &mut Store<D>,
     height: u16,
     greeting: Saying,
-) -> Ending
+) -> SittingEnd
     requires { store.old.must_reopen ≡ false }
     ensures sat { D.honest store.old.disk → IsSat D.Disk result
         (first_place height greeting store.old (K.heard keyboard.old) (W.contents writer.old))
@@ -76,7 +75,7 @@ pub fn serve<K: Keyboard, W: Write, D: Disk>(
             return end;
         }
     }
-    Ending::Input
+    SittingEnd::Input
 }
 
 /// One turn: the desktop is shown, something is heard, and what is pressed by it is done.
@@ -91,18 +90,18 @@ fn turn<K: Keyboard, W: Write, D: Disk>(
     keyboard: &mut K,
     writer: &mut W,
     store: &mut Store<D>,
-) -> Result<(), Ending>
+) -> Result<(), SittingEnd>
     requires { store.old.must_reopen ≡ false }
     ensures { TakesTurn D.Disk result
         (place_of parser.old sitting.old store.old (K.heard keyboard.old) painter.old (W.contents writer.old))
         (place_of parser.new sitting.new store.new (K.heard keyboard.new) painter.new (W.contents writer.new)) }
 {
-    show(alloc, sitting, painter, writer, store)?;
+    show(alloc, store, sitting, painter, writer)?;
     let hearing = keyboard.hear()?;
     do_presses(alloc, sitting, parser, hearing.as_slice(), store)?;
     bring(sitting, keyboard);
     if sitting.leaves {
-        Err(Ending::Left)
+        Err(SittingEnd::Left)
     } else {
         Ok(())
     }
@@ -125,11 +124,11 @@ fn bring<K: Keyboard>(sitting: &mut Sitting, keyboard: &mut K)
 /// Errors: `Fault` and `Memory`, and nothing was sent; `Output`, and a front may have been sent.
 fn show<W: Write, D: Disk>(
     alloc: Global,
+    store: &mut Store<D>,
     sitting: &mut Sitting,
     painter: &mut Painter,
     writer: &mut W,
-    store: &mut Store<D>,
-) -> Result<(), Ending>
+) -> Result<(), SittingEnd>
     requires { store.old.must_reopen ≡ false }
     ensures looks { D.honest store.old.disk → IsDurable D.Disk store.old → IsLookedAt D.Disk store.old store.new }
     ensures sitting { OnOk result (D.honest store.old.disk → sitting.new ≡ looked (screen_of store.old) sitting.old) }
@@ -149,7 +148,7 @@ fn show<W: Write, D: Disk>(
     follow(writer, rings, asks)
 }
 
-/// Paints the frame. Where it forgets, nothing is known of the terminal.
+/// Paints the scene. Where it forgets, nothing is known of the terminal.
 ///
 /// Error: `Output`, and a front may have been sent.
 fn paint<W: Write>(
@@ -158,7 +157,7 @@ fn paint<W: Write>(
     painter: &mut Painter,
     writer: &mut W,
     screen: &Screen,
-) -> Result<(), Ending>
+) -> Result<(), SittingEnd>
     ensures painted { OnOk result (IsPainted sitting.now screen.now (known_by forgets painter.old) painter.new
         (W.contents writer.old) (W.contents writer.new)) }
     ensures front { OnErr result (IsHalfPainted sitting.now screen.now (known_by forgets painter.old)
@@ -169,17 +168,17 @@ fn paint<W: Write>(
         painter.forget();
     }
     let line = sitting.line();
-    let frame = frame_of(sitting, screen, line.as_slice());
-    Ok(painter.paint(writer, &frame)?)
+    let scene = scene_of(sitting, screen, line.as_slice());
+    Ok(painter.paint(writer, &scene)?)
 }
 
 /// The rows of the screen that are in sight, and the sitting's line below them.
-fn frame_of<'a>(sitting: &Sitting, screen: &'a Screen, line: &'a [u8]) -> Frame<'a>
+fn scene_of<'a>(sitting: &Sitting, screen: &'a Screen, line: &'a [u8]) -> Scene<'a>
     requires { line.now ≡ line_of sitting.now.hand.asked sitting.now.hand.armed sitting.now.saying }
-    ensures frame { IsFrameOf sitting.now screen.now result }
+    ensures scene { IsSceneOf sitting.now screen.now result }
     ensures in_sight { IsInSight result }
 {
-    Frame {
+    Scene {
         screen: screen.rows(),
         first: ROWS - 1 - sitting.sight.top(),
         rows: sitting.sight.rows(),
@@ -187,13 +186,11 @@ fn frame_of<'a>(sitting: &Sitting, screen: &'a Screen, line: &'a [u8]) -> Frame<
     }
 }
 
-/// Sends what comes after the frame.
+/// Sends what comes after the scene.
 ///
 /// Error: `Output`, and a front may have been sent.
-fn follow<W: Write>(writer: &mut W, rings: bool, asks: bool) -> Result<(), Ending>
-    ensures sent { OnOk result (Appends (W.contents writer.old) (W.contents writer.new) (after_frame rings asks)) }
-    ensures front { OnErr result
-        (AppendsFront (W.contents writer.old) (W.contents writer.new) (after_frame rings asks)) }
+fn follow<W: Write>(writer: &mut W, rings: bool, asks: bool) -> Result<(), SittingEnd>
+    ensures sent { Sends result (W.contents writer.old) (W.contents writer.new) (after_scene rings asks) }
     ensures end { IfErr result (λ end. end ≡ TakesNoMore) }
 {
     ring_if(writer, rings)?;
@@ -202,24 +199,21 @@ fn follow<W: Write>(writer: &mut W, rings: bool, asks: bool) -> Result<(), Endin
 
 /// Rings the bell where that is to be.
 fn ring_if<W: Write>(writer: &mut W, rings: bool) -> Result<(), OutputFault>
-    ensures sent { OnOk result (Appends (W.contents writer.old) (W.contents writer.new) (bell rings)) }
-    ensures front { OnErr result (AppendsFront (W.contents writer.old) (W.contents writer.new) (bell rings)) }
+    ensures { Sends result (W.contents writer.old) (W.contents writer.new) (bell rings) }
 {
     if rings { ring(writer) } else { Ok(()) }
 }
 
 /// Asks the terminal for its size where that is to be.
 fn ask_if<W: Write>(writer: &mut W, asks: bool) -> Result<(), OutputFault>
-    ensures sent { OnOk result (Appends (W.contents writer.old) (W.contents writer.new) (request asks)) }
-    ensures front { OnErr result (AppendsFront (W.contents writer.old) (W.contents writer.new) (request asks)) }
+    ensures { Sends result (W.contents writer.old) (W.contents writer.new) (request asks) }
 {
     if asks { ask(writer) } else { Ok(()) }
 }
 
 /// Asks the terminal for its size.
 fn ask<W: Write>(writer: &mut W) -> Result<(), OutputFault>
-    ensures sent { OnOk result (Appends (W.contents writer.old) (W.contents writer.new) size_request) }
-    ensures front { OnErr result (AppendsFront (W.contents writer.old) (W.contents writer.new) size_request) }
+    ensures { Sends result (W.contents writer.old) (W.contents writer.new) size_request }
 {
     send(writer, &SIZE_REQUEST)?;
     flush(writer)

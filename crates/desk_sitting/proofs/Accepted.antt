@@ -18,7 +18,7 @@ use Rattle.terminal_presses.specs.declared.action.Action.TheVariants as action
 use Rattle.terminal_presses.specs.Hands.{handled}
 use Rattle.desk_sitting.specs.declared.sitting.Sitting.{Sitting}
 use Rattle.desk_sitting.specs.Aims.{aimed}
-use Rattle.desk_sitting.specs.Sittings.{Desk, acted, clicked, posted, after_press, click_at, posts}
+use Rattle.desk_sitting.specs.Sittings.{Seat, acted, clicked, posted, after_press, click_at, posts}
 use Rattle.desk_sitting.specs.Sittings.{accepted, accepted_of, PressesAreSteps}
 
 -- ---- one event
@@ -36,7 +36,7 @@ taken_steps s event =
       | inl worn ↦ ap (λ (t : Session). t.desktop) (cond-true (is_worn s) s next worn)
           ∙ sym (ap (steps s.desktop) (cond-true (is_worn s) [] (event ∷ []) worn))
       | inr room ↦ ap (λ (t : Session). t.desktop) (cond-false (is_worn s) s next room)
-          ∙ ap (λ d. (step d event).0) (either_way s (is_due s))
+          ∙ ap (λ d. (step d event).desktop) (either_way s (is_due s))
           ∙ sym (ap (steps s.desktop) (cond-false (is_worn s) [] (event ∷ []) room))
     ]
 
@@ -47,13 +47,13 @@ no_steps false d = refl
 
 -- ---- one press
 
-click_steps : (place : Option (ℕ × ℕ)) (d : Desk)
+click_steps : (place : Option (ℕ × ℕ)) (d : Seat)
     → (clicked place d).session.desktop ≡ steps d.session.desktop (if is_worn d.session then [] else click_at place)
 unfolding clicked posted
 click_steps None d = no_steps (is_worn d.session) d.session.desktop
 click_steps (Some place) d = taken_steps d.session (Point Left place.0 place.1 place.0 place.1)
 
-action_steps : (a : Action) (s : Sitting) (d : Desk) → (acted a (record d { sitting = s })).session.desktop
+action_steps : (a : Action) (s : Sitting) (d : Seat) → (acted a (record d { sitting = s })).session.desktop
     ≡ steps d.session.desktop (if is_worn d.session then [] else posts a d)
 unfolding acted posted
 action_steps action.Nothing s d = no_steps (is_worn d.session) d.session.desktop
@@ -67,7 +67,7 @@ action_steps (action.Step arrow) s d =
     click_steps (aimed arrow (shown_screen d.session.desktop)) (record d { sitting = s })
 action_steps (action.Fit rows columns) s d = no_steps (is_worn d.session) d.session.desktop
 
-press_steps : (press : Press) (d : Desk)
+press_steps : (press : Press) (d : Seat)
     → (after_press press d).session.desktop ≡ steps d.session.desktop (accepted_of press d)
 unfolding after_press
 press_steps press d =
@@ -75,9 +75,9 @@ press_steps press d =
     let with_hand = record d { sitting = record d.sitting { hand = made.0 } } in
     let events = if is_worn d.session then [] else posts made.1 d in
     elim (true_or_false d.sitting.leaves) [
-      | inl left ↦ ap (λ (t : Desk). t.session.desktop) (cond-true d.sitting.leaves d (acted made.1 with_hand) left)
+      | inl left ↦ ap (λ (t : Seat). t.session.desktop) (cond-true d.sitting.leaves d (acted made.1 with_hand) left)
           ∙ sym (ap (steps d.session.desktop) (cond-true d.sitting.leaves [] events left))
-      | inr here ↦ ap (λ (t : Desk). t.session.desktop) (cond-false d.sitting.leaves d (acted made.1 with_hand) here)
+      | inr here ↦ ap (λ (t : Seat). t.session.desktop) (cond-false d.sitting.leaves d (acted made.1 with_hand) here)
           ∙ action_steps made.1 with_hand.sitting d
           ∙ sym (ap (steps d.session.desktop) (cond-false d.sitting.leaves [] events here))
     ]

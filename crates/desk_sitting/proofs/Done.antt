@@ -15,7 +15,7 @@ use Rattle.terminal_presses.specs.Presses.{heard_by, in_order, parser_after, pre
 use Rattle.terminal_presses.proofs.Pieces.{parser_of_both, pressed_of_both}
 use Rattle.desk_sitting.specs.declared.sitting.Sitting.{Sitting}
 use Rattle.desk_sitting.specs.Sittings.{after_press}
-use Rattle.desk_sitting.specs.Doing.{desk_of, OfPresses, Takes, Does, none, one_more, Breaks, TakesAll}
+use Rattle.desk_sitting.specs.Doing.{seat_of, OfPresses, Takes, Does, none, one_more, Breaks, TakesAll}
 
 -- ---- one thing more is heard
 
@@ -95,7 +95,7 @@ module _ {D : Type 0} (d : Ghosts D) where
   }
 
   pub one_taken : {T : Type 0} (press : Press) (result : Result T Error) (s s' : Sitting) (old new : StoreView D)
-      → Takes d (after_press press (desk_of s old)) result s' old new → TakesAll d (press ∷ []) result s s' old new
+      → Takes d (after_press press (seat_of s old)) result s' old new → TakesAll d (press ∷ []) result s s' old new
   one_taken press result s s' old new takes = record {
     done = on_ok_weaker result (λ done honest durable. one_more press none (done honest durable)) takes.done;
     broke = IfErr-weaker result _ _ (λ error undone honest durable. record {

@@ -35,17 +35,17 @@ not_worn s none = false_from_ne_true (is_worn s) (λ worn. none (worn_parts s wo
 
 -- whether or not a checkpoint comes first, an event that is accepted is one step
 pub taken_steps : (s : Session) (event : Event) → is_worn s ≡ false
-    → (taken s event).desktop ≡ (step s.desktop event).0
+    → (taken s event).desktop ≡ (step s.desktop event).desktop
 taken_steps s event room = ap (λ (t : Session). t.desktop)
     (cond-false (is_worn s) s (stepped (if is_due s then renewed s else s) event) room)
-    ∙ ap (λ (d : Desktop). (step d event).0) (either_way (is_due s))
+    ∙ ap (λ (d : Desktop). (step d event).desktop) (either_way (is_due s))
   where
     either_way : (b : Bool) → (if b then renewed s else s).desktop ≡ s.desktop
     either_way true = refl
     either_way false = refl
 
 -- the store says this of its session after a post
-pub is_taken : (s now : Session) (event : Event) → is_worn s ≡ false → now.desktop ≡ (step s.desktop event).0
+pub is_taken : (s now : Session) (event : Event) → is_worn s ≡ false → now.desktop ≡ (step s.desktop event).desktop
     → (HasRoomIn s → (now.epoch ≡ s.epoch) × (now.events ≡ s.events + 1))
     → (IsDue s → (now.epoch ≡ s.epoch + 1) × (now.events ≡ 1)) → now.layout ≡ LAYOUT → now ≡ taken s event
 is_taken s now event room desktop more anew layout = elim (due_or_room s) [

@@ -12,7 +12,7 @@ use Rattle.screen_pictures.specs.declared.cell.Cell.{Cell}
 use Rattle.desktop_definitions.specs.Desktop.{Desktop}
 use Rattle.desktop_definitions.specs.declared.reply.Reply.{Reply}
 use Rattle.desktop_definitions.specs.Shown.{shown_screen}
-use Rattle.desktop_definitions.specs.Step.{step}
+use Rattle.desktop_definitions.specs.Step.{step, Outcome}
 use Rattle.store_layout.specs.Meaning.{Means, MeansEither, Shows}
 use Rattle.desk_journal.specs.Device.{IsSameDevice}
 use Rattle.desk_journal.specs.Errors.{Error, NoMemory, Fault, MustReopen, Worn, OfPost, OfLook}
@@ -30,35 +30,35 @@ use Rattle.terminal_presses.specs.Hands.{handled}
 use Rattle.desk_sitting.specs.declared.saying.Saying.TheVariants as saying
 use Rattle.desk_sitting.specs.declared.sitting.Sitting.{Sitting}
 use Rattle.desk_sitting.specs.Aims.{aimed}
-use Rattle.desk_sitting.specs.Doing.{OfPresses, Takes, desk_of}
-use Rattle.desk_sitting.specs.Sittings.{Desk, acted, after_press, clicked, posted, refused, replied}
+use Rattle.desk_sitting.specs.Doing.{OfPresses, Takes, seat_of}
+use Rattle.desk_sitting.specs.Sittings.{Seat, acted, after_press, clicked, posted, refused, replied}
 use Rattle.desk_sitting.proofs.Sessions.{session_parts, is_it_worn, not_worn, taken_steps, is_taken}
 
--- a desk by its two parts
-desk_parts : (d e : Desk) → d.sitting ≡ e.sitting → d.session ≡ e.session → d ≡ e
-desk_parts d e sitting session = λ k. record { sitting = sitting k; session = session k }
+-- a seat by its two parts
+seat_parts : (d e : Seat) → d.sitting ≡ e.sitting → d.session ≡ e.session → d ≡ e
+seat_parts d e sitting session = λ k. record { sitting = sitting k; session = session k }
 
 -- ---- what a post comes to
 
 -- a worn store takes no event
-worn_desk : (event : Event) (d : Desk) → is_worn d.session ≡ true
+worn_seat : (event : Event) (d : Seat) → is_worn d.session ≡ true
     → record d { sitting = refused saying.Worn d.sitting } ≡ posted event d
 unfolding posted
-worn_desk event d worn = desk_parts (record d { sitting = refused saying.Worn d.sitting }) (posted event d)
+worn_seat event d worn = seat_parts (record d { sitting = refused saying.Worn d.sitting }) (posted event d)
     (sym (cond-true (is_worn d.session) _ _ worn)) (sym (cond-true (is_worn d.session) d.session _ worn))
 
 -- an event that is taken, and its reply
-replied_desk : (event : Event) (d : Desk) (reply : Reply) (session : Session) → is_worn d.session ≡ false
-    → reply ≡ (step d.session.desktop event).1 → session ≡ taken d.session event
+replied_seat : (event : Event) (d : Seat) (reply : Reply) (session : Session) → is_worn d.session ≡ false
+    → reply ≡ (step d.session.desktop event).reply → session ≡ taken d.session event
     → record { sitting = replied reply d.sitting; session = session } ≡ posted event d
 unfolding posted
-replied_desk event d reply session room is after =
-    desk_parts (record { sitting = replied reply d.sitting; session = session }) (posted event d)
+replied_seat event d reply session room is after =
+    seat_parts (record { sitting = replied reply d.sitting; session = session }) (posted event d)
     (ap (λ r. replied r d.sitting) is ∙ sym (cond-false (is_worn d.session) _ _ room)) after
 
 -- the desktop is the one after its step
-posted_steps : (event : Event) (d : Desk) → is_worn d.session ≡ false
-    → (posted event d).session.desktop ≡ (step d.session.desktop event).0
+posted_steps : (event : Event) (d : Seat) → is_worn d.session ≡ false
+    → (posted event d).session.desktop ≡ (step d.session.desktop event).desktop
 unfolding posted
 posted_steps event d room = taken_steps d.session event room
 
@@ -96,11 +96,11 @@ module _ {D : Type 0} (d : Ghosts D) where
 
   -- ---- nothing is posted
 
-  pub takes_alone : {T : Type 0} (value : T) (next : Desk) (s : Sitting) (store : StoreView D)
-      → store.must_reopen ≡ false → desk_of s store ≡ next → Takes d next (Ok value) s store store
+  pub takes_alone : {T : Type 0} (value : T) (next : Seat) (s : Sitting) (store : StoreView D)
+      → store.must_reopen ≡ false → seat_of s store ≡ next → Takes d next (Ok value) s store store
   takes_alone value next s store usable is = record {
     done = λ honest durable. record {
-      desk = is;
+      seat = is;
       any_moment = at_start (d.trail store.disk) _
           (λ c image. inl (durable_means store durable honest c image));
       durable = durable;
@@ -117,7 +117,7 @@ module _ {D : Type 0} (d : Ghosts D) where
   module _ (event : Event) (s s' : Sitting) (old new : StoreView D) (usable : old.must_reopen ≡ false)
       (moments : LeavesEither d event old new) (device : IsSameDevice d old.disk new.disk) where
     -- at each moment a crash leaves the desktop before the step or the one after it, however that is said
-    moments_to : (after : Desktop) → after ≡ (step old.desktop event).0 → d.honest old.disk
+    moments_to : (after : Desktop) → after ≡ (step old.desktop event).desktop → d.honest old.disk
         → LeavesOnly (d.trail old.disk) (d.trail new.disk) (MeansEither (d.size old.disk) old.desktop after)
     moments_to after is honest = subst (λ desktop. LeavesOnly (d.trail old.disk) (d.trail new.disk)
         (MeansEither (d.size old.disk) old.desktop desktop)) (sym is) (moments usable honest)
@@ -126,18 +126,18 @@ module _ {D : Type 0} (d : Ghosts D) where
     pub takes_acknowledged : {T : Type 0} (value : T) (reply : Reply) → IsAcknowledged d event reply old new
         → IsWorn (Ok reply) old new
         → FailsAs {T = Reply} Fault OfPost (Ok reply) (d.failures old.disk) (d.failures new.disk)
-        → s' ≡ replied reply s → Takes d (posted event (desk_of s old)) (Ok value) s' old new
+        → s' ≡ replied reply s → Takes d (posted event (seat_of s old)) (Ok value) s' old new
     takes_acknowledged value reply acknowledged worn faults is =
         let room : is_worn (session_of old) ≡ false = not_worn (session_of old)
         (λ when. absurd (cc (worn.always ((usable, when.0), when.1)))) in
         record {
           done = λ honest durable.
               let one = acknowledged.stepped honest in
-              let desktop : new.desktop ≡ (step old.desktop event).0 = ap (λ (p : Desktop × Reply). p.0) one in
+              let desktop : new.desktop ≡ (step old.desktop event).desktop = ap (λ (p : Outcome). p.desktop) one in
               record {
-                desk = ap (λ t. desk_of t new) is
-                    ∙ replied_desk event (desk_of s old) reply (session_of new) room
-                    (ap (λ (p : Desktop × Reply). p.1) one) (is_taken (session_of old) (session_of new) event room
+                seat = ap (λ t. seat_of t new) is
+                    ∙ replied_seat event (seat_of s old) reply (session_of new) room
+                    (ap (λ (p : Outcome). p.reply) one) (is_taken (session_of old) (session_of new) event room
                     desktop acknowledged.more acknowledged.anew acknowledged.layout);
                 any_moment = moments_to new.desktop desktop honest;
                 durable = acknowledged.durable;
@@ -155,26 +155,26 @@ module _ {D : Type 0} (d : Ghosts D) where
 
     -- the store is worn, and nothing has changed
     takes_worn : {T : Type 0} (value : T) → IsWorn (Err Worn) old new → s' ≡ refused saying.Worn s
-        → Takes d (posted event (desk_of s old)) (Ok value) s' old new
+        → Takes d (posted event (seat_of s old)) (Ok value) s' old new
     takes_worn value worn is =
         let when = worn.only refl in
-        subst (λ store. Takes d (posted event (desk_of s old)) (Ok value) s' old store) (sym (worn.unchanged refl))
-        (takes_alone value (posted event (desk_of s old)) s' old usable
-        (ap (λ t. desk_of t old) is
-        ∙ worn_desk event (desk_of s old) (is_it_worn (session_of old) when.0.1 when.1)))
+        subst (λ store. Takes d (posted event (seat_of s old)) (Ok value) s' old store) (sym (worn.unchanged refl))
+        (takes_alone value (posted event (seat_of s old)) s' old usable
+        (ap (λ t. seat_of t old) is
+        ∙ worn_seat event (seat_of s old) (is_it_worn (session_of old) when.0.1 when.1)))
 
     module _ (error : Error) (starved : IsErrOf {T = Reply} (Err error) NoMemory → IsStarved d old new)
         (worn : IsWorn (Err error) old new) (reopen : IsUnusable {T = Reply} (Err error) old new)
         (faults : FailsAs {T = Reply} Fault OfPost (Err error) (d.failures old.disk) (d.failures new.disk)) where
       -- another error is passed on
-      takes_failed : {T : Type 0} → error ≢ Worn → Takes d {T = T} (posted event (desk_of s old)) (Err error) s' old new
+      takes_failed : {T : Type 0} → error ≢ Worn → Takes d {T = T} (posted event (seat_of s old)) (Err error) s' old new
       takes_failed other =
           let room : is_worn (session_of old) ≡ false = not_worn (session_of old)
           (λ when. other (cc (worn.always ((usable, when.0), when.1)))) in
           record {
             done = tt;
             undone = λ honest durable. record {
-              any_moment = moments_to _ (posted_steps event (desk_of s old) room) honest;
+              any_moment = moments_to _ (posted_steps event (seat_of s old) room) honest;
               starved = λ is. (starved (ap (λ e. Err e) is)).unrecorded usable honest;
               device = device;
             };
@@ -192,11 +192,11 @@ module _ {D : Type 0} (d : Ghosts D) where
       pub takes_turned_away : {T : Type 0} (result : Result T Error)
           → OnOk result ((error ≡ Worn) × (s' ≡ refused saying.Worn s))
           → IfErr result (λ passed. (error ≢ Worn) × (passed ≡ error))
-          → Takes d (posted event (desk_of s old)) result s' old new
+          → Takes d (posted event (seat_of s old)) result s' old new
       takes_turned_away {T = T} (Ok value) is other =
           takes_worn value (subst (λ e. IsWorn (Err e) old new) is.0 worn) is.1
       takes_turned_away {T = T} (Err passed) is other =
-          subst (λ e. Takes d {T = T} (posted event (desk_of s old)) (Err e) s' old new) (sym other.1)
+          subst (λ e. Takes d {T = T} (posted event (seat_of s old)) (Err e) s' old new) (sym other.1)
           (takes_failed other.0)
 
   -- ---- a look at the screen comes first
@@ -231,7 +231,7 @@ module _ {D : Type 0} (d : Ghosts D) where
           (looks.desktop honest) later))
 
   -- it fails
-  pub takes_unseen : {A T : Type 0} (error : Error) (next : Desk) (s : Sitting) (old new : StoreView D)
+  pub takes_unseen : {A T : Type 0} (error : Error) (next : Seat) (s : Sitting) (old new : StoreView D)
       → old.must_reopen ≡ false → OnlyLooks {T = A} d (Err error) old new → Takes d {T = T} next (Err error) s old new
   takes_unseen error next s old new usable looks = record {
     done = tt;
@@ -250,15 +250,15 @@ module _ {D : Type 0} (d : Ghosts D) where
     device = looks.disk.device;
   }
 
-  -- it succeeds, and what comes then is what comes of the desk before it
-  pub takes_seen : {A T : Type 0} (value : A) (result : Result T Error) (next next' : Desk) (s' : Sitting)
+  -- it succeeds, and what comes then is what comes of the seat before it
+  pub takes_seen : {A T : Type 0} (value : A) (result : Result T Error) (next next' : Seat) (s' : Sitting)
       (old mid new : StoreView D) → OnlyLooks d (Ok value) old mid → (d.honest old.disk → next' ≡ next)
       → Takes d next' result s' mid new → Takes d next result s' old new
   takes_seen value result next next' s' old mid new looks same takes = record {
     done = on_ok_weaker result (λ done honest durable.
         let later = done (looks.disk.device.still honest) (still_durable looks honest durable) in
         record {
-          desk = later.desk ∙ same honest;
+          seat = later.seat ∙ same honest;
           any_moment = moments_on looks honest durable (λ size desktop. MeansEither size desktop new.desktop) new
               (λ c means. inl means) later.any_moment;
           durable = later.durable;
@@ -267,7 +267,7 @@ module _ {D : Type 0} (d : Ghosts D) where
     undone = IfErr-weaker result _ _ (λ error undone honest durable.
         let later = undone (looks.disk.device.still honest) (still_durable looks honest durable) in
         record {
-          any_moment = subst (λ (n : Desk). LeavesOnly (d.trail old.disk) (d.trail new.disk)
+          any_moment = subst (λ (n : Seat). LeavesOnly (d.trail old.disk) (d.trail new.disk)
               (MeansEither (d.size old.disk) old.desktop n.session.desktop)) (same honest)
               (moments_on looks honest durable (λ size desktop. MeansEither size desktop next'.session.desktop) new
               (λ c means. inl means) later.any_moment);
@@ -285,26 +285,26 @@ module _ {D : Type 0} (d : Ghosts D) where
   pub seen_step : {A : Type 0} (value : A) (arrow : Arrow) (at : Option (ℕ × ℕ)) (screen : List (List Cell))
       (s : Sitting) (old mid : StoreView D) → OnlyLooks d (Ok value) old mid → at ≡ aimed arrow screen
       → (d.honest old.disk → screen ≡ shown_screen old.desktop) → d.honest old.disk
-      → clicked at (desk_of s mid) ≡ acted (action.Step arrow) (desk_of s old)
+      → clicked at (seat_of s mid) ≡ acted (action.Step arrow) (seat_of s old)
   unfolding acted
   seen_step value arrow at screen s old mid looks is shown honest =
-      ap (λ place. clicked place (desk_of s mid)) (is ∙ ap (aimed arrow) (shown honest))
+      ap (λ place. clicked place (seat_of s mid)) (is ∙ ap (aimed arrow) (shown honest))
       ∙ ap (λ session. clicked (aimed arrow (shown_screen old.desktop)) (record { sitting = s; session = session }))
       (same_session looks honest)
 
 -- ---- a press
 
 -- after the person has left nothing is done
-pub left_desk : (press : Press) (d : Desk) → d.sitting.leaves ≡ true → d ≡ after_press press d
+pub left_seat : (press : Press) (d : Seat) → d.sitting.leaves ≡ true → d ≡ after_press press d
 unfolding after_press
-left_desk press d leaves = sym (cond-true d.sitting.leaves d _ leaves)
+left_seat press d leaves = sym (cond-true d.sitting.leaves d _ leaves)
 
 -- before that the hand says what a press comes to
-pub pressed_desk : (press : Press) (d : Desk) (hand : Hand) (act : Action) → d.sitting.leaves ≡ false
+pub pressed_seat : (press : Press) (d : Seat) (hand : Hand) (act : Action) → d.sitting.leaves ≡ false
     → hand ≡ (handled d.sitting.sight press d.sitting.hand).0 → act ≡ (handled d.sitting.sight press d.sitting.hand).1
     → acted act (record d { sitting = record d.sitting { hand = hand } }) ≡ after_press press d
 unfolding after_press
-pressed_desk press d hand act stays is_hand is_act =
+pressed_seat press d hand act stays is_hand is_act =
     ap (λ h. acted act (record d { sitting = record d.sitting { hand = h } })) is_hand
     ∙ ap (λ a. acted a (record d {
       sitting = record d.sitting {

@@ -10,36 +10,36 @@ use Rattle.desk_journal.specs.View.{StoreView, IsDurable}
 use Rattle.terminal_presses.specs.declared.press.Press.{Press}
 use Rattle.desk_sitting.specs.declared.sitting.Sitting.{Sitting}
 use Rattle.desk_journal.specs.Session.{session_of}
-use Rattle.desk_sitting.specs.Sittings.{Desk, after_press}
+use Rattle.desk_sitting.specs.Sittings.{Seat, after_press}
 
-abbrev pub desk_of : {D : Type 0} → Sitting → StoreView D → Desk
-desk_of s store = record { sitting = s; session = session_of store }
+abbrev pub seat_of : {D : Type 0} → Sitting → StoreView D → Seat
+seat_of s store = record { sitting = s; session = session_of store }
 
 -- why presses are not done
 abbrev pub OfPresses : Error → Type 0
 OfPresses = OneOf (NoMemory ∷ Fault ∷ [])
 
 module _ {D : Type 0} (d : Ghosts D) where
-  -- It has come to this desk. At every moment between a crash leaves the desktop before it or the one after it, and
+  -- It has come to this seat. At every moment between a crash leaves the desktop before it or the one after it, and
   -- from then on the one after it.
-  pub record IsDone (next : Desk) (s' : Sitting) (old new : StoreView D) : Type 0 where
-    pub desk : desk_of s' new ≡ next
+  pub record IsDone (next : Seat) (s' : Sitting) (old new : StoreView D) : Type 0 where
+    pub seat : seat_of s' new ≡ next
     pub any_moment : LeavesOnly (d.trail old.disk) (d.trail new.disk)
         (MeansEither (d.size old.disk) old.desktop new.desktop)
     pub durable : IsDurable d new
     pub device : IsSameDevice d old.disk new.disk
 
-  -- It was to come to this desk, and fails. After a fault the event may be in an image, and for want of memory it is in
+  -- It was to come to this seat, and fails. After a fault the event may be in an image, and for want of memory it is in
   -- none.
-  pub record IsUndone (error : Error) (next : Desk) (old new : StoreView D) : Type 0 where
+  pub record IsUndone (error : Error) (next : Seat) (old new : StoreView D) : Type 0 where
     pub any_moment : LeavesOnly (d.trail old.disk) (d.trail new.disk)
         (MeansEither (d.size old.disk) old.desktop next.session.desktop)
     pub starved : error ≡ NoMemory
         → LeavesOnly (d.trail old.disk) (d.trail new.disk) (Means (d.size old.disk) old.desktop)
     pub device : IsSameDevice d old.disk new.disk
 
-  -- All that a call promises that is to come to this desk.
-  pub record Takes {T : Type 0} (next : Desk) (result : Result T Error) (s' : Sitting) (old new : StoreView D)
+  -- All that a call promises that is to come to this seat.
+  pub record Takes {T : Type 0} (next : Seat) (result : Result T Error) (s' : Sitting) (old new : StoreView D)
       : Type 0 where
     pub done : OnOk result (d.honest old.disk → IsDurable d old → IsDone next s' old new)
     pub undone : IfErr result (λ error. d.honest old.disk → IsDurable d old → IsUndone error next old new)
@@ -51,7 +51,7 @@ module _ {D : Type 0} (d : Ghosts D) where
   pub data Does : List Press → Sitting → Sitting → StoreView D → StoreView D → Type 0 where
     none : {s : Sitting} {store : StoreView D} → Does [] s s store store
     one_more : {presses : List Press} {s s' s'' : Sitting} {old mid new : StoreView D} (press : Press)
-        → Does presses s s' old mid → IsDone (after_press press (desk_of s' mid)) s'' mid new
+        → Does presses s s' old mid → IsDone (after_press press (seat_of s' mid)) s'' mid new
         → Does (presses ++ press ∷ []) s s'' old new
 
   -- Presses are done up to one that fails. Nothing that was pressed after it is done.
@@ -63,7 +63,7 @@ module _ {D : Type 0} (d : Ghosts D) where
     pub sitting : Sitting
     pub mid : StoreView D
     pub does : Does done s sitting old mid
-    pub undone : IsUndone error (after_press press (desk_of sitting mid)) mid new
+    pub undone : IsUndone error (after_press press (seat_of sitting mid)) mid new
 
   -- All that a call promises that is to do these presses.
   pub record TakesAll {T : Type 0} (presses : List Press) (result : Result T Error) (s s' : Sitting)

@@ -21,7 +21,8 @@ use Rattle.desk_sitting.specs.Aims.{aimed, caret_of}
 use Rattle.desk_journal.specs.Session.{Session, is_worn, taken}
 use Rattle.desk_sitting.specs.Windows.{fitted, followed, height_told, moved}
 
-pub record Desk : Type 0 where
+-- a sitting, and the session of the store before which it is
+pub record Seat : Type 0 where
   pub sitting : Sitting
   pub session : Session
 
@@ -70,17 +71,17 @@ brought will_be_heard s = if is_some s.wanted then fetched will_be_heard s else 
 
 -- ---- a press
 
-unfoldable pub posted : Event → Desk → Desk
-posted event d = record {
-  sitting = if is_worn d.session then refused Worn d.sitting
-      else replied (step d.session.desktop event).1 d.sitting;
-  session = taken d.session event;
+unfoldable pub posted : Event → Seat → Seat
+posted event seat = record {
+  sitting = if is_worn seat.session then refused Worn seat.sitting
+      else replied (step seat.session.desktop event).reply seat.sitting;
+  session = taken seat.session event;
 }
 
 -- a left click at a place, or a ring where there is none
-unfoldable pub clicked : Option (ℕ × ℕ) → Desk → Desk
-clicked None d = record d { sitting = record d.sitting { rings = true } }
-clicked (Some place) d = posted (Point Left place.0 place.1 place.0 place.1) d
+unfoldable pub clicked : Option (ℕ × ℕ) → Seat → Seat
+clicked None seat = record seat { sitting = record seat.sitting { rings = true } }
+clicked (Some place) seat = posted (Point Left place.0 place.1 place.0 place.1) seat
 
 -- what a press comes to that posts nothing
 unfoldable pub acted_alone : Action → Sitting → Sitting
@@ -95,20 +96,20 @@ acted_alone (action.Fit rows columns) s = record s {
 }
 acted_alone _ s = s
 
-unfoldable pub acted : Action → Desk → Desk
-acted (action.Post event) d = posted event d
-acted (action.Step arrow) d = clicked (aimed arrow (shown_screen d.session.desktop)) d
-acted alone d = record d { sitting = acted_alone alone d.sitting }
+unfoldable pub acted : Action → Seat → Seat
+acted (action.Post event) seat = posted event seat
+acted (action.Step arrow) seat = clicked (aimed arrow (shown_screen seat.session.desktop)) seat
+acted alone seat = record seat { sitting = acted_alone alone seat.sitting }
 
 -- nothing is done after the person has left
-unfoldable pub after_press : Press → Desk → Desk
-after_press press d = if d.sitting.leaves then d else
-    (let next = handled d.sitting.sight press d.sitting.hand in
-    acted next.1 (record d { sitting = record d.sitting { hand = next.0 } }))
+unfoldable pub after_press : Press → Seat → Seat
+after_press press seat = if seat.sitting.leaves then seat else
+    (let next = handled seat.sitting.sight press seat.sitting.hand in
+    acted next.1 (record seat { sitting = record seat.sitting { hand = next.0 } }))
 
-abbrev pub after_presses : List Press → Desk → Desk
-after_presses [] d = d
-after_presses (press ∷ presses) d = after_presses presses (after_press press d)
+abbrev pub after_presses : List Press → Seat → Seat
+after_presses [] seat = seat
+after_presses (press ∷ presses) seat = after_presses presses (after_press press seat)
 
 -- ---- its events
 
@@ -116,21 +117,21 @@ abbrev pub click_at : Option (ℕ × ℕ) → List Event
 click_at None = []
 click_at (Some place) = Point Left place.0 place.1 place.0 place.1 ∷ []
 
-abbrev pub posts : Action → Desk → List Event
-posts (action.Post event) d = event ∷ []
-posts (action.Step arrow) d = click_at (aimed arrow (shown_screen d.session.desktop))
-posts _ d = []
+abbrev pub posts : Action → Seat → List Event
+posts (action.Post event) seat = event ∷ []
+posts (action.Step arrow) seat = click_at (aimed arrow (shown_screen seat.session.desktop))
+posts _ seat = []
 
 -- the events of a press that are accepted
-abbrev pub accepted_of : Press → Desk → List Event
-accepted_of press d = if d.sitting.leaves then [] else (if is_worn d.session then [] else
-    posts (handled d.sitting.sight press d.sitting.hand).1 d)
+abbrev pub accepted_of : Press → Seat → List Event
+accepted_of press seat = if seat.sitting.leaves then [] else (if is_worn seat.session then [] else
+    posts (handled seat.sitting.sight press seat.sitting.hand).1 seat)
 
-abbrev pub accepted : List Press → Desk → List Event
-accepted [] d = []
-accepted (press ∷ presses) d = accepted_of press d ++ accepted presses (after_press press d)
+abbrev pub accepted : List Press → Seat → List Event
+accepted [] seat = []
+accepted (press ∷ presses) seat = accepted_of press seat ++ accepted presses (after_press press seat)
 
 -- presses lead to the desktop to which the events lead that are accepted of them
 abbrev pub PressesAreSteps : Type 0
-PressesAreSteps = (presses : List Press) (d : Desk)
-    → (after_presses presses d).session.desktop ≡ steps d.session.desktop (accepted presses d)
+PressesAreSteps = (presses : List Press) (seat : Seat)
+    → (after_presses presses seat).session.desktop ≡ steps seat.session.desktop (accepted presses seat)

@@ -1,6 +1,6 @@
 //! A person at a terminal, before a store.
 ghost use Rattle.std.specs.Prelude.{◌≡◌, ◌≢◌, false, OnOk, IfErr};
-ghost use Rattle.desk_sitting.specs.Doing.{Takes, desk_of};
+ghost use Rattle.desk_sitting.specs.Doing.{Takes, seat_of};
 ghost use Rattle.desk_sitting.specs.Sayings.{line_of};
 ghost use Rattle.desk_sitting.specs.Sittings.{acted, acted_alone, after_press, brought, clicked, looked, new_sitting};
 ghost use Rattle.desk_sitting.specs.Sittings.{posted, refused, replied};
@@ -15,6 +15,9 @@ use screen_cells::Screen;
 use sector_disk::Disk;
 use std::alloc::Global;
 use terminal_presses::{Action, Arrow, Hand, HostName, Press, Sight};
+
+/// What doing a press comes to: it is done, or why it isn't.
+type Doing = Result<(), Error>;
 
 /// What a sitting knows beside the store: the hand, the rows in sight, the line below, and what is to be done when the
 /// screen is shown next.
@@ -125,9 +128,9 @@ impl Sitting {
         alloc: Global,
         press: Press,
         store: &mut Store<D>,
-    ) -> Result<(), Error>
+    ) -> Doing
         requires { store.old.must_reopen ≡ false }
-        ensures { Takes D.Disk (after_press press (desk_of self.old store.old)) result self.new store.old store.new }
+        ensures { Takes D.Disk (after_press press (seat_of self.old store.old)) result self.new store.old store.new }
     {
         if self.leaves {
             return Ok(());
@@ -137,14 +140,9 @@ impl Sitting {
     }
 
     /// Does what a press comes to.
-    fn act<D: Disk>(
-        &mut self,
-        alloc: Global,
-        action: Action,
-        store: &mut Store<D>,
-    ) -> Result<(), Error>
+    fn act<D: Disk>(&mut self, alloc: Global, action: Action, store: &mut Store<D>) -> Doing
         requires { store.old.must_reopen ≡ false }
-        ensures { Takes D.Disk (acted action (desk_of self.old store.old)) result self.new store.old store.new }
+        ensures { Takes D.Disk (acted action (seat_of self.old store.old)) result self.new store.old store.new }
     {
         match action {
             Action::Post(event) => self.post(alloc, &event, store),
@@ -182,14 +180,9 @@ impl Sitting {
     }
 
     /// A left click beside the caret, as the screen has it, or a ring where no text is shown there.
-    fn step<D: Disk>(
-        &mut self,
-        alloc: Global,
-        arrow: Arrow,
-        store: &mut Store<D>,
-    ) -> Result<(), Error>
+    fn step<D: Disk>(&mut self, alloc: Global, arrow: Arrow, store: &mut Store<D>) -> Doing
         requires { store.old.must_reopen ≡ false }
-        ensures { Takes D.Disk (acted (Action.Step arrow) (desk_of self.old store.old)) result self.new store.old
+        ensures { Takes D.Disk (acted (Action.Step arrow) (seat_of self.old store.old)) result self.new store.old
             store.new }
     {
         let mut screen = Screen::new();
@@ -203,9 +196,9 @@ impl Sitting {
         alloc: Global,
         place: Option<(u8, u8)>,
         store: &mut Store<D>,
-    ) -> Result<(), Error>
+    ) -> Doing
         requires { store.old.must_reopen ≡ false }
-        ensures { Takes D.Disk (clicked place (desk_of self.old store.old)) result self.new store.old store.new }
+        ensures { Takes D.Disk (clicked place (seat_of self.old store.old)) result self.new store.old store.new }
     {
         match place {
             None => {
@@ -226,14 +219,9 @@ impl Sitting {
     }
 
     /// Posts an event.
-    fn post<D: Disk>(
-        &mut self,
-        alloc: Global,
-        event: &Event,
-        store: &mut Store<D>,
-    ) -> Result<(), Error>
+    fn post<D: Disk>(&mut self, alloc: Global, event: &Event, store: &mut Store<D>) -> Doing
         requires { store.old.must_reopen ≡ false }
-        ensures { Takes D.Disk (posted event.now (desk_of self.old store.old)) result self.new store.old store.new }
+        ensures { Takes D.Disk (posted event.now (seat_of self.old store.old)) result self.new store.old store.new }
     {
         match store.post(alloc, event) {
             Ok(reply) => {
@@ -245,7 +233,7 @@ impl Sitting {
     }
 
     /// What an error of a post comes to: a worn store rings, and any other error is passed on.
-    fn turned_away(&mut self, error: Error) -> Result<(), Error>
+    fn turned_away(&mut self, error: Error) -> Doing
         ensures worn { OnOk result ((error ≡ Error.Worn) × (self.new ≡ refused Saying.Worn self.old)) }
         ensures other { IfErr result (λ passed. (error ≢ Error.Worn) × (passed ≡ error)) }
     {

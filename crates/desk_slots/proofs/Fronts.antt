@@ -4,7 +4,8 @@ use Rattle.std.proofs.Common.{◌-◌, ◌/◌, subst, arith, length-append}
 use Rattle.std.proofs.Math.Seq.{take-add, drop-append-add}
 use Rattle.std.proofs.lemmas.List.{length-take-le, length-drop, take_all}
 use Rattle.sector_disk.specs.Trail.{Content, Moment, written}
-use Rattle.sector_disk.specs.Stored.{stored, stored_same, sector_more, length-stored}
+use Rattle.sector_disk.specs.Stored.{stored}
+use Rattle.sector_disk.specs.StoredLaws.{stored_same, sector_more, length-stored}
 use Rattle.sector_streams.proofs.Filled.{reads_here, reads_elsewhere}
 use Rattle.sector_disk.specs.declared.disk.TheConstants.{SECTOR_BYTES}
 use Rattle.sector_streams.specs.Filling.{InRange}

@@ -8,7 +8,8 @@ use Rattle.command_table.specs.declared.version.Version.TheVariants.{V1, V2, V3}
 use Rattle.std.proofs.lemmas.List.{get_or-take}
 use Rattle.sector_disk.specs.Trail.{Moment, Trail, now, written, settled, Touches, Only}
 use Rattle.sector_disk.proofs.Touching.{still_reads}
-use Rattle.sector_disk.specs.Stored.{stored, byte_of, stored_by_index, none_stored}
+use Rattle.sector_disk.specs.Stored.{stored, byte_of}
+use Rattle.sector_disk.specs.StoredLaws.{stored_by_index, none_stored}
 use Rattle.sector_streams.proofs.Filled.{reads_here, reads_elsewhere}
 use Rattle.desktop_definitions.specs.Desktop.{empty_desktop}
 use Rattle.desktop_definitions.specs.Seen.{seen}

@@ -51,7 +51,7 @@ led_on c slot k led opened = λ j below. elim (cases_lt j k) [
 pub one_read : (c : Content) (slot version k : ℕ) (from to next : Desktop) (event : Event)
     → IsReadTo c slot version k from to
     → k < JOURNAL_EVENTS → is_open (c (gate slot k)) ≡ true → Begins (c (body slot k)) event
-    → next ≡ (step_in version to event).0 → IsReadTo c slot version (k + 1) from next
+    → next ≡ (step_in version to event).desktop → IsReadTo c slot version (k + 1) from next
 one_read c slot version k from to next event was room opened begins is = record {
   events = was.events ++ event ∷ [];
   count = length-append was.events (event ∷ []) ∙ omega (arith, was.count);
@@ -63,7 +63,7 @@ one_read c slot version k from to next event was room opened begins is = record 
   ];
   goes_on = λ rest journal. subst (IsJournal c slot 0) (sym (append_assoc was.events (event ∷ []) rest))
       (was.goes_on (event ∷ rest) (room, opened, begins, journal));
-  is = is ∙ ap (λ d. (step_in version d event).0) was.is ∙ sym (steps_in_on version from was.events event);
+  is = is ∙ ap (λ d. (step_in version d event).desktop) was.is ∙ sym (steps_in_on version from was.events event);
 }
 
 pub all_read : (c : Content) (slot version k : ℕ) (from to : Desktop) → IsReadTo c slot version k from to

@@ -5,7 +5,8 @@ use Rattle.std.proofs.Math.Seq.{take-append_seam, drop-append_seam}
 use Rattle.std.proofs.lemmas.List.{take-append-drop, length-drop}
 use Rattle.sector_disk.specs.declared.disk.TheConstants.{SECTOR_BYTES}
 use Rattle.sector_disk.specs.Trail.{Moment, written, settled}
-use Rattle.sector_disk.specs.Stored.{stored, stored_same}
+use Rattle.sector_disk.specs.Stored.{stored}
+use Rattle.sector_disk.specs.StoredLaws.{stored_same}
 use Rattle.sector_streams.proofs.Filled.{reads_here, reads_elsewhere}
 use Rattle.command_table.specs.Versions.{newest_version}
 use Rattle.desktop_definitions.specs.Desktop.{Desktop, KeptDesktop}

@@ -21,14 +21,14 @@ use Rattle.desk_slots.proofs.Settling.{kept_on, means_on}
 
 -- one event more
 pub steps_on : (start : Desktop) (events : List Event) (event : Event) → steps start (events ++ event ∷ [])
-    ≡ (step (steps start events) event).0
+    ≡ (step (steps start events) event).desktop
 steps_on start [] event = refl
-steps_on start (e ∷ events) event = steps_on (step start e).0 events event
+steps_on start (e ∷ events) event = steps_on (step start e).desktop events event
 
 pub steps_in_on : (version : ℕ) (start : Desktop) (events : List Event) (event : Event)
-    → steps_in version start (events ++ event ∷ []) ≡ (step_in version (steps_in version start events) event).0
+    → steps_in version start (events ++ event ∷ []) ≡ (step_in version (steps_in version start events) event).desktop
 steps_in_on version start [] event = refl
-steps_in_on version start (e ∷ events) event = steps_in_on version (step_in version start e).0 events event
+steps_in_on version start (e ∷ events) event = steps_in_on version (step_in version start e).desktop events event
 
 -- a step is one in the newest version
 pub in_newest : (d : Desktop) (event : Event) → step_in LAYOUT d event ≡ step d event
@@ -154,11 +154,11 @@ module _ {size : ℕ} (c c' : Content) (s : Standing) (event : Event) (k : ℕ) 
 module _ (size : ℕ) (old new : Trail) (s : Standing) (event : Event) (k : ℕ) (desktop : Desktop)
     (long : k ≡ length s.events) (room : k < JOURNAL_EVENTS) (is : desktop_of s ≡ desktop)
     (was : IsStaged size old s event k) (run : Touches (Only (gate s.slot k)) old new) where
-  stepped : desktop_of (and_then s event) ≡ (step_in s.version desktop event).0
-  stepped = steps_in_on s.version s.start s.events event ∙ ap (λ d. (step_in s.version d event).0) is
+  stepped : desktop_of (and_then s event) ≡ (step_in s.version desktop event).desktop
+  stepped = steps_in_on s.version s.start s.events event ∙ ap (λ d. (step_in s.version d event).desktop) is
 
-  sealing : LeavesOnly old new (MeansEither size desktop (step_in s.version desktop event).0)
-  sealing = spared (MeansEither size desktop (step_in s.version desktop event).0) was.settled.quiet run
+  sealing : LeavesOnly old new (MeansEither size desktop (step_in s.version desktop event).desktop)
+  sealing = spared (MeansEither size desktop (step_in s.version desktop event).desktop) was.settled.quiet run
       (λ c same. elim (is_either (now old).reads c s event k long room was.settled.stands was.begins
       was.closed same) [
         | inl stands ↦ inl (s, stands, is)
@@ -166,7 +166,7 @@ module _ (size : ℕ) (old new : Trail) (s : Standing) (event : Event) (k : ℕ)
       ])
 
   sealed : is_open ((now new).reads (gate s.slot k)) ≡ true → ((n : ℕ) → (now new).pending n ≡ false)
-      → IsKept size new s.slot s.version s.epoch (k + 1) (step_in s.version desktop event).0
+      → IsKept size new s.slot s.version s.epoch (k + 1) (step_in s.version desktop event).desktop
   sealed opened quiet = record {
     standing = and_then s event;
     settled = record {
@@ -192,7 +192,7 @@ module _ {size : ℕ} {d : Trail} {live version number count : ℕ} {desktop : D
     here = staging size d first s count (sym kept.events) room kept.settled
         (subst (λ n. Touches (NextRecord n count) d first) (sym kept.slot) stages)
 
-    pub one_call : (event : Event) → LeavesOnly d first (MeansEither size desktop (step_in version desktop event).0)
+    pub one_call : (event : Event) → LeavesOnly d first (MeansEither size desktop (step_in version desktop event).desktop)
     one_call event = weakened here (λ c stands. inl (s, stands, kept.is))
 
     module _ {event : Event} {new : Trail} (has : HasRecord (now first) live count event)
@@ -208,17 +208,17 @@ module _ {size : ℕ} {d : Trail} {live version number count : ℕ} {desktop : D
       seals_here : Touches (Only (gate s.slot count)) first new
       seals_here = subst (λ n. Touches (Only (gate n count)) first new) (sym kept.slot) seals
 
-      pub both_calls : LeavesOnly d new (MeansEither size desktop (step_in version desktop event).0)
+      pub both_calls : LeavesOnly d new (MeansEither size desktop (step_in version desktop event).desktop)
       both_calls = chained (one_call event)
-          (subst (λ v. LeavesOnly first new (MeansEither size desktop (step_in v desktop event).0)) kept.version_is
+          (subst (λ v. LeavesOnly first new (MeansEither size desktop (step_in v desktop event).desktop)) kept.version_is
           (sealing size first new s event count desktop (sym kept.events) room kept.is staged seals_here))
 
       pub recorded : is_open ((now new).reads (gate live count)) ≡ true → ((n : ℕ) → (now new).pending n ≡ false)
-          → IsKept size new live version number (count + 1) (step_in version desktop event).0
+          → IsKept size new live version number (count + 1) (step_in version desktop event).desktop
       recorded opened silent = subst (λ n. IsKept size new n version number (count + 1)
-          (step_in version desktop event).0) kept.slot
-          (subst (λ n. IsKept size new s.slot version n (count + 1) (step_in version desktop event).0) kept.epoch
-          (subst (λ v. IsKept size new s.slot v s.epoch (count + 1) (step_in v desktop event).0) kept.version_is
+          (step_in version desktop event).desktop) kept.slot
+          (subst (λ n. IsKept size new s.slot version n (count + 1) (step_in version desktop event).desktop) kept.epoch
+          (subst (λ v. IsKept size new s.slot v s.epoch (count + 1) (step_in v desktop event).desktop) kept.version_is
           (sealed size first new s event count desktop (sym kept.events) room kept.is staged seals_here
           (subst (λ n. is_open ((now new).reads (gate n count)) ≡ true) (sym kept.slot) opened) silent)))
 
@@ -243,22 +243,22 @@ module _ {D : Type 0} (d : Ghosts D) {old mid : D} (run : IsConfined d.size d.ho
   unrecorded = means_on (d.size old) (d.trail old) (d.trail mid) live LAYOUT number k desktop kept (run.moments honest)
 
   module _ (event : Event) where
-    pub read_only : LeavesOnly (d.trail old) (d.trail mid) (MeansEither (d.size old) desktop (step desktop event).0)
+    pub read_only : LeavesOnly (d.trail old) (d.trail mid) (MeansEither (d.size old) desktop (step desktop event).desktop)
     read_only = weakened unrecorded (λ c means. inl means)
 
     module _ {new : D} where
       pub read_then : LeavesOnly (d.trail mid) (d.trail new)
-          (MeansEither (d.size mid) desktop (step_in LAYOUT desktop event).0)
-          → LeavesOnly (d.trail old) (d.trail new) (MeansEither (d.size old) desktop (step desktop event).0)
+          (MeansEither (d.size mid) desktop (step_in LAYOUT desktop event).desktop)
+          → LeavesOnly (d.trail old) (d.trail new) (MeansEither (d.size old) desktop (step desktop event).desktop)
       read_then after = chained read_only (subst (λ n. LeavesOnly (d.trail mid) (d.trail new)
-          (MeansEither n desktop (step desktop event).0)) run.as_large
+          (MeansEither n desktop (step desktop event).desktop)) run.as_large
           (subst (λ x. LeavesOnly (d.trail mid) (d.trail new) (MeansEither (d.size mid) desktop x))
           (ap (λ x. x.0) (in_newest desktop event)) after))
 
-      pub kept_after : {desktop' : Desktop} → desktop' ≡ (step desktop event).0
-          → IsKept (d.size mid) (d.trail new) live LAYOUT number (k + 1) (step_in LAYOUT desktop event).0
+      pub kept_after : {desktop' : Desktop} → desktop' ≡ (step desktop event).desktop
+          → IsKept (d.size mid) (d.trail new) live LAYOUT number (k + 1) (step_in LAYOUT desktop event).desktop
           → IsKept (d.size old) (d.trail new) live LAYOUT number (k + 1) desktop'
       kept_after is after = subst (λ x. IsKept (d.size old) (d.trail new) live LAYOUT number (k + 1) x)
           (ap (λ x. x.0) (in_newest desktop event) ∙ sym is)
-          (subst (λ n. IsKept n (d.trail new) live LAYOUT number (k + 1) (step_in LAYOUT desktop event).0)
+          (subst (λ n. IsKept n (d.trail new) live LAYOUT number (k + 1) (step_in LAYOUT desktop event).desktop)
           run.as_large after)

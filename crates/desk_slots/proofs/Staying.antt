@@ -8,8 +8,10 @@ use Rattle.char_pages.specs.declared.pages.Pages.{Pages}
 use Rattle.char_pages.specs.Pages.{base_of, saved_of, saved_sectors, renewed_of, paged_characters}
 use Rattle.char_pages.proofs.Caching.{true_on}
 use Rattle.char_pages.proofs.Paging.{paged_on}
+use Rattle.desktop_definitions.specs.declared.reply.Reply.{Reply}
 use Rattle.desktop_definitions.specs.Desktop.{Desktop, KeptDesktop}
 use Rattle.desktop_definitions.specs.Seen.{seen}
+use Rattle.desktop_definitions.specs.Step.{Outcome, outcome_of}
 use Rattle.desktop_definitions.specs.Viewers.{text_of}
 use Rattle.screen_cells.specs.declared.lines.KeptLines.{KeptLines}
 use Rattle.screen_cells.specs.Lines.{AreLinesOf}
@@ -38,9 +40,9 @@ pub shown_stays : {area : ℕ → Type 0} (old new : Trail) (live : LiveDesktop)
 shown_stays old new live run apart = ap (λ l. seen l live.desktop) (characters_stay old new live.pages run apart)
 
 -- beside a reply too
-pub answer_stays : {X R : Type 0} {now mid : X} {reply : R} {answer : X × R} → now ≡ mid → (mid, reply) ≡ answer
-    → (now, reply) ≡ answer
-answer_stays {reply = reply} same is = ap (λ x. (x, reply)) same ∙ is
+pub answer_stays : {now mid : Desktop} {reply : Reply} {answer : Outcome} → now ≡ mid → outcome_of mid reply ≡ answer
+    → outcome_of now reply ≡ answer
+answer_stays {reply = reply} same is = ap (λ d. outcome_of d reply) same ∙ is
 
 -- and what is in memory of the disk is still so
 pub told_stays : {D : Type 0} (d : Ghosts D) {area : ℕ → Type 0} {disk disk' : D} (p : Pages)

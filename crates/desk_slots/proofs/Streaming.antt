@@ -7,8 +7,10 @@ use Rattle.sector_disk.specs.Confined.{IsConfined}
 use Rattle.sector_disk.specs.Trail.{Content}
 use Rattle.sector_disk.proofs.Confinement.{joined}
 use Rattle.sector_streams.specs.declared.filling.Filling.{Filling}
-use Rattle.sector_streams.specs.Filling.{first_sector, most_sectors, sectors_are, SectorsOf, InRange}
-use Rattle.sector_disk.specs.Stored.{Holds, stored, stored_held}
+use Rattle.sector_streams.specs.Filling.{first_sector, most_sectors, SectorsOf, InRange}
+use Rattle.sector_streams.specs.FillingLaws.{sectors_are}
+use Rattle.sector_disk.specs.Stored.{Holds, stored}
+use Rattle.sector_disk.specs.StoredLaws.{stored_held}
 use Rattle.command_table.specs.Versions.{newest_version}
 use Rattle.desktop_definitions.specs.Desktop.{KeptDesktop}
 use Rattle.desktop_definitions.specs.Sound.{IsKeptWhole}

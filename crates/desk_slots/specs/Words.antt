@@ -10,5 +10,5 @@ pub use Rattle.desktop_definitions.specs.Listing.{entries_of}
 pub use Rattle.desktop_definitions.specs.Shown.{shown_screen}
 pub use Rattle.desk_core.specs.Stops.{IsStop}
 pub use Rattle.piece_ring.specs.Flat.{flat}
-pub use Rattle.piece_ring.specs.Offsets.{AreWithin}
+pub use Rattle.piece_ring.specs.Text.{AreWithin}
 pub use Rattle.readers_scanners.specs.Reading.{contents}

@@ -4,6 +4,7 @@ ghost use Rattle.std.specs.Prelude.{false};
 ghost use Rattle.char_pages.specs.Pages.{base_of, saved_of, saved_sectors, rest_of, cached_of, renewed_of};
 ghost use Rattle.command_table.specs.Versions.{version_number, newest_version};
 ghost use Rattle.desktop_definitions.specs.Desktop.{file_of};
+ghost use Rattle.desktop_definitions.specs.Step.{outcome_of};
 ghost use Rattle.desk_image.specs.Image.{image_of, image_bytes, IsSpellable};
 ghost use Rattle.desk_image.specs.Streams.{Puts};
 ghost use Rattle.store_layout.specs.Layout.{area_start};
@@ -118,7 +119,7 @@ impl LiveDesktop {
         requires room { STORE_SECTORS ≤ D.size disk.old }
         requires told { IsTold D.Disk disk.old self.old }
         ensures done { IfOk result
-            (λ reply. D.honest disk.old → (seen_live (now (D.trail disk.new)).reads self.new, reply)
+            (λ reply. D.honest disk.old → outcome_of (seen_live (now (D.trail disk.new)).reads self.new) reply
             ≡ step_in (version_number version) (seen_live (now (D.trail disk.old)).reads self.old) event.now) }
         ensures unread { IfOk result (StepsUnread (version_number version) self.old.desktop self.new.desktop event.now) }
         ensures replies { IfOk result IsReply }

@@ -5,6 +5,7 @@ ghost use Rattle.command_table.specs.Versions.{version_number};
 ghost use Rattle.desktop_definitions.specs.Seen.{seen};
 ghost use Rattle.desktop_definitions.specs.Sound.{IsOver};
 ghost use Rattle.desktop_definitions.specs.Viewers.{text_of};
+ghost use Rattle.desktop_definitions.specs.Step.{outcome_of};
 ghost use Rattle.screen_cells.specs.Lines.{AreLinesOf};
 ghost use Rattle.desk_slots.specs.Live.{CanReadThrough, CanStepThrough, ReadsThrough, LooksThrough};
 ghost use Rattle.desk_slots.specs.Words.{Content, now, FailsAs, IsStop, No, IsReply, entries_of, shown_screen, step_in};
@@ -31,7 +32,7 @@ pub(crate) fn step_over<D: Disk>(
 ) -> Result<Reply, Stop>
     requires { CanStepThrough D.Disk disk.old pages.old desktop.old }
     ensures done { IfOk result (λ reply. D.honest disk.old
-        → (seen (paged_characters (now (D.trail disk.new)).reads pages.new) desktop.new, reply)
+        → outcome_of (seen (paged_characters (now (D.trail disk.new)).reads pages.new) desktop.new) reply
         ≡ step_in (version_number version)
         (seen (paged_characters (now (D.trail disk.old)).reads pages.old) desktop.old)
         event.now) }

@@ -1,6 +1,7 @@
 //! The two steps that put an event into the journal.
 ghost use Rattle.std.specs.Prelude.{◌≡◌, ◌+◌, ◌<◌, ◌≤◌, true, false, ℕ, Ok, OnOk, IfOk, IsErrOf};
 ghost use Rattle.desktop_definitions.specs.Desktop.{Desktop};
+ghost use Rattle.desktop_definitions.specs.Step.{outcome_of};
 ghost use Rattle.store_layout.specs.Layout.{is_open, gate, body};
 ghost use Rattle.store_layout.specs.Meaning.{Means, MeansEither};
 ghost use Rattle.store_layout.specs.Kept.{NextRecord, IsKept};
@@ -70,11 +71,11 @@ fn add_record<D: Disk>(disk: &mut D, slot: u32, k: u32, event: &Event) -> Result
     ensures any_moment { D.honest disk.old → (version number : ℕ) (desktop : Desktop)
         → IsKept (D.size disk.old) (D.trail disk.old) slot version number k desktop
         → LeavesOnly (D.trail disk.old) (D.trail disk.new)
-        (MeansEither (D.size disk.old) desktop (step_in version desktop event.now).0) }
+        (MeansEither (D.size disk.old) desktop (step_in version desktop event.now).desktop) }
     ensures added { OnOk result (D.honest disk.old → (version number : ℕ) (desktop : Desktop)
         → IsKept (D.size disk.old) (D.trail disk.old) slot version number k desktop
         → IsKept (D.size disk.old) (D.trail disk.new) slot version number (k + 1)
-        (step_in version desktop event.now).0) }
+        (step_in version desktop event.now).desktop) }
 {
     stage(disk, slot, k, event)?;
     seal(disk, slot, k)?;
@@ -99,7 +100,7 @@ pub fn record<D: Disk>(
         (seen_live (now (D.trail disk.old)).reads desktop.old)
         → LeavesOnly (D.trail disk.old) (D.trail disk.new) (MeansEither (D.size disk.old)
         (seen_live (now (D.trail disk.old)).reads desktop.old)
-        (step (seen_live (now (D.trail disk.old)).reads desktop.old) event.now).0) }
+        (step (seen_live (now (D.trail disk.old)).reads desktop.old) event.now).desktop) }
     ensures unrecorded { IsErrOf result Error.NoMemory → D.honest disk.old → (number : ℕ)
         → IsKept (D.size disk.old) (D.trail disk.old) slot LAYOUT number k
         (seen_live (now (D.trail disk.old)).reads desktop.old)
@@ -111,7 +112,7 @@ pub fn record<D: Disk>(
         → IsKept (D.size disk.old) (D.trail disk.new) slot LAYOUT number (k + 1)
         (seen_live (now (D.trail disk.new)).reads desktop.new)) }
     ensures stepped { IfOk result
-        (λ reply. D.honest disk.old → (seen_live (now (D.trail disk.new)).reads desktop.new, reply)
+        (λ reply. D.honest disk.old → outcome_of (seen_live (now (D.trail disk.new)).reads desktop.new) reply
         ≡ step (seen_live (now (D.trail disk.old)).reads desktop.old) event.now) }
     ensures unread { IfOk result (StepsUnread LAYOUT desktop.old.desktop desktop.new.desktop event.now) }
     ensures replies { IfOk result IsReply }

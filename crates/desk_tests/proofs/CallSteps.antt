@@ -13,6 +13,7 @@ use Rattle.desktop_definitions.specs.Limits.{wrong_symbol, no_viewer, bad_value,
 use Rattle.desktop_definitions.specs.Desktop.{Desktop}
 use Rattle.desktop_definitions.specs.Change.{in_look, plain}
 use Rattle.desktop_definitions.specs.Opening.{menu_line}
+use Rattle.desktop_definitions.specs.Step.{Outcome, outcome_of}
 use Rattle.desk_tests.proofs.StepWords.{Case, done, refused, click, look, chars, entry, viewer, caret, selection, closed}
 use Rattle.desk_tests.proofs.StepWords.{columns, texts_with, edited, scrolled, with_viewer, with_document, without}
 use Prim.Native.String.{String}
@@ -20,30 +21,30 @@ use Prim.Native.String.{String}
 -- ---- what a call does
 
 -- what is made of a desktop, and the reply
-abbrev pub Outcome : Type 0
-Outcome = Desktop → Desktop × Reply
+abbrev pub Effect : Type 0
+Effect = Desktop → Outcome
 
-abbrev pub makes : (Desktop → Desktop) → Outcome
-makes change = λ d. (change d, Done)
+abbrev pub makes : (Desktop → Desktop) → Effect
+makes change = λ d. outcome_of (change d) Done
 
-abbrev pub says : ℕ → Outcome
-says code = λ d. (d, No code)
+abbrev pub says : ℕ → Effect
+says code = λ d. outcome_of d (No code)
 
 -- viewers of the user track; the tool text has the other one
 abbrev pub placed : List Entry → Desktop → Desktop
 placed user d = record d { columns = columns user (entry 0 32 ∷ []) }
 
 -- a document of number n opens in viewer v, or the log under a menu line of number n
-abbrev pub opens : ℕ → ℕ → List Entry → String → Text ℕ → Outcome
+abbrev pub opens : ℕ → ℕ → List Entry → String → Text ℕ → Effect
 opens n v user name text =
     makes (λ d. record (placed user (with_document d v n (codes name) text)) { written = d.written + 53 })
 
-abbrev pub log_opens : ℕ → ℕ → (Desktop → Desktop) → Outcome
+abbrev pub log_opens : ℕ → ℕ → (Desktop → Desktop) → Effect
 log_opens n v place =
     makes (λ d. record (place (with_viewer d v n (codes "System.Log") 0)) { written = d.written + 60 })
 
 -- the marked viewer is closed, and the one that was closed before is gone
-abbrev pub closes : List Entry → ℕ → Outcome
+abbrev pub closes : List Entry → ℕ → Effect
 closes user top = makes (λ d. record (placed user (without d (6 ∷ []) (3 ∷ []))) {
   caret = None;
   selections = [];
@@ -51,14 +52,14 @@ closes user top = makes (λ d. record (placed user (without d (6 ∷ []) (3 ∷ 
 })
 
 -- these viewers, of which one was closed; a copy of the marked one, with a menu line of number n
-abbrev pub recalls : List Entry → Outcome
+abbrev pub recalls : List Entry → Effect
 recalls user = makes (λ d. record (placed user d) { closed = None })
 
-abbrev pub copies : ℕ → ℕ → List Entry → Outcome
+abbrev pub copies : ℕ → ℕ → List Entry → Effect
 copies n v user = makes (λ d. placed user (with_viewer d v n (codes "A.T") 3))
 
 -- the log is empty; it has other characters, so many more than before, and is shown from a position on
-abbrev pub clears : Outcome
+abbrev pub clears : Effect
 clears = makes (λ d. record d { texts = texts_with d 0 [] })
 
 abbrev pub logged : String → ℕ → ℕ → Desktop → Desktop
@@ -66,7 +67,7 @@ logged log more org d =
     scrolled (record d { texts = texts_with d 0 (chars log); written = d.written + more }) 2 org
 
 -- the log has the list of two files; the document is stored, and the log says so
-abbrev pub lists : Outcome
+abbrev pub lists : Effect
 lists = makes (logged "log\rA.T 3\rB.T 7\r" 12 10)
 
 abbrev pub low : Look
@@ -75,16 +76,16 @@ low = look 1 3 (negsuc 4)
 abbrev pub with_low : Text ℕ
 with_low = chars "text" ++ in_look low (codes "low")
 
-abbrev pub stores : Outcome
+abbrev pub stores : Effect
 stores = makes (λ d. record (logged "log\rEdit.Store A.T 14\r" 18 4 d) {
   files = (codes "A.T", chars "A.T B.T \rA.T x") ∷ (codes "B.T", with_low) ∷ [];
 })
 
 -- the look of the next characters; that of the selected ones
-abbrev pub looks : Look → Outcome
+abbrev pub looks : Look → Effect
 looks next = makes (λ d. record d { look = next })
 
-abbrev pub changes : Look → Outcome
+abbrev pub changes : Look → Effect
 changes new = makes (λ d. record d {
   texts = texts_with d 3 (chars "A.T " ++ in_look new (codes "B.T") ++ chars " \rA.T x");
   caret = None;
@@ -94,13 +95,13 @@ changes new = makes (λ d. record d {
 
 -- a line of the tool text, and what its call does to the first desktop and to the second
 abbrev pub Line : Type 0
-Line = String × Outcome × Outcome
+Line = String × Effect × Effect
 
 -- above the marked viewer, which keeps a row; with no marker at the top of the track
-abbrev pub opens_above : String → Text ℕ → Outcome
+abbrev pub opens_above : String → Text ℕ → Effect
 opens_above = opens 7 4 (entry 2 3 ∷ entry 4 3 ∷ entry 1 1 ∷ [])
 
-abbrev pub opens_on_top : String → Text ℕ → Outcome
+abbrev pub opens_on_top : String → Text ℕ → Effect
 opens_on_top = opens 6 3 (entry 2 3 ∷ entry 1 4 ∷ entry 3 25 ∷ [])
 
 abbrev pub lines : List Line
@@ -214,24 +215,24 @@ with_four = record (placed (entry 2 5 ∷ entry 1 4 ∷ []) with_lists) {
 -- ---- steps
 
 -- a click of the middle key in column x of a row
-abbrev pub called_at : Desktop → ℕ → ℕ × Outcome → Case
+abbrev pub called_at : Desktop → ℕ → ℕ × Effect → Case
 called_at d x row =
-    record { before = d; event = click Middle x row.0; after = (row.1 d).0; reply = (row.1 d).1 }
+    record { before = d; event = click Middle x row.0; after = (row.1 d).desktop; reply = (row.1 d).reply }
 
 -- clicks on the calls of these rows
-abbrev pub called : Desktop → List (ℕ × Outcome) → List Case
+abbrev pub called : Desktop → List (ℕ × Effect) → List Case
 called d rows = map (called_at d 52) rows
 
 -- each with its row, from this one down
-abbrev pub down : ℕ → List Outcome → List (ℕ × Outcome)
+abbrev pub down : ℕ → List Effect → List (ℕ × Effect)
 down y [] = []
-down y (outcome ∷ rest) = (y, outcome) ∷ down (y - 1) rest
+down y (effect ∷ rest) = (y, effect) ∷ down (y - 1) rest
 
 -- each line is clicked, from row 30 down
 abbrev pub calls : List Case
 calls = called with_all (down 30 (map (λ l. l.1) lines)) ++
     called (calling (joined more_lines) with_all) (down 30 (map (λ l. l.1) more_lines)) ++
-    map (λ (row : ℕ × Outcome). called_at (calling (joined more_lines) with_all) row.0 (17, row.1))
+    map (λ (row : ℕ × Effect). called_at (calling (joined more_lines) with_all) row.0 (17, row.1))
     ((66, clears) ∷ (79, says no_command) ∷ []) ++
     called bare (down 30 (map (λ l. l.2) lines)) ++
     called (calling (joined more_lines) bare) (down 30 (map (λ l. l.2) more_lines))
@@ -245,9 +246,9 @@ abbrev pub menu_calls : List Case
 menu_calls =
     refused bare (Point Middle 3 6 1 6) no_command ∷
     done bare (Point Middle 3 6 7 6) (record (placed (entry 2 3 ∷ []) bare) { closed = closed 1 User 7 }) ∷
-    done bare (Point Middle 3 6 20 6) ((copies 6 3 (entry 2 3 ∷ entry 3 2 ∷ entry 1 2 ∷ []) bare).0) ∷
+    done bare (Point Middle 3 6 20 6) ((copies 6 3 (entry 2 3 ∷ entry 3 2 ∷ entry 1 2 ∷ []) bare).desktop) ∷
     refused bare (Point Middle 3 6 33 6) no_selection ∷
-    done bare (Point Middle 3 6 45 6) ((stores bare).0) ∷
+    done bare (Point Middle 3 6 45 6) ((stores bare).desktop) ∷
     []
 
 -- files go, are listed, and the log is stored as it was before the line that says so
@@ -268,7 +269,7 @@ list_calls =
     ) ∷ [])
 
 -- as many characters count as written as the desktop holds, of which 14 are those of the word, however many were
-abbrev pub collects : Outcome
+abbrev pub collects : Effect
 collects = makes (λ d. record d { written = 109 })
 
 abbrev pub collecting : Desktop

@@ -32,7 +32,7 @@ use Rattle.desktop_definitions.specs.Change.{plain}
 use Rattle.desktop_definitions.specs.Opening.{menu_line}
 use Rattle.desktop_definitions.specs.Listing.{entries_of}
 use Rattle.desktop_definitions.specs.Limits.{no_command}
-use Rattle.desktop_definitions.specs.Step.{step, step_in}
+use Rattle.desktop_definitions.specs.Step.{step, step_in, Outcome, outcome_of}
 use Rattle.desktop_definitions.specs.Shown.{shown_screen}
 use Prim.Native.String.{String}
 
@@ -137,18 +137,18 @@ abbrev pub clicks_for_caret : Desktop → Keys → List (ℕ × ℕ × ℕ × �
 clicks_for_caret d keys rows = map (λ r. done d (click keys r.0 r.1) (record d { caret = caret r.2 r.3 })) rows
 
 -- what the event does and what is wanted
-abbrev pub replied : Case → Desktop × Reply
+abbrev pub replied : Case → Outcome
 replied c = step c.before c.event
 
-abbrev pub wanted : Case → Desktop × Reply
-wanted c = (c.after, c.reply)
+abbrev pub wanted : Case → Outcome
+wanted c = outcome_of c.after c.reply
 
 -- the same in a version of the table of commands, and what is wanted in one that has no such word
-abbrev pub replied_in : ℕ → Case → Desktop × Reply
+abbrev pub replied_in : ℕ → Case → Outcome
 replied_in version c = step_in version c.before c.event
 
-abbrev pub not_called : Case → Desktop × Reply
-not_called c = (c.before, No no_command)
+abbrev pub not_called : Case → Outcome
+not_called c = outcome_of c.before (No no_command)
 
 -- ---- the list
 

@@ -2,7 +2,7 @@
 //! `proofs/ScreenRows.antt` and beside the steps.
 ghost use Rattle.std.specs.Prelude.{◌<◌, ◌≤◌, ◌+◌, ◌^◌, length, IfOk};
 ghost use Rattle.piece_ring.specs.Flat.{flat};
-ghost use Rattle.piece_ring.specs.Offsets.{AreWithin};
+ghost use Rattle.piece_ring.specs.Text.{AreWithin};
 ghost use Rattle.screen_cells.specs.Lines.{AreReady};
 
 use char_file::{CharFile, CharSource, NoMemory};

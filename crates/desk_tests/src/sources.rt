@@ -1,7 +1,7 @@
 //! Texts over characters in memory.
 ghost use Rattle.std.specs.Prelude.{length, IfOk};
 ghost use Rattle.piece_ring.specs.Flat.{flat};
-ghost use Rattle.piece_ring.specs.Offsets.{AreWithin};
+ghost use Rattle.piece_ring.specs.Text.{AreWithin};
 
 use char_file::{CharSource, NoMemory};
 use piece_ring::DEFAULT_LOOK;

@@ -8,10 +8,9 @@ use Rattle.std.proofs.lemmas.Bool.{cases_lt, eq-eqb}
 use Rattle.std.proofs.lemmas.List.{length-map, get_or-map}
 use Rattle.std.proofs.lemmas.List.Elements.{All-map}
 use Rattle.piece_ring.specs.Flat.{flat}
-use Rattle.piece_ring.specs.Offsets.{AreWithin}
 use Rattle.readers_scanners.specs.Reading.{contents}
 use Rattle.screen_cells.specs.declared.shown.Shown.{Shown}
-use Rattle.screen_pictures.specs.Picture.{picture, Viewer as Painted}
+use Rattle.screen_pictures.specs.Picture.{picture, Painted}
 use Rattle.screen_pictures.specs.Screen.{screen_of}
 use Rattle.screen_cells.specs.Shown.{IsShowable, as_read}
 use Rattle.desktop_definitions.specs.declared.viewer.Viewer.{Viewer}
@@ -22,7 +21,7 @@ use Rattle.desktop_definitions.specs.Desktop.{KeptDesktop}
 use Rattle.desktop_definitions.specs.Viewers.{text_in, text_of}
 use Rattle.screen_cells.specs.Lines.{AreLinesOf, IsNumbered}
 use Rattle.screen_cells.specs.declared.lines.KeptLines.{KeptLines}
-use Rattle.piece_ring.specs.Text.{Text}
+use Rattle.piece_ring.specs.Text.{Text, AreWithin}
 use Rattle.desktop_definitions.specs.Seen.{seen, seen_table}
 use Rattle.desktop_definitions.specs.Shown.{ranked, selection_in, painted, shown_screen}
 use Rattle.desktop_definitions.specs.Sound.{AllWithin, IsViewer, IsKeptWhole}

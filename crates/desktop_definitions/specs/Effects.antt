@@ -15,7 +15,7 @@ use Rattle.viewer_tracks.specs.declared.display.TheConstants.{DEPTH}
 use Rattle.viewer_tracks.specs.Columns.{stack_of, track_of, placed_bottom, placed_top, after_close, allocated}
 use Rattle.command_table.specs.Parameters.{name_in}
 use Rattle.command_table.specs.Deciding.{can_be_deleted}
-use Rattle.desktop_definitions.specs.Words.{unwrap_or, is_at, keys_of, Look, Text, ClosedViewer}
+use Rattle.desktop_definitions.specs.Words.{unwrap_or, is_at, keys_of, LookChange, Text, ClosedViewer}
 use Rattle.desktop_definitions.specs.Limits.{no_selection, no_file, too_many_files, wrong_symbol}
 use Rattle.desktop_definitions.specs.Limits.{not_found, too_deep, too_low, most_pattern}
 use Rattle.desktop_definitions.specs.Needs.{needs, unless}
@@ -141,12 +141,12 @@ collected d = record d { written = held d }
 -- ---- looks
 
 -- what is typed gets that look, in the fields that are set
-unfoldable pub look_set : {T : Type 0} → DesktopOf T → ℕ × Look → DesktopOf T
-look_set d new = record d { look = relooked new.0 new.1 d.look }
+unfoldable pub look_set : {T : Type 0} → DesktopOf T → LookChange → DesktopOf T
+look_set d new = record d { look = relooked new.selector new.look d.look }
 
 -- the same for the characters of the newest selection, which is the newest then too
-unfoldable pub selection_set : Desktop → ℕ × Look → Result Desktop ℕ
-selection_set d new = needs (newest d) no_selection λ s. Ok (looks_set d s new.0 new.1)
+unfoldable pub selection_set : Desktop → LookChange → Result Desktop ℕ
+selection_set d new = needs (newest d) no_selection λ s. Ok (looks_set d s new.selector new.look)
 
 -- ---- searching
 

@@ -1,11 +1,11 @@
--- What commands set in looks: a selector, and a look of which it takes a field (1 the font, 2 the colour, 4 the
--- vertical offset).
+-- What commands set in looks: the fields that a selector names (1 the font, 2 the colour, 4 the vertical offset), as a
+-- look has them.
 use Rattle.std.specs.Prelude.{ℕ, ◌<◌, ℤ, pos, int_le, int_lt, nat_abs, ◌&&◌, if◌then◌else◌, List, [], ◌∷◌, All, IsTrue}
 use Rattle.std.specs.Prelude.{codes, Option, Some, None, option_map}
 use Rattle.std.specs.Option.{ForSome}
 use Rattle.std.specs.List.{position}
 use Rattle.std.specs.Str.{bytes_eq}
-use Rattle.desktop_definitions.specs.Words.{Look, default_look, Text}
+use Rattle.desktop_definitions.specs.Words.{Look, LookChange, default_look, Text}
 use Rattle.desktop_definitions.specs.Limits.{number_of_fonts, number_of_colours, least_offset, greatest_offset}
 
 -- the names of the fonts, by their numbers
@@ -14,20 +14,23 @@ fonts = codes "Oberon10.Scn.Fnt" ∷ codes "Oberon10i.Scn.Fnt" ∷ codes "Oberon
     codes "Oberon12.Scn.Fnt" ∷ []
 
 -- the font of a name, where there is one
-abbrev pub font_set : List ℕ → Option (ℕ × Look)
-font_set name = option_map (λ n. (1, record default_look { font = n })) (position (bytes_eq name) fonts)
+abbrev pub font_set : List ℕ → Option LookChange
+font_set name =
+    option_map (λ n. record { selector = 1; look = record default_look { font = n } }) (position (bytes_eq name) fonts)
 
 -- the colour of a number
-abbrev pub colour_set : ℤ → Option (ℕ × Look)
+abbrev pub colour_set : ℤ → Option LookChange
 colour_set z =
     if int_le (pos 0) z && int_lt z (pos number_of_colours)
-    then Some (2, record default_look { colour = nat_abs z })
+    then Some (record { selector = 2; look = record default_look { colour = nat_abs z } })
     else None
 
 -- that vertical offset
-abbrev pub offset_set : ℤ → Option (ℕ × Look)
+abbrev pub offset_set : ℤ → Option LookChange
 offset_set z =
-    if int_le least_offset z && int_le z greatest_offset then Some (4, record default_look { voff = z }) else None
+    if int_le least_offset z && int_le z greatest_offset
+    then Some (record { selector = 4; look = record default_look { voff = z } })
+    else None
 
 -- the selector of the whole look
 abbrev pub whole_look : ℕ
@@ -41,8 +44,8 @@ pub record IsLook (l : Look) : Type 0 where
   pub greatest : IsTrue (int_le l.voff greatest_offset)
 
 -- what is set is one, if anything is
-abbrev pub SetsLook : Option (ℕ × Look) → Type 0
-SetsLook new = ForSome new (λ set. IsLook set.1)
+abbrev pub SetsLook : Option LookChange → Type 0
+SetsLook new = ForSome new (λ set. IsLook set.look)
 
 -- each character of a text has one
 abbrev pub AreLooks : {X : Type 0} → Text X → Type 0

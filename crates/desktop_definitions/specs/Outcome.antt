@@ -5,9 +5,10 @@ use Rattle.desktop_definitions.specs.declared.reply.Reply.{Reply}
 use Rattle.desktop_definitions.specs.declared.reply.Reply.TheVariants.{Done, No}
 use Rattle.desktop_definitions.specs.Limits.{no_caret, no_selection, no_command, no_file, full, too_many_files}
 use Rattle.desktop_definitions.specs.Limits.{outside, wrong_symbol, no_viewer, not_found, bad_value, too_deep, too_low}
-use Rattle.desktop_definitions.specs.Desktop.{Desktop, KeptDesktop}
+use Rattle.desktop_definitions.specs.Desktop.{KeptDesktop}
 use Rattle.desktop_definitions.specs.Seen.{seen}
 use Rattle.desktop_definitions.specs.Sound.{IsOver}
+use Rattle.desktop_definitions.specs.Step.{Outcome, outcome_of}
 
 -- the codes that there are
 abbrev pub reply_codes : List ℕ
@@ -34,10 +35,10 @@ pub record IsSameSource {S : Type 0} (failures : S → ℕ) (honest : S → Type
   pub no_fewer : failures old ≤ failures new
 
 -- A reply, with the desktop and the characters after it, where the definitions say that they are to be this outcome.
-pub record IsAnswered (honest : Type 0) (old new : List ℕ) (before after : KeptDesktop) (outcome : Desktop × Reply)
+pub record IsAnswered (honest : Type 0) (old new : List ℕ) (before after : KeptDesktop) (outcome : Outcome)
     (reply : Reply) : Type 0 where
   -- what was read stood there, so desktop and reply are just this outcome
-  pub exact : honest → (seen new after, reply) ≡ outcome
+  pub exact : honest → outcome_of (seen new after) reply ≡ outcome
   -- whatever was read:
   pub over : IsOver new after
   pub known : IsReply reply

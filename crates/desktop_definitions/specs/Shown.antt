@@ -4,7 +4,7 @@ use Rattle.std.specs.List.{position_or_len, find}
 use Rattle.text_frames.specs.declared.frame.Frame.{Frame}
 use Rattle.text_frames.specs.declared.frame.FrameSelection.{FrameSelection}
 use Rattle.screen_pictures.specs.declared.cell.Cell.{Cell}
-use Rattle.screen_pictures.specs.Picture.{picture, Viewer as Painted}
+use Rattle.screen_pictures.specs.Picture.{picture, Painted}
 use Rattle.screen_pictures.specs.Screen.{screen_of}
 use Rattle.desktop_definitions.specs.Words.{Viewer, Caret, Selection}
 use Rattle.desktop_definitions.specs.Desktop.{DesktopOf, Desktop}

@@ -5,7 +5,7 @@ use Rattle.std.specs.Option.{ForSome}
 use Rattle.std.specs.List.Sorted.{IsStrictlySortedBy}
 use Rattle.std.specs.Map.{values_of}
 use Rattle.event_bytes.specs.Bytes.{is_name}
-use Rattle.piece_ring.specs.Offsets.{AreWithin}
+use Rattle.piece_ring.specs.Text.{AreWithin}
 use Rattle.viewer_tracks.specs.declared.display.TheConstants.{ROWS, COLUMNS}
 use Rattle.viewer_tracks.specs.Columns.{Columns, IsColumns, IsOnTop, times_placed, times_meant}
 use Rattle.desktop_definitions.specs.Words.{nat_cmp, keys_of, Piece, flat, Viewer, Caret, Selection, ClosedViewer}

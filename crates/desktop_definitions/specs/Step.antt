@@ -27,15 +27,23 @@ marked d x y = record d { marker = Some (x, y) }
 
 -- ---- the step
 
+-- What an event comes to: the desktop after it, and the reply.
+pub record Outcome : Type 0 where
+  pub desktop : Desktop
+  pub reply : Reply
+
+abbrev pub outcome_of : Desktop → Reply → Outcome
+outcome_of d r = record { desktop = d; reply = r }
+
 -- within the limits on characters
 abbrev pub fits : Desktop → Bool
 fits d = nat_le d.written most_written && nat_le (held d) most_held
 
 -- A refusal leaves the desktop. After all else texts that nobody shows go. The limits on characters come last, and look
 -- at the desktop after the event alone.
-unfoldable pub settled : Desktop → Result Desktop ℕ → Desktop × Reply
-settled d (Err code) = (d, No code)
-settled d (Ok new) = if fits (dropped new) then (dropped new, Done) else (d, No full)
+unfoldable pub settled : Desktop → Result Desktop ℕ → Outcome
+settled d (Err code) = outcome_of d (No code)
+settled d (Ok new) = if fits (dropped new) then outcome_of (dropped new) Done else outcome_of d (No full)
 
 -- what an event does but for texts that go and the limits on characters, or the code of its refusal, by the version of
 -- the table of commands
@@ -47,17 +55,17 @@ raw version d (Point keys x0 y0 x1 y1) =
     unless (is_on_display x0 y0 && is_on_display x1 y1) outside (pointed version d (region_at d x0 y0) keys x0 y0 x1 y1)
 raw version d (File name bytes) = unless (has_room d.files name) too_many_files (Ok (filed d name (plain bytes)))
 
-unfoldable pub step_in : ℕ → Desktop → Event → Desktop × Reply
+unfoldable pub step_in : ℕ → Desktop → Event → Outcome
 step_in version d event = settled d (raw version d event)
 
 -- the desktop after events in a version of the table, one after another
 abbrev pub steps_in : ℕ → Desktop → List Event → Desktop
-steps_in version d events = fold (λ (now : Desktop) event. (step_in version now event).0) d events
+steps_in version d events = fold (λ (now : Desktop) event. (step_in version now event).desktop) d events
 
 -- a step in the newest version
-unfoldable pub step : Desktop → Event → Desktop × Reply
+unfoldable pub step : Desktop → Event → Outcome
 step d event = step_in newest_version d event
 
 -- the desktop after events, one after another
 abbrev pub steps : Desktop → List Event → Desktop
-steps d events = fold (λ (now : Desktop) event. (step now event).0) d events
+steps d events = fold (λ (now : Desktop) event. (step now event).desktop) d events

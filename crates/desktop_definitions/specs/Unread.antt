@@ -19,7 +19,7 @@ use Rattle.desktop_definitions.specs.Opening.{menu_line}
 use Rattle.desktop_definitions.specs.Gesture.{is_on_display, region_at}
 use Rattle.desktop_definitions.specs.Seen.{seen}
 use Rattle.desktop_definitions.specs.Listing.{entries_of}
-use Rattle.desktop_definitions.specs.Step.{step_in}
+use Rattle.desktop_definitions.specs.Step.{step_in, outcome_of}
 
 -- ---- events
 
@@ -77,7 +77,7 @@ grown all bytes (No code) = all
 unfoldable pub StepsUnread : ℕ → KeptDesktop → KeptDesktop → Event → Reply → Type 0
 StepsUnread version before after event reply =
     needs_no_byte before event ≡ true → (all : List ℕ) → length all ≡ before.written
-    → (seen (grown all (brought before event) reply) after, reply) ≡ step_in version (seen all before) event
+    → outcome_of (seen (grown all (brought before event) reply) after) reply ≡ step_in version (seen all before) event
 
 -- ---- the list
 

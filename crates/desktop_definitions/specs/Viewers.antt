@@ -8,9 +8,9 @@ use Rattle.viewer_tracks.specs.declared.display.Track.{Track}
 use Rattle.viewer_tracks.specs.Display.{left_of}
 use Rattle.viewer_tracks.specs.Viewers.{times_in}
 use Rattle.viewer_tracks.specs.Columns.{shown, placed_bottom, placed_top, after_open, after_open_track, replaced_at}
-use Rattle.desktop_definitions.specs.Words.{unwrap_or, nat_cmp, is_at, Text, Viewer, Caret, Selection}
+use Rattle.desktop_definitions.specs.Words.{unwrap_or, nat_cmp, is_at, Piece, Text, Viewer, Caret, Selection}
 use Rattle.desktop_definitions.specs.Tables.{Texts, numbered}
-use Rattle.desktop_definitions.specs.Desktop.{DesktopOf, Desktop}
+use Rattle.desktop_definitions.specs.Desktop.{DesktopOf, Desktop, KeptDesktop}
 
 -- where there is no viewer of an id
 abbrev pub bare_viewer : Viewer
@@ -104,6 +104,10 @@ text_of d n = text_in d.texts n
 
 abbrev pub main_of : Desktop → ℕ → Text ℕ
 main_of d v = text_of d (viewer_of d v).main
+
+-- the pieces of a viewer's main text, of a desktop that is kept
+abbrev pub kept_main : KeptDesktop → ℕ → List Piece
+kept_main d v = text_in d.texts (viewer_or_none d.viewers v).main
 
 abbrev pub menu_of : Desktop → ℕ → Text ℕ
 menu_of d v = text_of d (viewer_of d v).menu

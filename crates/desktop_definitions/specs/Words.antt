@@ -8,6 +8,7 @@ pub use Rattle.piece_ring.specs.declared.piece.Piece.{Piece}
 pub use Rattle.piece_ring.specs.Look.{default_look}
 pub use Rattle.piece_ring.specs.Text.{Text}
 pub use Rattle.piece_ring.specs.Flat.{flat}
+pub use Rattle.desktop_definitions.specs.declared.look_change.LookChange.{LookChange}
 pub use Rattle.desktop_definitions.specs.declared.viewer.Viewer.{Viewer}
 pub use Rattle.desktop_definitions.specs.declared.viewer.Caret.{Caret}
 pub use Rattle.desktop_definitions.specs.declared.viewer.Selection.{Selection}

@@ -12,6 +12,7 @@ pub mod codes;
 mod entry;
 mod laws;
 mod limits;
+mod look_change;
 mod region;
 mod reply;
 mod viewer;
@@ -23,6 +24,7 @@ pub use limits::{
     COLOURS, FONTS, GREATEST_OFFSET, LEAST_OFFSET, MOST_FILES, MOST_HELD, MOST_PATTERN,
     MOST_WRITTEN,
 };
+pub use look_change::LookChange;
 pub use region::Region;
 pub use reply::Reply;
 pub use viewer::{Caret, ClosedViewer, Selection, Viewer};

@@ -11,7 +11,7 @@ use Rattle.command_table.specs.Parameters.{IsPlace, value, names}
 use Rattle.desktop_definitions.specs.declared.call.Call.{Call}
 use Rattle.desktop_definitions.specs.declared.viewer.Selection.{Selection}
 use Rattle.desktop_definitions.specs.Desktop.{KeptDesktop}
-use Rattle.desktop_definitions.specs.Viewers.{viewer_or_none, newest, main_of, menu_of}
+use Rattle.desktop_definitions.specs.Viewers.{viewer_or_none, newest, main_of, menu_of, kept_main}
 use Rattle.desktop_definitions.specs.Change.{bytes_of}
 use Rattle.desktop_definitions.specs.Call.{text_called, seen_at_marker, selection_place, menu_at_marker, value_of}
 use Rattle.desktop_definitions.specs.Call.{names_of}
@@ -21,19 +21,10 @@ use Rattle.desktop_definitions.specs.Seen.{seen}
 use Rattle.desktop_laws.specs.SeenLaws.{within_counted}
 use Rattle.desktop_definitions.specs.Sound.{IsBuilt, IsWithin, IsOver}
 use Rattle.desktop_laws.specs.RowLaws.{over_built}
-use Rattle.desktop_laws.specs.RowPartLaws.{kept_main, kept_main_seen, kept_text_seen, kept_newest, text_within}
+use Rattle.desktop_laws.specs.RowPartLaws.{kept_main_seen, kept_text_seen, kept_newest, text_within}
+use Rattle.desktop_laws.specs.DeskWords.{kept_place, kept_menu}
 
--- ---- of a desktop that is kept
-
--- the text of the newest selection, and where that begins
-abbrev pub kept_place : KeptDesktop → Option (Text ℕ × ℕ)
-kept_place d = option_map (λ s. (flat (kept_main d s.viewer), s.beg)) (newest d)
-
--- the menu at the marker
-abbrev pub kept_menu : KeptDesktop → Option (Text ℕ)
-kept_menu d = option_map (λ v. flat (text_called d v true)) (seen_at_marker d)
-
--- ---- what can be read there
+-- ---- what can be read in a desktop that is kept
 
 -- a position in the text that is called
 pub called_place : (characters : List ℕ) (d : KeptDesktop) (v : ℕ) (in_menu : Bool) (p : ℕ) → IsOver characters d

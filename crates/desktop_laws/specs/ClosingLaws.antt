@@ -4,8 +4,8 @@ use Rattle.std.specs.Prelude.{◌≡◌, ◌≤◌, ℕ, ◌+◌, ◌==◌, Bool
 use Rattle.std.specs.Prelude.{if◌then◌else◌, Option, Some, None, option_map, Ok}
 use Rattle.std.proofs.Common.{refl, sym, ap, subst, ◌∙◌, arith}
 use Rattle.std.proofs.lemmas.Bool.{eqb-false, eq-eqb, ne_eqb}
-use Rattle.viewer_tracks.specs.Columns.{Columns, IsColumns, IsPlaced, IsOnTop, times_placed, times_meant, track_of}
-use Rattle.viewer_tracks.specs.Columns.{placed_top, after_close, after_open, replaced_at}
+use Rattle.viewer_tracks.specs.Columns.{Columns, IsColumns, IsPlaced, IsOnTop, times_placed, times_meant}
+use Rattle.viewer_tracks.specs.Columns.{after_close, after_open, replaced_at}
 use Rattle.viewer_tracks.proofs.PlacedLemmas.{open_shows, close_shows}
 use Rattle.viewer_tracks.specs.Display.{left_of}
 use Rattle.desktop_definitions.specs.declared.viewer.Caret.{Caret}
@@ -20,7 +20,7 @@ use Rattle.desktop_definitions.specs.Viewers.{opened_at}
 use Rattle.desktop_definitions.specs.Opening.{dropped}
 use Rattle.desktop_definitions.specs.Effects.{put_away, brought_back}
 use Rattle.desktop_definitions.specs.Seen.{seen}
-use Rattle.desktop_definitions.specs.Step.{settled}
+use Rattle.desktop_definitions.specs.Step.{settled, outcome_of}
 use Rattle.desktop_definitions.specs.Sound.{IsClosedPlace, IsShaped, IsSound, IsWithin, IsOver}
 use Rattle.desktop_definitions.specs.Outcome.{IsAnswered}
 use Rattle.desktop_laws.specs.OutcomeLaws.{acted}
@@ -31,10 +31,7 @@ use Rattle.desktop_laws.specs.PlacedLaws.{seen_dropped, seen_anew, dropped_withi
 use Rattle.desktop_laws.specs.PlacedLaws.{anew_held, dropped_written, done, fits_within, at_columns, over_after}
 use Rattle.desktop_laws.specs.RowLaws.{known_no_viewer}
 use Rattle.desktop_laws.specs.LookedLaws.{looks_stay}
-
--- a viewer with its place, as a closed one
-abbrev pub place_closed : Columns → ℕ → ClosedViewer
-place_closed columns v = record { viewer = v; track = track_of columns v; top = placed_top columns v }
+use Rattle.desktop_laws.specs.DeskWords.{place_closed}
 
 -- ---- viewers that stand elsewhere
 
@@ -105,7 +102,7 @@ module _ (H : Type 0) (old : List ℕ) (d : KeptDesktop) (over : IsOver old d) (
 
   pub restood_answered : IsAnswered H old old d after (settled (seen old d) (Ok (part old))) Done
   restood_answered = acted H old old d after _ restood_over
-      (λ h. (λ k. (seen_after old k, Done))
+      (λ h. (λ k. outcome_of (seen_after old k) Done)
       ∙ done (seen old d) (part old) (fits_within (dropped (part old)) (written_now old) (held_now old)))
 
 -- ---- a viewer closes

@@ -14,7 +14,7 @@ use Rattle.desktop_definitions.specs.Tables.{Texts, Files, name_cmp}
 use Rattle.desktop_definitions.specs.Desktop.{Desktop, KeptDesktop, held}
 use Rattle.desktop_definitions.specs.Effects.{collected}
 use Rattle.desktop_definitions.specs.Seen.{seen, seen_text, seen_table}
-use Rattle.desktop_definitions.specs.Step.{settled}
+use Rattle.desktop_definitions.specs.Step.{settled, outcome_of}
 use Rattle.desktop_definitions.specs.Sound.{IsSound, IsWithin, IsOver}
 use Rattle.desktop_definitions.specs.Outcome.{IsAnswered}
 use Rattle.desktop_laws.specs.TableLaws.{lengths_seen, length_seen_text}
@@ -27,7 +27,7 @@ use Rattle.desktop_laws.specs.RewritingLaws.{length-bytes_in}
 use Rattle.desktop_laws.specs.AlikeLaws.{sound_alike}
 
 -- it is never refused: what a desktop holds is within both limits
-pub collected_done : (d : Desktop) → IsSound d → (collected d, Done) ≡ settled d (Ok (collected d))
+pub collected_done : (d : Desktop) → IsSound d → outcome_of (collected d) Done ≡ settled d (Ok (collected d))
 unfolding collected held
 collected_done d sound =
     let low = sound.held_within in
@@ -151,4 +151,4 @@ module _ (H : Type 0) (old made : List ℕ) (d : KeptDesktop) (texts : Texts (Li
 
   pub collected_answered : IsAnswered H old made d anew (settled (seen old d) (Ok (collected (seen old d)))) Done
   collected_answered = acted H old made d anew (settled (seen old d) (Ok (collected (seen old d)))) anew_over
-      (λ honest. (λ k. (anew_seen honest k, Done)) ∙ collected_done (seen old d) (over.whole.sound old))
+      (λ honest. (λ k. outcome_of (anew_seen honest k) Done) ∙ collected_done (seen old d) (over.whole.sound old))

@@ -17,9 +17,8 @@ use Rattle.std.proofs.lemmas.Map.Views.{All-values-set_value}
 use Rattle.piece_ring.specs.declared.piece.Look.{Look}
 use Rattle.piece_ring.specs.declared.piece.Piece.{Piece}
 use Rattle.piece_ring.specs.Flat.{flat}
-use Rattle.piece_ring.specs.Offsets.{AreWithin}
 use Rattle.piece_ring.specs.Renaming.{renamed-inserted, renamed-deleted, renamed-looks_changed}
-use Rattle.piece_ring.specs.Text.{Text, inserted, deleted, looks_changed}
+use Rattle.piece_ring.specs.Text.{Text, inserted, deleted, looks_changed, AreWithin}
 use Rattle.readers_scanners.specs.Reading.{contents, bytes}
 use Rattle.viewer_tracks.specs.Columns.{IsOnTop}
 use Rattle.text_frames.specs.Rules.{shown_org}
@@ -37,7 +36,8 @@ use Rattle.desktop_definitions.specs.Change.{showing, caret_shown}
 use Rattle.desktop_definitions.specs.Seen.{seen, seen_text, seen_table}
 use Rattle.desktop_definitions.specs.Sound.{IsCaret, IsSelection, IsShaped, IsBuilt}
 use Rattle.desktop_definitions.specs.Changed.{texts_shown, IsChanged}
-use Rattle.desktop_laws.specs.ShapeLaws.{CanFollow, AreMoved, AreReorged, OrgsWithin, set_other, set_same}
+use Rattle.desktop_laws.specs.ShapeLaws.{AreReorged, OrgsWithin, set_other, set_same}
+use Rattle.desktop_laws.specs.DeskWords.{CanFollow, AreMoved, IsSet}
 use Rattle.desktop_laws.specs.ShapeLaws.{reorged_shown}
 use Rattle.desktop_laws.specs.ShapeLaws.{reorged_one, moved_reorged, orgs_within, viewers_stay}
 use Rattle.desktop_laws.specs.ShapeLaws.{places_stay, main_stays, marks_stay, one_if, count_cons, fewer_outside}
@@ -45,11 +45,6 @@ use Rattle.desktop_laws.specs.ChangeLaws.{held_edited, org_shown}
 use Rattle.desktop_laws.specs.TextLaws.{text_in_seen, long_seen, there_seen}
 use Rattle.desktop_definitions.specs.Looks.{AreLooks}
 use Rattle.desktop_laws.specs.LookedLaws.{seen_looks, looks_stay, edited_looks, within_stays}
-
--- The text of that number became this one, and no other changed.
-pub record IsSet (old new : Texts (List Piece)) (n : ℕ) (text : Text ℕ) : Type 0 where
-  pub set : new ≡ set_value (is_at (nat_cmp n)) old (text_in new n)
-  pub is : flat (text_in new n) ≡ text
 
 pub is_set : (old new : Texts (List Piece)) (n : ℕ) (text : Text ℕ) (w : List Piece) → IsSome (numbered old n)
     → new ≡ set_value (is_at (nat_cmp n)) old w → flat w ≡ text → IsSet old new n text

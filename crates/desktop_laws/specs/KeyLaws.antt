@@ -15,8 +15,8 @@ use Rattle.piece_ring.specs.declared.piece.Look.{Look}
 use Rattle.piece_ring.specs.declared.piece.Piece.{Piece}
 use Rattle.piece_ring.specs.Flat.{flat, run}
 use Rattle.piece_ring.specs.Lengths.{length-run, length-looks_changed}
-use Rattle.piece_ring.specs.Offsets.{AreWithin, stretch-AreWithin}
-use Rattle.piece_ring.specs.Text.{stretch, looks_changed}
+use Rattle.piece_ring.specs.Offsets.{stretch-AreWithin}
+use Rattle.piece_ring.specs.Text.{stretch, looks_changed, AreWithin}
 use Rattle.readers_scanners.specs.Reading.{contents}
 use Rattle.text_core.specs.Attributes.{look_at, look_of}
 use Rattle.viewer_tracks.specs.Columns.{IsOnTop}
@@ -30,7 +30,7 @@ use Rattle.desktop_definitions.specs.Tables.{Texts, numbered}
 use Rattle.desktop_laws.specs.TableLaws.{length_seen_text}
 use Rattle.desktop_definitions.specs.Desktop.{Desktop, KeptDesktop, held}
 use Rattle.desktop_definitions.specs.Viewers.{viewer_of, viewer_or_none, text_in, text_of, main_of, newest, selected}
-use Rattle.desktop_definitions.specs.Viewers.{with_caret, with_selection}
+use Rattle.desktop_definitions.specs.Viewers.{with_caret, with_selection, kept_main}
 use Rattle.desktop_definitions.specs.Change.{in_look, looks_set, put_in, put_at_caret, cut_out, more_written}
 use Rattle.desktop_definitions.specs.Keys.{typed, pressed, with_copied, escaped}
 use Rattle.desktop_definitions.specs.Gesture.{copied_to, looks_taken, taken_out, sent_to_caret, drawn_in}
@@ -42,11 +42,12 @@ use Rattle.desktop_definitions.specs.Changed.{texts_shown, IsChanged, Counts}
 use Rattle.desktop_definitions.specs.Outcome.{reply_codes, IsAnswered}
 use Rattle.desktop_laws.specs.PlaceLaws.{on_top_placed}
 use Rattle.desktop_laws.specs.OutcomeLaws.{refused, seen_grown, length_in_look}
-use Rattle.desktop_laws.specs.RowLaws.{has_space, row_answered, rest_answered, changed_answered, full_answered}
+use Rattle.desktop_laws.specs.RowLaws.{row_answered, rest_answered, changed_answered, full_answered}
+use Rattle.desktop_laws.specs.DeskWords.{has_space}
 use Rattle.desktop_laws.specs.RowLaws.{full_rest_answered, over_built, changed_as, changed_under, changed_further}
 use Rattle.desktop_laws.specs.RowLaws.{main_seen, same_main, text_held}
 use Rattle.desktop_laws.specs.MarkLaws.{with_caret_changed, with_selection_changed, escaped_changed}
-use Rattle.desktop_laws.specs.RowPartLaws.{kept_main, kept_main_seen, kept_main_long, copy_seen, copy_long}
+use Rattle.desktop_laws.specs.RowPartLaws.{kept_main_seen, kept_main_long, copy_seen, copy_long}
 use Rattle.desktop_laws.specs.RowPartLaws.{selected_long, text_within, copied_changed, deleted_changed}
 use Rattle.desktop_laws.specs.RowPartLaws.{copied_counts, copy_looks}
 use Rattle.desktop_laws.specs.RowPartLaws.{put_in_counts, put_at_caret_counts, sent_counts, less_answered}

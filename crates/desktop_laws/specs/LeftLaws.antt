@@ -1,7 +1,7 @@
 -- Laws of what a desktop holds without a viewer and without the texts that nobody shows then.
 use Rattle.std.specs.Prelude.{◌≡◌, ℕ, ◌+◌, ◌≤◌, ◌==◌, ◌||◌, ◌&&◌, not, Bool, true, false, cond, List, [], ◌∷◌, length}
 use Rattle.std.specs.Prelude.{filter}
-use Rattle.std.specs.Prelude.{if◌then◌else◌, sum_by, Option, Some, None}
+use Rattle.std.specs.Prelude.{if◌then◌else◌, Option, Some, None}
 use Rattle.std.specs.List.{AllByRecursion, list_any}
 use Rattle.std.specs.List.Sorted.{IsStrictlySortedBy}
 use Rattle.std.specs.Map.{keys_of, values_of, remove_entry}
@@ -23,20 +23,7 @@ use Rattle.desktop_definitions.specs.Viewers.{without_viewer}
 use Rattle.desktop_definitions.specs.Opening.{is_shown, dropped}
 use Rattle.desktop_definitions.specs.Seen.{seen, seen_text, seen_table}
 use Rattle.desktop_laws.specs.PlaceLaws.{at_is}
-
--- whether a viewer is the one that goes
-abbrev pub is_taken : Option ℕ → ℕ → Bool
-is_taken None v = false
-is_taken (Some g) v = g == v
-
--- whether another viewer shows a text
-abbrev pub still_shown : Option ℕ → List (ℕ × Viewer) → ℕ → Bool
-still_shown taken viewers n =
-    list_any (λ e. not (is_taken taken e.0) && ((e.1.menu == n) || (e.1.main == n))) viewers
-
--- how many characters the texts have that pass the test
-abbrev pub kept_left : (ℕ → Bool) → Texts (List Piece) → ℕ
-kept_left test texts = sum_by (λ e. if test e.0 then length (flat e.1) else 0) texts
+use Rattle.desktop_laws.specs.DeskWords.{still_shown, kept_left}
 
 -- ---- who shows a text
 

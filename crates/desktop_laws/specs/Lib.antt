@@ -1,4 +1,5 @@
 pub mod Rewriting
+pub mod DeskWords
 pub mod TableLaws
 pub mod SeenLaws
 pub mod TextLaws

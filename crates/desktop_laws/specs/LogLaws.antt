@@ -39,7 +39,8 @@ use Rattle.desktop_definitions.specs.Sound.{IsWithin, IsBuilt, IsOver}
 use Rattle.desktop_definitions.specs.Changed.{texts_shown, IsChanged, IsStanding, IsExtended, Counts}
 use Rattle.desktop_definitions.specs.Outcome.{IsAnswered}
 use Rattle.desktop_laws.specs.OutcomeLaws.{refused, length_in_look}
-use Rattle.desktop_laws.specs.RowLaws.{has_space, known_full, shown_rest, space_written, space_held, space_made}
+use Rattle.desktop_laws.specs.RowLaws.{known_full, shown_rest, space_written, space_held, space_made}
+use Rattle.desktop_laws.specs.DeskWords.{has_space}
 use Rattle.desktop_laws.specs.RowLaws.{row_answered, fewer_answered, over_built, unchanged, changed_as}
 use Rattle.desktop_laws.specs.RowLaws.{changed_further}
 use Rattle.desktop_laws.specs.RowPartLaws.{kept_text_seen}

@@ -5,6 +5,7 @@ use Rattle.std.specs.Str.{bytes_eq}
 use Rattle.std.proofs.Common.{refl, sym, ap, subst, ◌∙◌, arith}
 use Rattle.piece_ring.specs.declared.piece.Look.{Look}
 use Rattle.piece_ring.specs.Look.{default_look, relooked}
+use Rattle.desktop_definitions.specs.declared.look_change.LookChange.{LookChange}
 use Rattle.desktop_definitions.specs.declared.viewer.Selection.{Selection}
 use Rattle.desktop_definitions.specs.declared.reply.Reply.TheVariants.{Done, No}
 use Rattle.desktop_definitions.specs.Limits.{no_selection, bad_value}
@@ -54,51 +55,51 @@ typed_over old d look is over = record {
 
 module _ (H : Type 0) (old : List ℕ) (d : KeptDesktop) (over : IsOver old d) where
   -- a refusal where no field is set
-  pub none_set_answered : (new : Option (ℕ × Look)) (row : ℕ × Look → Result Desktop ℕ) → new ≡ None
+  pub none_set_answered : (new : Option LookChange) (row : LookChange → Result Desktop ℕ) → new ≡ None
       → IsAnswered H old old d d (settled (seen old d) (needs new bad_value row)) (No bad_value)
   none_set_answered new row is = refusal_answered H old d _ bad_value over known_bad_value
-      (ap (λ (o : Option (ℕ × Look)). needs o bad_value row) is)
+      (ap (λ (o : Option LookChange). needs o bad_value row) is)
 
-  pub look_set_answered : (new : Option (ℕ × Look)) (set : ℕ × Look) (look : Look) → SetsLook new → new ≡ Some set
-      → look ≡ relooked set.0 set.1 d.look
+  pub look_set_answered : (new : Option LookChange) (set : LookChange) (look : Look) → SetsLook new → new ≡ Some set
+      → look ≡ relooked set.selector set.look d.look
       → IsAnswered H old old d (in_typed d look)
       (settled (seen old d) (needs new bad_value (λ set. Ok (look_set (seen old d) set)))) Done
   unfolding seen look_set
   look_set_answered new set look sets is look_is =
       row_as (seen old d) _
       (row_answered H old old d (in_typed d look) (look_set (seen old d) set)
-      (typed_over old d look (subst IsLook (sym look_is) (relooked_is_look set.0 set.1 d.look (sets set is)
+      (typed_over old d look (subst IsLook (sym look_is) (relooked_is_look set.selector set.look d.look (sets set is)
       (kept_look (length old) d (over_built old d over)))) over)
       (λ h k. in_typed (seen old d) (look_is k)))
-      (ap (λ (o : Option (ℕ × Look)). needs o bad_value (λ set. Ok (look_set (seen old d) set))) is)
+      (ap (λ (o : Option LookChange). needs o bad_value (λ set. Ok (look_set (seen old d) set))) is)
 
   -- ---- the newest selection
 
   -- a refusal without a selection
-  pub none_selected_answered : (new : Option (ℕ × Look)) (set : ℕ × Look) → new ≡ Some set → newest d ≡ None
+  pub none_selected_answered : (new : Option LookChange) (set : LookChange) → new ≡ Some set → newest d ≡ None
       → IsAnswered H old old d d (settled (seen old d) (needs new bad_value (selection_set (seen old d))))
       (No no_selection)
   unfolding seen selection_set
   none_selected_answered new set is none = refusal_answered H old d _ no_selection over known_no_selection
-      (ap (λ (o : Option (ℕ × Look)). needs o bad_value (selection_set (seen old d))) is
-      ∙ ap (λ (o : Option Selection). needs o no_selection (λ s. Ok (looks_set (seen old d) s set.0 set.1))) none)
+      (ap (λ (o : Option LookChange). needs o bad_value (selection_set (seen old d))) is
+      ∙ ap (λ (o : Option Selection). needs o no_selection (λ s. Ok (looks_set (seen old d) s set.selector set.look))) none)
 
-  pub selection_set_answered : (new : Option (ℕ × Look)) (set : ℕ × Look) (s : Selection) (after : KeptDesktop)
-      → new ≡ Some set → newest d ≡ Some s → IsChanged ⊤ old d after (looks_set (seen old d) s set.0 set.1) 0 0
+  pub selection_set_answered : (new : Option LookChange) (set : LookChange) (s : Selection) (after : KeptDesktop)
+      → new ≡ Some set → newest d ≡ Some s → IsChanged ⊤ old d after (looks_set (seen old d) s set.selector set.look) 0 0
       → IsAnswered H old old d after (settled (seen old d) (needs new bad_value (selection_set (seen old d)))) Done
   unfolding seen selection_set
   selection_set_answered new set s after is some changed =
       row_as (seen old d) _
-      (less_answered H old old d after (looks_set (seen old d) s set.0 set.1) 0 0 (omega arith) over refl (λ h. refl)
+      (less_answered H old old d after (looks_set (seen old d) s set.selector set.look) 0 0 (omega arith) over refl (λ h. refl)
       (changed_under (λ h. tt) changed))
-      (ap (λ (o : Option (ℕ × Look)). needs o bad_value (selection_set (seen old d))) is
-      ∙ ap (λ (o : Option Selection). needs o no_selection (λ s. Ok (looks_set (seen old d) s set.0 set.1))) some)
+      (ap (λ (o : Option LookChange). needs o bad_value (selection_set (seen old d))) is
+      ∙ ap (λ (o : Option Selection). needs o no_selection (λ s. Ok (looks_set (seen old d) s set.selector set.look))) some)
 
 -- ---- fonts
 
 -- the default look in the font of a number, to be taken of it
-abbrev pub in_font : ℕ → ℕ × Look
-in_font n = (1, record default_look { font = n })
+abbrev pub in_font : ℕ → LookChange
+in_font n = record { selector = 1; look = record default_look { font = n } }
 
 -- where the bytes of a name stand among the fonts
 pub font_found : (bytes name : List ℕ) (place : Option ℕ) → place ≡ position (bytes_eq bytes) fonts → bytes ≡ name

@@ -18,11 +18,11 @@ use Rattle.piece_ring.specs.declared.piece.Look.{Look}
 use Rattle.piece_ring.specs.declared.piece.Piece.{Piece}
 use Rattle.piece_ring.specs.Look.{default_look, has_bit, relooked}
 use Rattle.piece_ring.specs.Flat.{flat, run}
-use Rattle.piece_ring.specs.Offsets.{AreWithin}
-use Rattle.piece_ring.specs.Text.{Text, stretch, inserted, deleted, all_relooked, looks_changed}
+use Rattle.piece_ring.specs.Text.{Text, stretch, inserted, deleted, all_relooked, looks_changed, AreWithin}
 use Rattle.readers_scanners.specs.Reading.{contents}
 use Rattle.text_core.specs.Attributes.{look_at, look_of}
 use Rattle.viewer_tracks.specs.declared.display.TheConstants.{ROWS, COLUMNS}
+use Rattle.desktop_definitions.specs.declared.look_change.LookChange.{LookChange}
 use Rattle.desktop_definitions.specs.Limits.{number_of_fonts, number_of_colours, least_offset, greatest_offset}
 use Rattle.desktop_definitions.specs.Limits.{most_pattern}
 use Rattle.desktop_definitions.specs.Looks.{fonts, font_set, colour_set, offset_set, IsLook, SetsLook, AreLooks}
@@ -57,12 +57,12 @@ relooked_is_look selector new old is was = record {
 pub font_sets_look : (name : List ℕ) → SetsLook (font_set name)
 font_sets_look name = by_place (position (bytes_eq name) fonts) refl where
   by_place : (place : Option ℕ) → position (bytes_eq name) fonts ≡ place
-      → SetsLook (option_map (λ n. (1, record default_look { font = n })) place)
+      → SetsLook (option_map (λ n. record { selector = 1; look = record default_look { font = n } }) place)
   by_place None found set is = absurd (cc is)
   by_place (Some n) found set is =
       let within : n < length fonts = (position-Some (bytes_eq name) fonts n [] found).0 in
-      let same : (1, record default_look { font = n }) ≡ set = cc is in
-      subst (λ (s : ℕ × Look). IsLook s.1) same (record {
+      let same : record { selector = 1; look = record default_look { font = n } } ≡ set = cc is in
+      subst (λ (s : LookChange). IsLook s.look) same (record {
         font = omega (arith, within);
         colour = default_is_look.colour;
         least = default_is_look.least;
@@ -73,11 +73,11 @@ pub colour_sets_look : (z : ℤ) → SetsLook (colour_set z)
 colour_sets_look (negsuc n) = λ set is. absurd (cc is)
 colour_sets_look (pos n) = by_test (nat_le 0 n && nat_lt n number_of_colours) refl where
   by_test : (test : Bool) → nat_le 0 n && nat_lt n number_of_colours ≡ test
-      → SetsLook (if test then Some (2, record default_look { colour = n }) else None)
+      → SetsLook (if test then Some (record { selector = 2; look = record default_look { colour = n } }) else None)
   by_test false tested set is = absurd (cc is)
   by_test true tested set is =
-      let same : (2, record default_look { colour = n }) ≡ set = cc is in
-      subst (λ (s : ℕ × Look). IsLook s.1) same (record {
+      let same : record { selector = 2; look = record default_look { colour = n } } ≡ set = cc is in
+      subst (λ (s : LookChange). IsLook s.look) same (record {
         font = default_is_look.font;
         colour = ltb-true n number_of_colours (and_parts _ _ tested).1;
         least = default_is_look.least;
@@ -87,12 +87,12 @@ colour_sets_look (pos n) = by_test (nat_le 0 n && nat_lt n number_of_colours) re
 pub offset_sets_look : (z : ℤ) → SetsLook (offset_set z)
 offset_sets_look z = by_test (int_le least_offset z && int_le z greatest_offset) refl where
   by_test : (test : Bool) → int_le least_offset z && int_le z greatest_offset ≡ test
-      → SetsLook (if test then Some (4, record default_look { voff = z }) else None)
+      → SetsLook (if test then Some (record { selector = 4; look = record default_look { voff = z } }) else None)
   by_test false tested set is = absurd (cc is)
   by_test true tested set is =
-      let same : (4, record default_look { voff = z }) ≡ set = cc is in
+      let same : record { selector = 4; look = record default_look { voff = z } } ≡ set = cc is in
       let both = and_parts _ _ tested in
-      subst (λ (s : ℕ × Look). IsLook s.1) same (record {
+      subst (λ (s : LookChange). IsLook s.look) same (record {
         font = default_is_look.font;
         colour = default_is_look.colour;
         least = both.0;

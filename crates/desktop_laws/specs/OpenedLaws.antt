@@ -12,8 +12,7 @@ use Rattle.std.proofs.lemmas.Map.Made.{is_some-lookup, keys_of-map_values}
 use Rattle.std.proofs.lemmas.Map.Views.{All-values-insert_entry}
 use Rattle.piece_ring.specs.declared.piece.Piece.{Piece}
 use Rattle.piece_ring.specs.Flat.{flat}
-use Rattle.piece_ring.specs.Offsets.{AreWithin}
-use Rattle.piece_ring.specs.Text.{Text}
+use Rattle.piece_ring.specs.Text.{Text, AreWithin}
 use Rattle.viewer_tracks.specs.declared.display.Track.{Track}
 use Rattle.viewer_tracks.specs.declared.display.Track.TheVariants.{User, System}
 use Rattle.viewer_tracks.specs.Display.{track_at, left_of}

@@ -1,5 +1,5 @@
 -- The outcome of an opening, where the limits are known to hold after it.
-use Rattle.std.specs.Prelude.{◌≡◌, ◌≤◌, ◌<◌, ◌&&◌, nat_le, true, ℕ, ◌+◌, ◌*◌, ◌^◌, List, [], ◌∷◌, ◌++◌, length}
+use Rattle.std.specs.Prelude.{◌≡◌, ◌≤◌, ◌&&◌, nat_le, true, ℕ, ◌+◌, ◌*◌, List, [], ◌∷◌, ◌++◌, length}
 use Rattle.std.specs.Prelude.{is_some, if◌then◌else◌, Some, None, Ok}
 use Rattle.std.specs.Ordering.{nat_cmp, match_ordering}
 use Rattle.std.specs.declared.cmp.Ordering.TheVariants.{Less, Equal, Greater}
@@ -10,8 +10,8 @@ use Rattle.piece_ring.specs.declared.piece.Piece.{Piece}
 use Rattle.piece_ring.specs.Look.{default_look}
 use Rattle.piece_ring.specs.Flat.{flat, run}
 use Rattle.piece_ring.specs.Lengths.{length-run}
-use Rattle.piece_ring.specs.Offsets.{AreWithin, run-AreWithin}
-use Rattle.piece_ring.specs.Text.{Text}
+use Rattle.piece_ring.specs.Offsets.{run-AreWithin}
+use Rattle.piece_ring.specs.Text.{Text, AreWithin}
 use Rattle.readers_scanners.specs.Reading.{contents}
 use Rattle.viewer_tracks.specs.declared.display.TheConstants.{ROWS, DEPTH}
 use Rattle.viewer_tracks.specs.declared.display.Track.{Track}
@@ -29,7 +29,7 @@ use Rattle.desktop_definitions.specs.Opening.{new_number, new_id, with_new, with
 use Rattle.desktop_definitions.specs.Opening.{opening, dropped}
 use Rattle.desktop_definitions.specs.Seen.{seen, seen_text}
 use Rattle.desktop_laws.specs.SeenLaws.{seen_longer, new_read}
-use Rattle.desktop_definitions.specs.Step.{fits, settled}
+use Rattle.desktop_definitions.specs.Step.{fits, settled, outcome_of}
 use Rattle.desktop_laws.specs.StepLaws.{fit_written, fit_held, fits_by}
 use Rattle.desktop_definitions.specs.Sound.{IsWithin, IsShaped, IsBuilt, IsSound, IsOver}
 use Rattle.desktop_definitions.specs.Sound.{IsKeptWhole, times_there}
@@ -45,6 +45,7 @@ use Rattle.desktop_laws.specs.OpenedLaws.{opening_to, opening_on_is, opening_ove
 use Rattle.desktop_laws.specs.OpenedLaws.{covering_anew, seen_opening_to, opening_seen, text_built, new_kept}
 use Rattle.desktop_definitions.specs.Looks.{AreLooks}
 use Rattle.desktop_laws.specs.LookedLaws.{default_is_look, run_looks, seen_looks, written_shaped, within_stays}
+use Rattle.desktop_laws.specs.DeskWords.{CanOpen}
 
 -- ---- how many there are
 
@@ -82,12 +83,6 @@ new_fresh d whole placed =
     let none : times_there d.columns d.closed v ≡ 0
     = once ∙ (λ k. if is_some (unused_none d.viewers k) then 1 else 0) in
     absurd (omega (arith, none, placed))
-
--- A text more and a viewer more have numbers of 16 bits, and that viewer stands nowhere yet.
-pub record CanOpen (d : KeptDesktop) : Type 0 where
-  pub texts : length d.texts < 2 ^ 16
-  pub viewers : length d.viewers < 2 ^ 16
-  pub fresh : ¬ IsPlaced (new_id d) d.columns
 
 pub can_open : (d : KeptDesktop) → IsKeptWhole d → CanOpen d
 can_open d whole = record {
@@ -297,9 +292,9 @@ module _ (H : Type 0) (old bytes new : List ℕ) (d : KeptDesktop) (menu : List 
       → seen_text new menu ≡ text → opening_to (seen old d) text main org place ≡ outcome
       → IsAnswered H old new before after_on (settled was (Ok (more_written outcome n))) Done
   on_answered before was text outcome read is = acted H old new before after_on _ over_after (λ h.
-      (λ k. (seen_after new k, Done))
-      ∙ (λ k. (more_written (dropped (opening_to (before_read k) (read k) main org place)) n, Done))
-      ∙ (λ k. (dropped_more (is k) n k, Done))
+      (λ k. outcome_of (seen_after new k) Done)
+      ∙ (λ k. outcome_of (more_written (dropped (opening_to (before_read k) (read k) main org place)) n) Done)
+      ∙ (λ k. outcome_of (dropped_more (is k) n k) Done)
       ∙ done was (more_written outcome n)
       (ap (λ (x : Desktop). fits (dropped (more_written x n))) (sym is)
       ∙ on.fit old text (ap length (sym read) ∙ length_seen_text new menu)))

@@ -18,13 +18,12 @@ use Rattle.std.proofs.lemmas.Map.Views.{IfSome-lookup_from_All}
 use Rattle.piece_ring.specs.declared.piece.Piece.{Piece}
 use Rattle.piece_ring.specs.Look.{default_look}
 use Rattle.piece_ring.specs.Flat.{flat, run}
-use Rattle.piece_ring.specs.Offsets.{AreWithin}
-use Rattle.piece_ring.specs.Text.{Text}
+use Rattle.piece_ring.specs.Text.{Text, AreWithin}
 use Rattle.readers_scanners.specs.Reading.{contents}
 use Rattle.viewer_tracks.specs.declared.display.TheConstants.{ROWS}
 use Rattle.viewer_tracks.specs.declared.display.Track.{Track}
 use Rattle.viewer_tracks.specs.declared.display.Track.TheVariants.{User, System}
-use Rattle.viewer_tracks.specs.Display.{track_at, left_of}
+use Rattle.viewer_tracks.specs.Display.{track_at}
 use Rattle.viewer_tracks.specs.Viewers.{Entry, bottom_of, top_of, tops, lowest_reaching, entry_of}
 use Rattle.viewer_tracks.specs.Edits.{open_entry, open_top, takes_place, replaced}
 use Rattle.viewer_tracks.specs.Columns.{Columns, IsColumns, IsPlaced, IsOnTop, shown, track_of, placed_bottom}
@@ -44,7 +43,7 @@ use Rattle.desktop_definitions.specs.Effects.{opened_on_copy, document_opened, f
 use Rattle.desktop_definitions.specs.Effects.{viewer_copied}
 use Rattle.desktop_definitions.specs.Gesture.{tool_opened}
 use Rattle.desktop_definitions.specs.Seen.{seen, seen_text}
-use Rattle.desktop_definitions.specs.Step.{fits, settled}
+use Rattle.desktop_definitions.specs.Step.{fits, settled, outcome_of}
 use Rattle.desktop_laws.specs.StepLaws.{AllShown}
 use Rattle.desktop_definitions.specs.Sound.{IsShaped, IsBuilt, IsKeptWhole, IsOver}
 use Rattle.desktop_definitions.specs.Outcome.{IsAnswered}
@@ -59,13 +58,14 @@ use Rattle.desktop_laws.specs.OpeningDone.{written_answered, CanStand, IsOpening
 use Rattle.desktop_laws.specs.RowPartLaws.{kept_text_seen, text_within}
 use Rattle.desktop_definitions.specs.Looks.{AreLooks}
 use Rattle.desktop_laws.specs.LookedLaws.{found_looks, kept_text_looks, kept_files_looks}
+use Rattle.desktop_laws.specs.DeskWords.{IsPlaceOf}
 
 pub whole_built : (d : KeptDesktop) → IsKeptWhole d → IsBuilt d.written d
 whole_built d whole = record { within = whole.within; shaped = λ characters. (whole.sound characters).shaped }
 
 -- ---- refusals
 
-full_is : (d new : Desktop) → fits (dropped new) ≡ false → (d, No full) ≡ settled d (Ok new)
+full_is : (d new : Desktop) → fits (dropped new) ≡ false → outcome_of d (No full) ≡ settled d (Ok new)
 unfolding settled
 full_is d new unfit = rw unfit refl
 
@@ -196,14 +196,6 @@ module _ (t : List Entry) where
       and_false : (a b : Bool) → b ≡ false → a && b ≡ false
       and_false true b is = is
       and_false false b is = refl
-
--- where a viewer stands: its left column, the row at which it begins and the one before which it ends
-pub record IsPlaceOf (c : Columns) (v x bottom top : ℕ) : Type 0 where
-  pub left : x ≡ left_of (track_of c v)
-  pub begins : bottom ≡ placed_bottom c v
-  pub ends : top ≡ placed_top c v
-  pub some : bottom < top
-  pub within : top ≤ ROWS
 
 pub half_free : (c : Columns) (v x bottom top : ℕ) → IsColumns c → IsOnTop v c → IsPlaceOf c v x bottom top
     → ¬ (top - bottom ≡ 1) → replaced_at c x (bottom + (top - bottom) / 2) ≡ None

@@ -8,28 +8,28 @@ use Rattle.piece_ring.specs.declared.piece.Piece.{Piece}
 use Rattle.piece_ring.specs.Look.{default_look}
 use Rattle.piece_ring.specs.Flat.{flat, run}
 use Rattle.piece_ring.specs.Lengths.{length-run}
-use Rattle.piece_ring.specs.Offsets.{AreWithin, AreWithin-longer, run-AreWithin}
-use Rattle.piece_ring.specs.Text.{Text}
+use Rattle.piece_ring.specs.Offsets.{AreWithin-longer, run-AreWithin}
+use Rattle.piece_ring.specs.Text.{Text, AreWithin}
 use Rattle.readers_scanners.specs.Reading.{contents}
 use Rattle.event_bytes.specs.Bytes.{is_name}
 use Rattle.event_bytes.specs.declared.event.Event.TheVariants.{File}
-use Rattle.desktop_definitions.specs.declared.reply.Reply.{Reply}
 use Rattle.desktop_definitions.specs.declared.reply.Reply.TheVariants.{Done, No}
 use Rattle.desktop_definitions.specs.Tables.{Files, name_cmp, put, has_room}
 use Rattle.desktop_laws.specs.TableLaws.{insert_seen, length_seen_text, longer, put_within}
-use Rattle.desktop_definitions.specs.Desktop.{Desktop, KeptDesktop}
+use Rattle.desktop_definitions.specs.Desktop.{KeptDesktop}
 use Rattle.desktop_definitions.specs.Seen.{seen, seen_text, seen_table}
 use Rattle.desktop_laws.specs.SeenLaws.{seen_longer, within_counted, new_read}
 use Rattle.desktop_definitions.specs.Change.{in_look, plain}
-use Rattle.desktop_definitions.specs.Step.{filed, fits, step}
+use Rattle.desktop_definitions.specs.Step.{filed, fits, step, Outcome, outcome_of}
 use Rattle.desktop_laws.specs.StepLaws.{file_done, filed_sound}
 use Rattle.desktop_definitions.specs.Sound.{IsSound, AllWithin, IsWithin, IsOver}
 use Rattle.desktop_definitions.specs.Outcome.{reply_codes, IsAnswered}
 use Rattle.desktop_definitions.specs.Looks.{AreLooks}
 use Rattle.desktop_laws.specs.LookedLaws.{default_is_look, run_looks, seen_looks}
 
-pub refused : (H : Type 0) (old : List ℕ) (d : KeptDesktop) (outcome : Desktop × Reply) (code : ℕ) → IsOver old d
-    → OneOf reply_codes code → (H → (seen old d, No code) ≡ outcome) → IsAnswered H old old d d outcome (No code)
+pub refused : (H : Type 0) (old : List ℕ) (d : KeptDesktop) (outcome : Outcome) (code : ℕ) → IsOver old d
+    → OneOf reply_codes code → (H → outcome_of (seen old d) (No code) ≡ outcome)
+    → IsAnswered H old old d d outcome (No code)
 refused H old d outcome code over known is = record {
   exact = is;
   over = over;
@@ -37,8 +37,8 @@ refused H old d outcome code over known is = record {
   refusal = λ c same. record { desktop = refl; as_long = refl };
 }
 
-pub acted : (H : Type 0) (old new : List ℕ) (d after : KeptDesktop) (outcome : Desktop × Reply) → IsOver new after
-    → (H → (seen new after, Done) ≡ outcome) → IsAnswered H old new d after outcome Done
+pub acted : (H : Type 0) (old new : List ℕ) (d after : KeptDesktop) (outcome : Outcome) → IsOver new after
+    → (H → outcome_of (seen new after) Done ≡ outcome) → IsAnswered H old new d after outcome Done
 acted H old new d after outcome over is = record {
   exact = is;
   over = over;
@@ -117,15 +117,14 @@ module _ (H : Type 0) (old bytes new : List ℕ) (d : KeptDesktop) (name : List 
       };
     }
 
-    file_exact : (seen new with_file, Done) ≡ step (seen old d) (File name bytes)
+    file_exact : outcome_of (seen new with_file) Done ≡ step (seen old d) (File name bytes)
     file_exact =
-        (λ k. (file_read new k, Done))
-        ∙ (λ k. (
-          filed (seen_grown old bytes new d over grown k) name
-              ((ap (λ (l : List ℕ). seen_text l text) grown ∙ ap (contents (old ++ bytes)) is
-              ∙ new_read old bytes d.written default_look over.counted) k),
-          Done,
-        ))
+        (λ k. outcome_of (file_read new k) Done)
+        ∙ (λ k. outcome_of
+          (filed (seen_grown old bytes new d over grown k) name
+          ((ap (λ (l : List ℕ). seen_text l text) grown ∙ ap (contents (old ++ bytes)) is
+          ∙ new_read old bytes d.written default_look over.counted) k))
+          Done)
         ∙ file_done (seen old d) name bytes (over.whole.sound old).shown (room_seen old)
         (fit old (plain bytes) (length_in_look default_look bytes))
 

@@ -42,7 +42,8 @@ use Rattle.desktop_laws.specs.PlaceLaws.{on_top_placed}
 use Rattle.desktop_laws.specs.OpeningOnLaws.{viewer_can}
 use Rattle.desktop_laws.specs.RowLaws.{main_seen, same_main}
 use Rattle.desktop_laws.specs.RowPartLaws.{last_holds}
-use Rattle.desktop_laws.specs.ShapeLaws.{IsMoved, OrgsWithin, orgs_within, set_same}
+use Rattle.desktop_laws.specs.ShapeLaws.{OrgsWithin, orgs_within, set_same}
+use Rattle.desktop_laws.specs.DeskWords.{IsMoved}
 
 -- ---- positions
 

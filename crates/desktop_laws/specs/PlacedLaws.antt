@@ -8,7 +8,7 @@ use Rattle.std.proofs.lemmas.List.Elements.{All-cons, All-tail}
 use Rattle.std.proofs.lemmas.Map.Made.{keys_of-map_values}
 use Rattle.piece_ring.specs.declared.piece.Piece.{Piece}
 use Rattle.piece_ring.specs.Flat.{flat}
-use Rattle.piece_ring.specs.Offsets.{AreWithin}
+use Rattle.piece_ring.specs.Text.{AreWithin}
 use Rattle.viewer_tracks.specs.Columns.{Columns, IsColumns, IsPlaced, IsOnTop, times_placed, times_meant}
 use Rattle.viewer_tracks.specs.Columns.{after_change as columns_changed, after_close, after_open, replaced_at}
 use Rattle.viewer_tracks.proofs.ColumnLemmas.{close_keeps}
@@ -21,7 +21,7 @@ use Rattle.desktop_definitions.specs.Viewers.{without_viewer, opened_at}
 use Rattle.desktop_definitions.specs.Opening.{is_shown, dropped}
 use Rattle.desktop_definitions.specs.Gesture.{resized, carried}
 use Rattle.desktop_definitions.specs.Seen.{seen, seen_text}
-use Rattle.desktop_definitions.specs.Step.{fits, settled}
+use Rattle.desktop_definitions.specs.Step.{fits, settled, outcome_of}
 use Rattle.desktop_definitions.specs.Sound.{AllWithin, IsWithin, IsSound, IsOver}
 use Rattle.desktop_definitions.specs.Outcome.{IsAnswered}
 use Rattle.desktop_laws.specs.OutcomeLaws.{acted}
@@ -113,7 +113,7 @@ dropped_written d = refl
 pub fits_within : (d : Desktop) → d.written ≤ most_written → held d ≤ most_held → fits d ≡ true
 fits_within d written all = rw (le-leb d.written most_written written, le-leb (held d) most_held all) refl
 
-pub done : (d new : Desktop) → fits (dropped new) ≡ true → (dropped new, Done) ≡ settled d (Ok new)
+pub done : (d new : Desktop) → fits (dropped new) ≡ true → outcome_of (dropped new) Done ≡ settled d (Ok new)
 unfolding settled
 done d new fit = rw fit refl
 
@@ -180,7 +180,7 @@ module _ (H : Type 0) (old : List ℕ) (d : KeptDesktop) (columns : Columns) (ta
   pub anew_answered : IsAnswered H old old d after (settled (seen old d) (Ok (placed_anew
       (seen old d) columns taken))) Done
   anew_answered = acted H old old d after _ anew_over
-      (λ h. (λ k. (seen_after old k, Done))
+      (λ h. (λ k. outcome_of (seen_after old k) Done)
       ∙ done (seen old d) (placed_anew (seen old d) columns taken)
       (fits_within (now old) (written_now old) (held_now old)))
 

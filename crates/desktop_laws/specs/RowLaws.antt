@@ -30,17 +30,14 @@ use Rattle.desktop_definitions.specs.Opening.{is_shown}
 use Rattle.desktop_definitions.specs.Change.{more_written}
 use Rattle.desktop_definitions.specs.Seen.{seen, seen_text, seen_table}
 use Rattle.desktop_laws.specs.SeenLaws.{within_counted}
-use Rattle.desktop_definitions.specs.Step.{fits, settled}
+use Rattle.desktop_definitions.specs.Step.{fits, settled, outcome_of}
 use Rattle.desktop_laws.specs.StepLaws.{AllShown, settled_done, settled_full}
 use Rattle.desktop_definitions.specs.Sound.{AreViewers, ArePlaces, IsSound, IsWithin, IsBuilt, IsOver}
 use Rattle.desktop_definitions.specs.Changed.{texts_shown, IsChanged, Counts}
 use Rattle.desktop_definitions.specs.Outcome.{reply_codes, IsAnswered}
 use Rattle.desktop_laws.specs.OutcomeLaws.{refused, acted, within_longer}
 use Rattle.desktop_laws.specs.LookedLaws.{written_shaped, within_stays}
-
--- Whether the limits on characters hold once so many are made, and so many more and so many fewer are held.
-unfoldable pub has_space : Desktop → ℕ → ℕ → ℕ → Bool
-has_space d made more fewer = nat_le (d.written + made) most_written && nat_le (held d + more) (most_held + fewer)
+use Rattle.desktop_laws.specs.DeskWords.{has_space}
 
 -- ---- the codes
 
@@ -179,7 +176,7 @@ full_rest_answered H old d new more fewer over counts none =
 
 -- ---- rows that are done
 
-settled_sound : (d new : Desktop) → IsSound new → settled d (Ok new) ≡ (new, Done)
+settled_sound : (d new : Desktop) → IsSound new → settled d (Ok new) ≡ (outcome_of new Done)
 settled_sound d new sound = settled_done d new sound.shown (fit_sound new sound)
 
 -- what is over its characters after a row, and seen as its outcome, is the event done
@@ -188,7 +185,7 @@ pub row_answered : (H : Type 0) (old new : List ℕ) (before after : KeptDesktop
     → IsAnswered H old new before after (settled (seen old before) (Ok outcome)) Done
 row_answered H old new before after outcome over is = acted H old new before after _ over (λ h.
     let sound : IsSound outcome = subst IsSound (is h) (over.whole.sound new) in
-    (λ k. (is h k, Done)) ∙ sym (settled_sound (seen old before) outcome sound))
+    (λ k. outcome_of (is h k) Done) ∙ sym (settled_sound (seen old before) outcome sound))
 
 module _ {H : Type 0} (old now new : List ℕ) (before after : KeptDesktop) (outcome : Desktop) (made more fewer : ℕ)
     (over : IsOver old before) (changed : IsChanged H now before after outcome more fewer)

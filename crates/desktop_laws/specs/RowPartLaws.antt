@@ -10,9 +10,8 @@ use Rattle.std.proofs.lemmas.Bool.{and_from, le-leb}
 use Rattle.piece_ring.specs.declared.piece.Piece.{Piece}
 use Rattle.piece_ring.specs.Flat.{flat}
 use Rattle.piece_ring.specs.Lengths.{length-stretch}
-use Rattle.piece_ring.specs.Offsets.{AreWithin}
 use Rattle.piece_ring.specs.Renaming.{renamed-stretch}
-use Rattle.piece_ring.specs.Text.{Text, stretch}
+use Rattle.piece_ring.specs.Text.{Text, stretch, AreWithin}
 use Rattle.readers_scanners.specs.Reading.{contents}
 use Rattle.viewer_tracks.specs.Columns.{IsOnTop}
 use Rattle.desktop_definitions.specs.declared.viewer.Caret.{Caret}
@@ -23,7 +22,7 @@ use Rattle.desktop_definitions.specs.Tables.{numbered}
 use Rattle.desktop_laws.specs.TableLaws.{length_seen_text}
 use Rattle.desktop_definitions.specs.Desktop.{Desktop, KeptDesktop, held}
 use Rattle.desktop_definitions.specs.Viewers.{viewer_of, viewer_or_none, text_in, text_of, main_of, selected}
-use Rattle.desktop_definitions.specs.Viewers.{with_selection}
+use Rattle.desktop_definitions.specs.Viewers.{with_selection, kept_main}
 use Rattle.desktop_definitions.specs.Change.{insertion, deletion, caret_shown, put_in, put_at_caret, cut_out}
 use Rattle.desktop_laws.specs.ChangeLaws.{counts_none, insertion_counts, caret_shown_counts, with_selection_counts}
 use Rattle.desktop_definitions.specs.Seen.{seen, seen_text}
@@ -32,15 +31,12 @@ use Rattle.desktop_definitions.specs.Step.{settled}
 use Rattle.desktop_definitions.specs.Sound.{IsSelection, IsSound, IsWithin, IsBuilt, IsOver}
 use Rattle.desktop_definitions.specs.Changed.{IsChanged, Counts}
 use Rattle.desktop_definitions.specs.Outcome.{IsAnswered}
-use Rattle.desktop_laws.specs.RowLaws.{has_space, changed_as, changed_further, counts_then, rest_answered}
+use Rattle.desktop_laws.specs.RowLaws.{changed_as, changed_further, counts_then, rest_answered}
+use Rattle.desktop_laws.specs.DeskWords.{has_space}
 use Rattle.desktop_definitions.specs.Looks.{AreLooks}
 use Rattle.desktop_laws.specs.LookedLaws.{seen_looks, stretch_looks, kept_text_looks}
 use Rattle.desktop_laws.specs.LookedLaws.{kept_copied_looks, kept_deleted_looks}
 use Rattle.desktop_laws.specs.LookedLaws.{copied_looks, taken_looks, shape_stays}
-
--- the pieces of a viewer's main text
-abbrev pub kept_main : KeptDesktop → ℕ → List Piece
-kept_main d v = text_in d.texts (viewer_or_none d.viewers v).main
 
 -- ---- texts as they are seen
 

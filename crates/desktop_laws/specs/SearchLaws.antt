@@ -21,26 +21,25 @@ use Rattle.desktop_definitions.specs.declared.viewer.Caret.{Caret}
 use Rattle.desktop_definitions.specs.declared.viewer.Selection.{Selection}
 use Rattle.desktop_definitions.specs.declared.reply.Reply.{Reply}
 use Rattle.desktop_definitions.specs.declared.reply.Reply.TheVariants.{Done, No}
-use Rattle.desktop_definitions.specs.Limits.{most_held, most_pattern, no_caret, no_selection, not_found, full}
+use Rattle.desktop_definitions.specs.Limits.{most_pattern, no_caret, no_selection, not_found, full}
 use Rattle.desktop_laws.specs.TableLaws.{length_seen_text}
 use Rattle.desktop_definitions.specs.Desktop.{Desktop, KeptDesktop, held}
-use Rattle.desktop_definitions.specs.Viewers.{main_of, newest, selected}
+use Rattle.desktop_definitions.specs.Viewers.{main_of, newest, selected, kept_main}
 use Rattle.desktop_definitions.specs.Needs.{needs, unless}
 use Rattle.desktop_definitions.specs.Change.{bytes_of, showing, caret_shown, put_at_caret}
-use Rattle.desktop_definitions.specs.Shown.{caret_position}
 use Rattle.desktop_definitions.specs.Effects.{found_at, pattern_after, searched}
 use Rattle.desktop_definitions.specs.Seen.{seen, seen_text}
-use Rattle.desktop_definitions.specs.Step.{settled}
+use Rattle.desktop_definitions.specs.Step.{settled, Outcome}
 use Rattle.desktop_definitions.specs.Sound.{IsBuilt, IsOver}
 use Rattle.desktop_definitions.specs.Changed.{IsChanged, Counts}
 use Rattle.desktop_definitions.specs.Outcome.{IsAnswered}
-use Rattle.desktop_laws.specs.RowLaws.{has_space, rest_answered, fewer_answered, full_rest_answered, over_built}
+use Rattle.desktop_laws.specs.RowLaws.{rest_answered, fewer_answered, full_rest_answered, over_built}
+use Rattle.desktop_laws.specs.DeskWords.{has_space, start_in}
 use Rattle.desktop_laws.specs.RowLaws.{unchanged, changed_as, changed_further}
-use Rattle.desktop_laws.specs.RowPartLaws.{kept_main, kept_main_seen, kept_caret, put_at_caret_counts}
+use Rattle.desktop_laws.specs.RowPartLaws.{kept_main_seen, kept_caret, put_at_caret_counts}
 use Rattle.desktop_laws.specs.KeyLaws.{row_as, main_there_seen}
 use Rattle.desktop_laws.specs.LookedLaws.{looks_stay, shape_stays}
 use Rattle.desktop_laws.specs.LookedLaws.{within_stays}
-use Rattle.desktop_definitions.specs.Looks.{AreLooks}
 
 -- ---- bytes that were read from a place on
 
@@ -237,10 +236,6 @@ pattern_changed H characters d pattern built few = record {
 
 -- ---- a search
 
--- where it starts
-abbrev pub start_in : ℕ → Option Caret → ℕ
-start_in v caret = unwrap_or (caret_position v caret) 0
-
 caret_within : (v long : ℕ) (c : Caret) (same : Bool) → (c.viewer == v) ≡ same → (c.viewer ≡ v → c.position ≤ long)
     → unwrap_or (if same then Some c.position else None) 0 ≤ long
 caret_within v long c true is low = low (eqb-true c.viewer v is)
@@ -314,7 +309,7 @@ found_as mid old text main slice pattern start v caret found same text_is patter
     sym (is ∙ (λ k. found_at (bytes (same k) (flat (text_is k))) (pattern_is k) (start_is k)))
 
 -- an outcome by another name, where that is honest
-answered_as : {H : Type 0} {old new : List ℕ} {before after : KeptDesktop} {reply : Reply} (x y : Desktop × Reply)
+answered_as : {H : Type 0} {old new : List ℕ} {before after : KeptDesktop} {reply : Reply} (x y : Outcome)
     → IsAnswered H old new before after x reply → (H → x ≡ y) → IsAnswered H old new before after y reply
 answered_as x y answered same = record {
   exact = λ h. answered.exact h ∙ same h;

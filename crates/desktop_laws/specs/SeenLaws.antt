@@ -10,8 +10,7 @@ use Rattle.std.proofs.Math.Seq.{get_or-append_seam}
 use Rattle.piece_ring.specs.declared.piece.Piece.{Piece}
 use Rattle.piece_ring.specs.declared.piece.Look.{Look}
 use Rattle.piece_ring.specs.Flat.{flat, run}
-use Rattle.piece_ring.specs.Offsets.{AreWithin}
-use Rattle.piece_ring.specs.Text.{Text}
+use Rattle.piece_ring.specs.Text.{Text, AreWithin}
 use Rattle.readers_scanners.specs.Reading.{contents}
 use Rattle.desktop_definitions.specs.Desktop.{KeptDesktop, file_of}
 use Rattle.desktop_definitions.specs.Tables.{name_cmp}

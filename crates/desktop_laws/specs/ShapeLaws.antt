@@ -1,6 +1,6 @@
 -- Laws of the shape of a desktop: it stays where viewers show the same texts from other positions, and marks are fewer.
-use Rattle.std.specs.Prelude.{◌≡◌, ℕ, suc, ◌+◌, ◌<◌, ◌≤◌, ◌==◌, nat_lt, not, Bool, true, false, cond, ⊤, List, []}
-use Rattle.std.specs.Prelude.{◌∷◌, length, get_or, count_by, Option, Some, None, is_some, IsSome}
+use Rattle.std.specs.Prelude.{◌≡◌, ℕ, suc, ◌+◌, ◌≤◌, ◌==◌, nat_lt, not, Bool, true, false, cond, ⊤, List, []}
+use Rattle.std.specs.Prelude.{◌∷◌, length, count_by, Option, Some, None, is_some, IsSome}
 use Rattle.std.specs.Option.{unwrap_or, ForSome}
 use Rattle.std.specs.List.{AllByRecursion}
 use Rattle.std.specs.List.Sorted.{IsStrictlySortedBy}
@@ -22,26 +22,9 @@ use Rattle.desktop_definitions.specs.Viewers.{bare_viewer, viewer_in, viewer_or_
 use Rattle.desktop_definitions.specs.Viewers.{selections_outside}
 use Rattle.desktop_definitions.specs.Changed.{texts_shown}
 use Rattle.desktop_definitions.specs.Sound.{AreViewers, ArePlaces, AreMarks, IsCaret, IsSelection}
+use Rattle.desktop_laws.specs.DeskWords.{IsMoved, AreMoved}
 
 -- ---- what may become of viewers
-
--- A viewer that shows the text of that number may follow a change after which the text has so many characters.
-abbrev pub CanFollow : ℕ → ℕ → ℕ → ℕ → ℕ × Viewer → Type 0
-CanFollow n more fewer long e = e.1.main ≡ n → e.1.org + more ≤ long + fewer
-
--- What a change of the text of that number, which now has so many characters, may leave of a viewer.
-pub record IsMoved (n long : ℕ) (old new : ℕ × Viewer) : Type 0 where
-  pub id : new.0 ≡ old.0
-  pub menu : new.1.menu ≡ old.1.menu
-  pub main : new.1.main ≡ old.1.main
-  -- only frames of that text move, and stay within it
-  pub other : ¬ (old.1.main ≡ n) → new.1.org ≡ old.1.org
-  pub org : old.1.main ≡ n → new.1.org ≤ long
-
--- the same of each viewer
-pub record AreMoved (n long : ℕ) (olds news : List (ℕ × Viewer)) : Type 0 where
-  pub as_long : length news ≡ length olds
-  pub each : (k : ℕ) (d : ℕ × Viewer) → k < length olds → IsMoved n long (get_or olds k d) (get_or news k d)
 
 -- A viewer shows the same texts, from a position within its main text on; text m has `long m` characters.
 pub record IsReorged (long : ℕ → ℕ) (old new : Viewer) : Type 0 where

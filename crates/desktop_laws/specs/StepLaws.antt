@@ -21,7 +21,7 @@ use Rattle.desktop_laws.specs.TableLaws.{rising_put, put_few}
 use Rattle.desktop_definitions.specs.Desktop.{Desktop, empty_desktop, held}
 use Rattle.desktop_definitions.specs.Opening.{is_shown, dropped}
 use Rattle.desktop_definitions.specs.Change.{plain}
-use Rattle.desktop_definitions.specs.Step.{filed, fits, settled, raw, step, step_in}
+use Rattle.desktop_definitions.specs.Step.{filed, fits, settled, raw, step, step_in, outcome_of}
 use Rattle.desktop_definitions.specs.Sound.{IsShaped, IsSound}
 use Rattle.desktop_definitions.specs.Looks.{AreLooks}
 use Rattle.desktop_laws.specs.LookedLaws.{default_is_look, no_looks, looks_stay, put_looks}
@@ -44,28 +44,28 @@ pub all_stay : (d : Desktop) → AllShown d → dropped d ≡ d
 unfolding dropped
 all_stay d all = λ k. record d { texts = keep_all (is_shown d.viewers) d.texts all k }
 
-pub settled_done : (d new : Desktop) → AllShown new → fits new ≡ true → settled d (Ok new) ≡ (new, Done)
+pub settled_done : (d new : Desktop) → AllShown new → fits new ≡ true → settled d (Ok new) ≡ (outcome_of new Done)
 unfolding settled
 settled_done d new all fit = rw (all_stay new all, fit) refl
 
-pub settled_full : (d new : Desktop) → AllShown new → fits new ≡ false → settled d (Ok new) ≡ (d, No full)
+pub settled_full : (d new : Desktop) → AllShown new → fits new ≡ false → settled d (Ok new) ≡ (outcome_of d (No full))
 unfolding settled
 settled_full d new all unfit = rw (all_stay new all, unfit) refl
 
 -- ---- a file
 
 module _ (d : Desktop) (name bytes : List ℕ) (all : AllShown d) where
-  pub file_no_room : has_room d.files name ≡ false → (d, No too_many_files) ≡ step d (File name bytes)
+  pub file_no_room : has_room d.files name ≡ false → outcome_of d (No too_many_files) ≡ step d (File name bytes)
   unfolding step step_in settled raw
   file_no_room none = rw none refl
 
   pub file_full : has_room d.files name ≡ true → fits (filed d name (plain bytes)) ≡ false
-      → (d, No full) ≡ step d (File name bytes)
+      → outcome_of d (No full) ≡ step d (File name bytes)
   unfolding step step_in raw filed
   file_full room unfit = rw room (sym (settled_full d (filed d name (plain bytes)) all unfit))
 
   pub file_done : has_room d.files name ≡ true → fits (filed d name (plain bytes)) ≡ true
-      → (filed d name (plain bytes), Done) ≡ step d (File name bytes)
+      → outcome_of (filed d name (plain bytes)) Done ≡ step d (File name bytes)
   unfolding step step_in raw filed
   file_done room fit = rw room (sym (settled_done d (filed d name (plain bytes)) all fit))
 

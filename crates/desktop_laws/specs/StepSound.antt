@@ -57,6 +57,7 @@ use Rattle.viewer_tracks.specs.Columns.{after_close, replaced_at, allocated, Sta
 use Rattle.viewer_tracks.proofs.StackLemmas.{topmost_track}
 use Rattle.viewer_tracks.proofs.ColumnLemmas.{stack_in, open_keeps, cover_keeps, change_keeps, close_keeps}
 use Rattle.viewer_tracks.proofs.PlacedLemmas.{open_places, change_places, close_places, seen_placed, shown_stands}
+use Rattle.desktop_definitions.specs.declared.look_change.LookChange.{LookChange}
 use Rattle.desktop_definitions.specs.declared.region.Region.{Region}
 use Rattle.desktop_definitions.specs.declared.region.Region.TheVariants.{Filler, Menu, Bar, Body}
 use Rattle.desktop_definitions.specs.declared.call.Call.{Call}
@@ -92,13 +93,12 @@ use Rattle.desktop_definitions.specs.Gesture.{is_some_stretch, drawn_in, copied_
 use Rattle.desktop_definitions.specs.Gesture.{sent_to_caret, tool_opened, stretch_drawn, pointed, IsRegionOf}
 use Rattle.desktop_definitions.specs.Gesture.{done_in_filler, done_in_menu, done_in_bar, done_at, done_with}
 use Rattle.text_core.specs.Attributes.{look_at}
-use Rattle.desktop_definitions.specs.declared.reply.Reply.{Reply}
 use Rattle.desktop_definitions.specs.declared.reply.Reply.TheVariants.{Done, No}
 use Rattle.desktop_definitions.specs.Call.{text_called, seen_at_marker, meant, name_of, number_of as number_called}
 use Rattle.desktop_definitions.specs.Call.{names_of}
 use Rattle.desktop_definitions.specs.Commands.{command_at, commanded, called, done_with_name, done_with_number}
 use Rattle.desktop_definitions.specs.Commands.{done_with_viewer}
-use Rattle.desktop_definitions.specs.Step.{filed, fits, marked, settled, raw, step_in}
+use Rattle.desktop_definitions.specs.Step.{filed, fits, marked, settled, raw, step_in, Outcome, outcome_of}
 use Rattle.desktop_definitions.specs.Sound.{IsShaped, IsSound, IsCaret, IsClosedPlace, times_there}
 use Rattle.desktop_laws.specs.LookedLaws.{look_at_looks, relooked_is_look, copied_looks, taken_looks, typed_looks}
 use Rattle.desktop_laws.specs.LookedLaws.{looks_stay, shape_stays, written_shaped, files_looks, put_looks, no_looks}
@@ -109,7 +109,8 @@ use Rattle.desktop_laws.specs.OpenLaws.{unused_none}
 use Rattle.desktop_laws.specs.OpenedLaws.{at_cell, over, left_at, CanShow, text_more, opening_is, text_shaped, new_shown}
 use Rattle.desktop_laws.specs.OpeningDone.{opened_shaped}
 use Rattle.desktop_laws.specs.OpeningOnLaws.{log_can, viewer_can}
-use Rattle.desktop_laws.specs.ClosingLaws.{place_closed, closed_desktop, closed_columns, closed_before, put_away_is}
+use Rattle.desktop_laws.specs.ClosingLaws.{closed_desktop, closed_columns, closed_before, put_away_is}
+use Rattle.desktop_laws.specs.DeskWords.{place_closed}
 use Rattle.desktop_laws.specs.ClosingLaws.{closed_anew, restood, closed_nowhere, recalled_columns, replaced_by_closed}
 use Rattle.desktop_laws.specs.ClosingLaws.{brought_back_is, recalled_anew}
 use Rattle.desktop_laws.specs.EditLaws.{with_org_shaped, with_caret_shaped, with_selection_shaped, unselected_shaped}
@@ -385,15 +386,15 @@ module _ (d : Desktop) (shaped : IsShaped d) where
         looks = put_looks d shaped.looks name (main_of d v) (text_looks d shaped (viewer_of d v).main);
       })))
 
-  look_set_shaped : (new : ℕ × Look) → IsLook new.1 → IsShaped (look_set d new)
+  look_set_shaped : (new : LookChange) → IsLook new.look → IsShaped (look_set d new)
   unfolding look_set
   look_set_shaped new is = shape_stays shaped refl shaped.pattern
-      (typed_looks d shaped.looks _ (relooked_is_look new.0 new.1 d.look is shaped.looks.look))
+      (typed_looks d shaped.looks _ (relooked_is_look new.selector new.look d.look is shaped.looks.look))
 
-  selection_set_shaped : (new : ℕ × Look) → IsLook new.1 → IfOk (selection_set d new) IsShaped
+  selection_set_shaped : (new : LookChange) → IsLook new.look → IfOk (selection_set d new) IsShaped
   unfolding selection_set
   selection_set_shaped new is = by_need IsShaped (newest d) _ _
-      (λ s newest_is. looks_set_shaped d shaped s new.0 new.1 (newest_stands d shaped s newest_is) is)
+      (λ s newest_is. looks_set_shaped d shaped s new.selector new.look (newest_stands d shaped s newest_is) is)
 
 -- ---- searches
 
@@ -460,8 +461,8 @@ module _ (d : Desktop) (shaped : IsShaped d) where
         | false ↦ seen_marker v
       ]
 
-  set_shaped : (o : Option (ℕ × Look)) → SetsLook o → (f : ℕ × Look → Result Desktop ℕ)
-      → ((new : ℕ × Look) → IsLook new.1 → IfOk (f new) IsShaped) → IfOk (needs o bad_value f) IsShaped
+  set_shaped : (o : Option LookChange) → SetsLook o → (f : LookChange → Result Desktop ℕ)
+      → ((new : LookChange) → IsLook new.look → IfOk (f new) IsShaped) → IfOk (needs o bad_value f) IsShaped
   set_shaped o sets f so = by_need IsShaped o bad_value f (λ new is. so new (sets new is))
 
   commanded_shaped : (command : Command) (call : Call) → IsOnTop call.viewer d.columns
@@ -816,11 +817,11 @@ module _ (d : Desktop) (shaped : IsShaped d) where
       by_test IsShaped (has_room d.files name) too_many_files (Ok (filed d name (plain bytes)))
       (λ room. filed_shaped d name (plain bytes) shaped is.0 room (plain_looks bytes))
 
-settled_sound : (d : Desktop) (r : Result Desktop ℕ) → IsSound d → IfOk r IsShaped → IsSound (settled d r).0
+settled_sound : (d : Desktop) (r : Result Desktop ℕ) → IsSound d → IfOk r IsShaped → IsSound (settled d r).desktop
 unfolding settled
 settled_sound d (Err code) sound shaped = sound
 settled_sound d (Ok new) sound shaped = (elim (fits (dropped new)) as (λ b. fits (dropped new) ≡ b
-    → IsSound (let both : Desktop × Reply = if b then (dropped new, Done) else (d, No full) in both).0) [
+    → IsSound (let both : Outcome = if b then outcome_of (dropped new) Done else outcome_of d (No full) in both).desktop) [
       | true ↦ λ fit. record {
         shaped = dropped_shaped new shaped;
         shown = dropped_shown new;
@@ -831,7 +832,7 @@ settled_sound d (Ok new) sound shaped = (elim (fits (dropped new)) as (λ b. fit
     ]) refl
 
 pub steps_keep_sound : (version : ℕ) (d : Desktop) (event : Event) → IsSound d → IsEvent event
-    → IsSound (step_in version d event).0
+    → IsSound (step_in version d event).desktop
 unfolding step_in
 steps_keep_sound version d event sound is =
     settled_sound d (raw version d event) sound (raw_shaped d sound.shaped version event is)

@@ -23,8 +23,7 @@ use Rattle.std.proofs.lemmas.Map.Views.{All-values-insert_entry}
 use Rattle.std.proofs.lemmas.Slice.Eq.{bytes_eq-Decides}
 use Rattle.piece_ring.specs.declared.piece.Piece.{Piece}
 use Rattle.piece_ring.specs.Flat.{flat}
-use Rattle.piece_ring.specs.Offsets.{AreWithin}
-use Rattle.piece_ring.specs.Text.{Text}
+use Rattle.piece_ring.specs.Text.{Text, AreWithin}
 use Rattle.event_bytes.specs.Bytes.{is_name}
 use Rattle.command_table.specs.Deciding.{is_among, are_distinct, can_be_deleted, most_names}
 use Rattle.command_table.specs.Parameters.{first_names}
@@ -45,7 +44,8 @@ use Rattle.desktop_definitions.specs.Outcome.{IsAnswered}
 use Rattle.desktop_definitions.specs.Seen.{seen, seen_text, seen_table}
 use Rattle.desktop_definitions.specs.Sound.{AreFiles, AllWithin, IsBuilt, IsOver, IsSound}
 use Rattle.desktop_definitions.specs.Changed.{IsChanged, IsExtended, IsStanding, Counts}
-use Rattle.desktop_laws.specs.RowLaws.{has_space, space_held, changed_as, over_built, known_no_file}
+use Rattle.desktop_laws.specs.RowLaws.{space_held, changed_as, over_built, known_no_file}
+use Rattle.desktop_laws.specs.DeskWords.{has_space, can_go, kept_size}
 use Rattle.desktop_laws.specs.RowLaws.{known_too_many_files}
 use Rattle.desktop_laws.specs.KeyLaws.{refusal_answered, row_as}
 use Rattle.desktop_laws.specs.LogLaws.{line_bytes, logged_full, all_logged_full, changed_stands, extended_answered}
@@ -77,10 +77,6 @@ pub named_among : {X : Type 0} (files : Files X) (name : List ℕ)
 named_among files name =
     is_some-lookup (is_at (name_cmp name)) files ∙ ap (λ (test : List ℕ → Bool). list_any test (keys_of files))
     (λ i k. is_eq-slice_cmp name k i)
-
--- whether a name can go, where others are to go after it
-abbrev pub can_go : List (List ℕ) → List ℕ → List (List ℕ) → Bool
-can_go files name others = is_among files name && not (is_among others name)
 
 turn : (a b c d : Bool) → ((a && b) && (c && d)) ≡ ((a && c) && (b && d))
 turn true true c d = refl
@@ -242,10 +238,6 @@ all_without_seen f files [] = refl
 all_without_seen {X} {Y} f files (name ∷ names) =
     all_without_seen f (without_file files name) names
     ∙ ap (λ (l : Files Y). fold without_file l names) (without_seen f files name)
-
--- how many characters the file of a name has, and 0 where there is none
-abbrev pub kept_size : Files (List Piece) → List ℕ → ℕ
-kept_size files name = size_of kept_length files name
 
 -- files of names of which none stands there twice: what is left holds so much less
 pub lengths_gone : (files : Files (List Piece)) (names : List (List ℕ))

@@ -22,8 +22,8 @@ use Rattle.std.proofs.lemmas.Map.Views.{All-values-insert_entry}
 use Rattle.piece_ring.specs.declared.piece.Look.{Look}
 use Rattle.piece_ring.specs.declared.piece.Piece.{Piece}
 use Rattle.piece_ring.specs.Flat.{flat}
-use Rattle.piece_ring.specs.Offsets.{AreWithin, AreWithin-longer}
-use Rattle.piece_ring.specs.Text.{Text}
+use Rattle.piece_ring.specs.Offsets.{AreWithin-longer}
+use Rattle.piece_ring.specs.Text.{Text, AreWithin}
 use Rattle.desktop_definitions.specs.Limits.{most_files}
 use Rattle.desktop_definitions.specs.Tables.{Files, name_cmp, named, put, has_room, with_values, lengths}
 use Rattle.desktop_definitions.specs.Seen.{seen_text, seen_table}

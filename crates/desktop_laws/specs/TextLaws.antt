@@ -7,8 +7,7 @@ use Rattle.std.proofs.Common.{refl, sym, ap, ◌∙◌, arith}
 use Rattle.std.proofs.lemmas.Map.Views.{IfSome-lookup_from_All}
 use Rattle.piece_ring.specs.declared.piece.Piece.{Piece}
 use Rattle.piece_ring.specs.Flat.{flat}
-use Rattle.piece_ring.specs.Offsets.{AreWithin}
-use Rattle.piece_ring.specs.Text.{Text}
+use Rattle.piece_ring.specs.Text.{Text, AreWithin}
 use Rattle.desktop_definitions.specs.Tables.{Texts, numbered}
 use Rattle.desktop_laws.specs.TableLaws.{lookup_seen, length_seen_text, is_some_map}
 use Rattle.desktop_definitions.specs.Viewers.{text_in}

@@ -15,15 +15,15 @@ pub fn empty_is_sound()
 /// An event leaves a sound desktop sound in every version, whatever the reply is.
 pub fn steps_keep_sound()
     ensures { (version : ℕ) (d : Desktop) (event : Event) → IsSound d → IsEvent event
-        → IsSound (step_in version d event).0 }
+        → IsSound (step_in version d event).desktop }
 {}
 
 /// The desktop after events and one event more is the desktop after that event, from where the others led.
 pub fn steps_of_more()
     ensures newest { (d : Desktop) (events : List Event) (event : Event)
-        → steps d (events ++ event ∷ []) ≡ (step (steps d events) event).0 }
+        → steps d (events ++ event ∷ []) ≡ (step (steps d events) event).desktop }
     ensures each { (version : ℕ) (d : Desktop) (events : List Event) (event : Event)
-        → steps_in version d (events ++ event ∷ []) ≡ (step_in version (steps_in version d events) event).0 }
+        → steps_in version d (events ++ event ∷ []) ≡ (step_in version (steps_in version d events) event).desktop }
 {}
 
 /// A desktop over its characters is seen as before once there are more of them.

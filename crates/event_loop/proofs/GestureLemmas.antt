@@ -18,7 +18,7 @@ use Rattle.desktop_definitions.specs.Unread.{gesture_needs_no_byte, gesture_brin
 use Rattle.desk_core.specs.Doing.{Settles, SettlesUnread, SettlesBringing, Uses, DoesUnread}
 use Rattle.desktop_definitions.specs.Desktop.{Desktop, KeptDesktop}
 use Rattle.desktop_definitions.specs.Seen.{seen}
-use Rattle.desktop_definitions.specs.Step.{settled, raw}
+use Rattle.desktop_definitions.specs.Step.{settled, raw, outcome_of}
 use Rattle.desktop_definitions.specs.Outcome.{IsAnswered}
 use Rattle.desktop_definitions.specs.Gesture.{is_on_display, region_at, pointed}
 use Rattle.viewer_tracks.specs.declared.display.TheConstants.{COLUMNS, ROWS}
@@ -130,7 +130,7 @@ pub unread_there : (version : ℕ) (d after : KeptDesktop) (keys : Keys) (x0 y0 
 unread_there version d after keys x0 y0 x1 y1 result effect {inside} {region} there here none is so =
     IfOk-weaker result (SettlesBringing (gesture_brings region keys) (λ all. effect (seen all d)) d after) _
     (λ reply settles all long.
-    ap (λ (a : Region). (seen (grown all (gesture_brings a keys) reply) after, reply)) (sym here)
+    ap (λ (a : Region). outcome_of (seen (grown all (gesture_brings a keys) reply) after) reply) (sym here)
     ∙ settles all long ∙ ap (settled (seen all d))
     (is all ∙ ap (λ (a : Region). pointed version (seen all d) a keys x0 y0 x1 y1)
     (here ∙ sym (region_seen all d x0 y0))

@@ -8,7 +8,7 @@ use Rattle.desktop_definitions.specs.declared.reply.Reply.{Reply}
 use Rattle.desktop_definitions.specs.Limits.{newest_version}
 use Rattle.desktop_definitions.specs.Desktop.{Desktop, KeptDesktop}
 use Rattle.desktop_definitions.specs.Seen.{seen}
-use Rattle.desktop_definitions.specs.Step.{raw, step_in}
+use Rattle.desktop_definitions.specs.Step.{raw, step_in, outcome_of}
 use Rattle.desktop_definitions.specs.Unread.{needs_no_byte, brought, grown, StepsUnread}
 use Rattle.desk_core.specs.declared.stop.Stop.{Stop}
 use Rattle.desk_core.specs.Doing.{SettlesUnread, SettlesBringing, DoesUnread}
@@ -23,7 +23,7 @@ pub bringing_event : (version : ℕ) (d after : KeptDesktop) (event : Event) (by
     → IfOk result (StepsUnread version d after event)
 unfolding step_in StepsUnread
 bringing_event version d after event bytes (Ok reply) is settles = λ h all long.
-    ap (λ (l : List ℕ). (seen (grown all l reply) after, reply)) (sym is) ∙ settles h all long
+    ap (λ (l : List ℕ). outcome_of (seen (grown all l reply) after) reply) (sym is) ∙ settles h all long
 bringing_event version d after event bytes (Err stop) is settles = tt
 
 -- one whose effect brings none

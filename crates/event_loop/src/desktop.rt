@@ -4,7 +4,7 @@ ghost use Rattle.readers_scanners.specs.Words.{contents};
 ghost use Rattle.command_table.specs.Versions.{version_number, newest_version};
 ghost use Rattle.desktop_definitions.specs.declared.reply.Reply.TheVariants.{No};
 ghost use Rattle.desktop_definitions.specs.Desktop.{KeptDesktop, empty_desktop, file_of};
-ghost use Rattle.desktop_definitions.specs.Step.{step_in};
+ghost use Rattle.desktop_definitions.specs.Step.{step_in, outcome_of};
 ghost use Rattle.desktop_definitions.specs.Unread.{StepsUnread, ListsUnread};
 ghost use Rattle.desktop_definitions.specs.Outcome.{IsReply, IsUnchanged, IsSameSource};
 ghost use Rattle.desktop_definitions.specs.Listing.{entries_of};
@@ -106,7 +106,8 @@ impl Desktop {
         source: &mut S,
     ) -> Result<Reply, Stop>
         requires { IsOver (S.characters source.old) self.old }
-        ensures done { IfOk result (λ reply. S.honest source.old → (seen (S.characters source.new) self.new, reply)
+        ensures done { IfOk result (λ reply. S.honest source.old
+            → outcome_of (seen (S.characters source.new) self.new) reply
             ≡ step_in (version_number version) (seen (S.characters source.old) self.old) event.now) }
         ensures unread { IfOk result (StepsUnread (version_number version) self.old self.new event.now) }
         ensures over { OnOk result (IsOver (S.characters source.new) self.new) }
@@ -159,7 +160,7 @@ impl Desktop {
     pub fn forget_stale(&self, event: &Event, lines: &mut KeptLines)
         ensures { (version : ℕ) (characters : List ℕ) → IsOver characters self.now
             → AreLinesOf (text_of (seen characters self.now)) lines.old
-            → AreLinesOf (text_of (step_in version (seen characters self.now) event.now).0) lines.new }
+            → AreLinesOf (text_of (step_in version (seen characters self.now) event.now).desktop) lines.new }
     {
         forget(
             lines,

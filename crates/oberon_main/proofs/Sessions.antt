@@ -6,7 +6,7 @@ use Rattle.std.proofs.lemmas.Bool.{and_from, false_from_ne_true, and_parts}
 use Rattle.event_bytes.specs.declared.event.Event.{Event}
 use Rattle.desktop_definitions.specs.declared.reply.Reply.{Reply}
 use Rattle.desktop_definitions.specs.Desktop.{Desktop}
-use Rattle.desktop_definitions.specs.Step.{step}
+use Rattle.desktop_definitions.specs.Step.{step, Outcome, outcome_of}
 use Rattle.store_layout.specs.declared.layout.TheConstants.{LAST_EPOCH, LAYOUT}
 use Rattle.script_lines.specs.declared.request.Request.TheVariants.{Post, Checkpoint}
 use Rattle.script_lines.specs.Script.{ended}
@@ -40,7 +40,7 @@ not_worn s none = false_from_ne_true (is_worn s) (λ worn. none (worn_parts s wo
 pub worn_answer : (s : Session) (event : Event) → s.epoch ≡ LAST_EPOCH → IsDue s
     → answer s (Post event) ≡ worn_line
 unfolding answer
-worn_answer s event last full = cond-true (is_worn s) worn_line (reply_line (step s.desktop event).1)
+worn_answer s event last full = cond-true (is_worn s) worn_line (reply_line (step s.desktop event).reply)
     (is_it_worn s last full)
 
 pub worn_after : (s : Session) (event : Event) → s.epoch ≡ LAST_EPOCH → IsDue s
@@ -49,20 +49,20 @@ unfolding after
 worn_after s event last full = cond-true (is_worn s) s _ (is_it_worn s last full)
 
 pub reply_answer : (s : Session) (event : Event) (d : Desktop) (reply : Reply)
-    → ((s.epoch ≡ LAST_EPOCH) × IsDue s → ⊥) → (d, reply) ≡ step s.desktop event
+    → ((s.epoch ≡ LAST_EPOCH) × IsDue s → ⊥) → outcome_of d reply ≡ step s.desktop event
     → answer s (Post event) ≡ reply_line reply
 unfolding answer
 reply_answer s event d reply room is =
-    cond-false (is_worn s) worn_line (reply_line (step s.desktop event).1) (not_worn s room)
-    ∙ sym (ap (λ (p : Desktop × Reply). reply_line p.1) is)
+    cond-false (is_worn s) worn_line (reply_line (step s.desktop event).reply) (not_worn s room)
+    ∙ sym (ap (λ (p : Outcome). reply_line p.reply) is)
 
 pub reply_after : (s now : Session) (event : Event) (reply : Reply)
-    → ((s.epoch ≡ LAST_EPOCH) × IsDue s → ⊥) → (now.desktop, reply) ≡ step s.desktop event
+    → ((s.epoch ≡ LAST_EPOCH) × IsDue s → ⊥) → outcome_of now.desktop reply ≡ step s.desktop event
     → (HasRoomIn s → (now.epoch ≡ s.epoch) × (now.events ≡ s.events + 1))
     → (IsDue s → (now.epoch ≡ s.epoch + 1) × (now.events ≡ 1)) → now.layout ≡ LAYOUT → now ≡ after s (Post event)
 unfolding after
 reply_after s now event reply room is more anew layout =
-    let desktop : now.desktop ≡ (step s.desktop event).0 = ap (λ (p : Desktop × Reply). p.0) is in
+    let desktop : now.desktop ≡ (step s.desktop event).desktop = ap (λ (p : Outcome). p.desktop) is in
     elim (due_or_room s) [
       | inr below ↦ session_parts now (stepped s event) desktop (layout ∙ sym below.1) (more below).0 (more below).1
           ∙ sym (ap (λ t. stepped t event)

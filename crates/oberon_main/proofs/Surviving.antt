@@ -34,11 +34,11 @@ use Rattle.oberon_main.proofs.Sessions.{worn_parts}
 
 -- whether or not a checkpoint comes first, an event that is accepted is one step
 pub stepped_once : (s : Session) (event : Event) → is_worn s ≡ false
-    → (after s (Post event)).desktop ≡ (step s.desktop event).0
+    → (after s (Post event)).desktop ≡ (step s.desktop event).desktop
 unfolding after
 stepped_once s event room = ap (λ (t : Session). t.desktop)
     (cond-false (is_worn s) s (stepped (if is_due s then renewed s else s) event) room)
-    ∙ ap (λ d. (step d event).0) (either_way (is_due s))
+    ∙ ap (λ d. (step d event).desktop) (either_way (is_due s))
   where
     either_way : (b : Bool) → (if b then renewed s else s).desktop ≡ s.desktop
     either_way true = refl

@@ -16,7 +16,7 @@ abbrev pub worn_line : List ℕ
 worn_line = ended (codes "worn")
 
 unfoldable pub answer : Session → Request → List ℕ
-answer s (Post event) = if is_worn s then worn_line else reply_line (step s.desktop event).1
+answer s (Post event) = if is_worn s then worn_line else reply_line (step s.desktop event).reply
 answer s Checkpoint = if is_last s then worn_line else ended (codes "ok")
 answer s (Show name) = show_lines (file_of s.desktop name)
 answer s Listing = list_lines (entries_of s.desktop)

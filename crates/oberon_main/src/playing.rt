@@ -1,10 +1,8 @@
 //! Playing a script over a store.
-ghost use Rattle.std.specs.Prelude.{◌≡◌, ◌+◌, ◌≤◌, ◌↔◌, ℕ, List, [], ◌∷◌, false, OnOk, OnErr, IsOk, IfErr};
-ghost use Rattle.std.specs.Io.KnownBytes.{Appends, Keeps};
+ghost use Rattle.std.specs.Prelude.{◌≡◌, ◌+◌, ◌≤◌, ◌↔◌, ℕ, List, [], ◌∷◌, false, OnOk, IsOk};
 ghost use Rattle.sector_disk.specs.Faults.{FailsAs, OneOf};
-ghost use Rattle.screen_cells.specs.Sent.{AppendsFront};
+ghost use Rattle.screen_cells.specs.Sent.{Sends};
 ghost use Rattle.oberon_main.specs.declared.playing.PlayEnd.TheVariants as ends;
-ghost use Rattle.script_lines.specs.Request.{request_of};
 ghost use Rattle.script_lines.specs.Reading.{Holds, ComesInPieces};
 ghost use Rattle.desk_journal.specs.Session.{session_of};
 ghost use Rattle.oberon_main.specs.Play.{Plays, CountsEnd, CountsInput, CountsOutput, PlaysLine};
@@ -18,7 +16,7 @@ ghost use Rattle.desk_journal.specs.View.{IsDurable};
 use crate::answering::work_out;
 use desk_journal::{Error, Store};
 use script_answers::{OutputFault, send, short_line};
-use script_lines::{Ending, Line, Request, Script};
+use script_lines::{Line, LineEnd, Request, Script};
 use script_streams::{AnswerWriter, ScriptReader};
 use sector_disk::Disk;
 use std::alloc::{AllocError, Global};
@@ -114,8 +112,7 @@ pub fn play_bounded<R: ScriptReader, W: AnswerWriter, D: Disk>(
 
 /// Writes why the script ended early, where the output can still take it.
 fn say<W: AnswerWriter>(writer: &mut W, end: PlayEnd) -> Result<(), OutputFault>
-    ensures said { OnOk result (Appends (W.contents writer.old) (W.contents writer.new) (last_word end)) }
-    ensures front { OnErr result (AppendsFront (W.contents writer.old) (W.contents writer.new) (last_word end)) }
+    ensures said { Sends result (W.contents writer.old) (W.contents writer.new) (last_word end) }
     ensures done { end ≡ ends.Done → IsOk result }
     ensures output { end ≡ ends.Output → IsOk result }
     ensures cause { CountsFault result (W.failures writer.old) (W.failures writer.new) }
@@ -155,13 +152,13 @@ fn play_lines<R: ScriptReader, W: AnswerWriter, D: Disk>(
     let mut request = Request::Malformed;
     loop {
         match script.take_line(&mut line, reader) {
-            Ending::Feed => {
+            LineEnd::Feed => {
                 if let Err(end) = play_line(alloc, &line, &mut request, writer, store) {
                     return end;
                 }
             }
-            Ending::End => return play_rest(alloc, &line, &mut request, writer, store),
-            Ending::Fault => return PlayEnd::Input,
+            LineEnd::End => return play_rest(alloc, &line, &mut request, writer, store),
+            LineEnd::Fault => return PlayEnd::Input,
         }
     }
 }

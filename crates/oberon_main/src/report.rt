@@ -1,8 +1,8 @@
 //! What is said of a store, and the statuses of the program.
-ghost use Rattle.std.specs.Prelude.{◌≡◌, ◌⊎◌, ◌++◌, false, OnOk, OnErr};
+ghost use Rattle.std.specs.Prelude.{◌≡◌, ◌⊎◌, ◌++◌, false};
 ghost use Rattle.std.specs.Io.KnownBytes.{Appends};
 ghost use Rattle.oberon_main.specs.declared.playing.PlayEnd.TheVariants as ends;
-ghost use Rattle.screen_cells.specs.Sent.{AppendsFront};
+ghost use Rattle.screen_cells.specs.Sent.{AppendsFront, Sends};
 ghost use Rattle.oberon_main.specs.Play.{CountsOutput};
 ghost use Rattle.oberon_main.specs.Report.{check_line, refusal_line, refusal_status, end_status};
 
@@ -79,9 +79,7 @@ pub fn refuse<W: AnswerWriter>(writer: &mut W, error: &Error) -> u8
 
 /// Writes the line about a refusal.
 fn say_refusal<W: AnswerWriter>(writer: &mut W, error: &Error) -> Result<(), OutputFault>
-    ensures said { OnOk result (Appends (W.contents writer.old) (W.contents writer.new) (refusal_line error.now)) }
-    ensures front { OnErr result
-        (AppendsFront (W.contents writer.old) (W.contents writer.new) (refusal_line error.now)) }
+    ensures { Sends result (W.contents writer.old) (W.contents writer.new) (refusal_line error.now) }
 {
     let line = match error {
         Error::NotAStore => short_line(b"not a store"),

@@ -1,7 +1,7 @@
 //! Writing all of some bytes.
-ghost use Rattle.std.specs.Prelude.{◌≡◌, ◌<◌, ◌≤◌, length, take, OnOk, OnErr, IfOk};
+ghost use Rattle.std.specs.Prelude.{◌≡◌, ◌<◌, ◌≤◌, length, take, OnErr, IfOk};
 ghost use Rattle.std.specs.Io.KnownBytes.{Appends, Keeps};
-ghost use Rattle.output_bytes.specs.Sent.{AppendsFront};
+ghost use Rattle.output_bytes.specs.Sent.{Sends};
 
 use std::io::Write;
 
@@ -12,8 +12,7 @@ pub struct OutputFault;
 /// Writes all of the bytes. It fails where a write does, and where a write takes no byte; then a front of the bytes may
 /// have been taken.
 pub fn send<W: Write>(writer: &mut W, bytes: &[u8]) -> Result<(), OutputFault>
-    ensures sent { OnOk result (Appends (W.contents writer.old) (W.contents writer.new) bytes.now) }
-    ensures front { OnErr result (AppendsFront (W.contents writer.old) (W.contents writer.new) bytes.now) }
+    ensures { Sends result (W.contents writer.old) (W.contents writer.new) bytes.now }
 {
     let mut rest = bytes;
     while !rest.is_empty() {

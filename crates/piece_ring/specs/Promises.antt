@@ -3,6 +3,7 @@ use Rattle.std.specs.Prelude.{ℕ, ◌+◌, ◌^◌, ◌<◌, ◌≤◌, ◌≡�
 use Rattle.piece_ring.specs.declared.piece.Piece.{Piece}
 use Rattle.piece_ring.specs.Flat.{flat, IsWhole}
 use Rattle.piece_ring.specs.FingeredPieces.{Walk}
+use Rattle.piece_ring.specs.Text.{Text}
 
 -- what a call changes to this value, which stays where memory is refused
 abbrev pub ChangesTo : {A T E : Type 0} → A → Result T E → A → A → Type 0
@@ -12,6 +13,11 @@ ChangesTo wanted result old new = MatchResult result (λ _. new ≡ wanted) (λ 
 pub record HasRoomFor (piece : Piece) (pieces : List Piece) : Type 0 where
   pub whole : IsWhole piece
   pub fits : length (flat pieces) + piece.len < 2 ^ 32
+
+-- Characters of a text that stand together: those from beg up to before end.
+pub record IsStretchOf (beg end : ℕ) (text : Text ℕ) : Type 0 where
+  pub order : beg ≤ end
+  pub within : end ≤ length text
 
 -- A cursor stands before the character at the position, or at the end.
 pub record IsCursorAt (pos : ℕ) (pieces : List Piece) (cursor : Walk) : Type 0 where

@@ -9,7 +9,7 @@ ghost use Rattle.piece_ring.specs.Cut.{IsCutAt};
 ghost use Rattle.piece_ring.specs.Flat.{flat, characters_of};
 ghost use Rattle.piece_ring.specs.Finger.{IsFingerAt, IsSettledAt};
 ghost use Rattle.piece_ring.specs.Merging.{AddsAtMost, IsMergedAt};
-ghost use Rattle.piece_ring.specs.Promises.{ChangesTo, HasRoomFor, IsCursorAt};
+ghost use Rattle.piece_ring.specs.Promises.{ChangesTo, HasRoomFor, IsStretchOf, IsCursorAt};
 ghost use Rattle.piece_ring.specs.Text.{stretch, inserted, deleted, looks_changed};
 
 use crate::back_cursor::BackCursor;
@@ -84,8 +84,7 @@ impl Ring {
     /// Takes the characters from `beg` up to before `end` out. Their pieces move, and no character is copied. If memory
     /// is refused the text stays.
     pub fn cut(&mut self, alloc: Global, beg: u32, end: u32) -> Result<Ring, NoMemory>
-        requires order { beg ≤ end }
-        requires within { end ≤ length (flat self.old.pieces) }
+        requires { IsStretchOf beg end (flat self.old.pieces) }
         ensures taken { IfOk result (λ r. flat r.pieces ≡ stretch beg end (flat self.old.pieces)) }
         ensures text { ChangesTo (deleted beg end (flat self.old.pieces)) result
             (flat self.old.pieces) (flat self.new.pieces) }
@@ -131,8 +130,7 @@ impl Ring {
 
     /// A ring with the characters from `beg` up to before `end`, in their looks.
     pub fn copy(&self, alloc: Global, beg: u32, end: u32) -> Result<Ring, NoMemory>
-        requires order { beg ≤ end }
-        requires within { end ≤ length (flat self.now.pieces) }
+        requires { IsStretchOf beg end (flat self.now.pieces) }
         ensures { IfOk result (λ r. flat r.pieces ≡ stretch beg end (flat self.now.pieces)) }
     {
         let mut copy = Ring::new(alloc)?;
@@ -195,8 +193,7 @@ impl Ring {
         sel: u8,
         look: Look,
     ) -> Result<(), NoMemory>
-        requires order { beg ≤ end }
-        requires within { end ≤ length (flat self.old.pieces) }
+        requires { IsStretchOf beg end (flat self.old.pieces) }
         ensures text { ChangesTo (looks_changed beg end sel look (flat self.old.pieces)) result
             (flat self.old.pieces) (flat self.new.pieces) }
         ensures settled { OnOk result (IsSettledAt self.new beg) }

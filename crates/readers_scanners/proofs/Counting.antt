@@ -10,8 +10,7 @@ use Rattle.piece_ring.specs.declared.piece.Look.{Look}
 use Rattle.piece_ring.specs.declared.piece.Piece.{Piece}
 use Rattle.piece_ring.specs.Flat.{run, characters_of}
 use Rattle.piece_ring.specs.Lengths.{length-run}
-use Rattle.piece_ring.specs.Text.{Text}
-use Rattle.piece_ring.specs.Offsets.{AreWithin}
+use Rattle.piece_ring.specs.Text.{Text, AreWithin}
 use Rattle.readers_scanners.specs.Reading.{bytes, contents, IsCounted, IsReading}
 use Rattle.readers_scanners.proofs.Upcoming.{enough, point}
 

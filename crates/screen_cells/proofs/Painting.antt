@@ -15,7 +15,7 @@ use Rattle.viewer_tracks.specs.Columns.{Columns, no_viewers, shown}
 use Rattle.screen_pictures.specs.declared.cell.Cell.{Cell}
 use Rattle.screen_cells.specs.declared.shown.Shown.{Shown}
 use Rattle.screen_cells.specs.declared.strip.Strip.{Strip}
-use Rattle.screen_pictures.specs.Picture.{Viewer, picture, filler, filler_cell, track_cell, seen_cell, with_marker}
+use Rattle.screen_pictures.specs.Picture.{Painted, picture, filler, filler_cell, track_cell, seen_cell, with_marker}
 use Rattle.screen_pictures.specs.Picture.{is_at}
 use Rattle.screen_cells.specs.Shown.{as_read, strip_cell}
 use Rattle.screen_pictures.specs.Screen.{screen_of, values}
@@ -60,7 +60,7 @@ module _ {X : Type 0} (default : X) (f : ℕ → X → X) (before : List X) wher
   }
 
 -- a row of strips that show what the tracks do is what is to be painted
-pub strips_painted : (columns : Columns) (viewers : List Viewer) (marker : Option (ℕ × ℕ)) (y : ℕ)
+pub strips_painted : (columns : Columns) (viewers : List Painted) (marker : Option (ℕ × ℕ)) (y : ℕ)
     (user : Strip) (line : List ShownCell) (system : Strip) (other : List ShownCell)
     → ((column : ℕ) → strip_cell user line column ≡ track_cell columns viewers User column y)
     → ((column : ℕ) → strip_cell system other column ≡ track_cell columns viewers System column y)
@@ -131,7 +131,7 @@ unfolding viewer_at
 seen_nowhere true y = refl
 seen_nowhere false y = refl
 
-pub picture_without_viewers : (viewers : List Viewer) (marker : Option (ℕ × ℕ)) (x y : ℕ)
+pub picture_without_viewers : (viewers : List Painted) (marker : Option (ℕ × ℕ)) (x y : ℕ)
     → picture no_viewers viewers marker x y ≡ filler_cell (is_at marker x y)
 unfolding picture
 picture_without_viewers viewers marker x y =

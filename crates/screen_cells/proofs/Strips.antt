@@ -10,10 +10,10 @@ use Rattle.std.proofs.lemmas.Bool.Decides.{nat_tests}
 use Rattle.piece_ring.specs.declared.piece.Look.{Look}
 use Rattle.text_frames.specs.declared.frame.FrameSelection.{FrameSelection}
 use Rattle.text_frames.specs.Row.{row_cells}
-use Rattle.screen_pictures.specs.Picture.{Viewer, bar_cell, menu_cell, text_cell, frame_cell, viewer_cell, caret_at}
+use Rattle.screen_pictures.specs.Picture.{Painted, bar_cell, menu_cell, text_cell, frame_cell, viewer_cell, caret_at}
 
 -- a row below the menu
-pub frame_shown : (v : Viewer) (width bottom top y column row : ℕ) (line : List (ℕ × Look × ℕ))
+pub frame_shown : (v : Painted) (width bottom top y column row : ℕ) (line : List (ℕ × Look × ℕ))
     (caret : Option (ℕ × ℕ)) (selection : Option FrameSelection) → y + 1 < top
     → row ≡ top - 2 - y → line ≡ row_cells (width - 1) v.main v.frame.org row
     → caret ≡ caret_at (width - 1) (top - bottom - 1) v.main v.frame.org v.frame.caret → selection ≡ v.frame.selection
@@ -29,7 +29,7 @@ frame_shown v width bottom top y column row line caret selection under row_is li
     else frame_cell v (width - 1) (top - bottom - 1) column (top - 2 - y)) below)
 
 -- the menu's row
-pub menu_shown : (v : Viewer) (width bottom top y column : ℕ) (line : List (ℕ × Look × ℕ)) → y + 1 ≡ top
+pub menu_shown : (v : Painted) (width bottom top y column : ℕ) (line : List (ℕ × Look × ℕ)) → y + 1 ≡ top
     → line ≡ row_cells width v.menu 0 0 → menu_cell line column ≡ viewer_cell v width bottom top column y
 menu_shown v width bottom top y column line at_top line_is =
     let there : (top == y + 1) ≡ true = grind (arith, nat_tests) in

@@ -1,5 +1,4 @@
 pub mod Shown
-pub mod Prints
 pub mod Rows
 pub mod Sent
 pub mod Walks

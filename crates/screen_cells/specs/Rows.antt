@@ -5,12 +5,12 @@ use Rattle.viewer_tracks.specs.Columns.{Columns}
 use Rattle.text_frames.specs.Row.{ShownCell}
 use Rattle.screen_pictures.specs.declared.cell.Cell.{Cell}
 use Rattle.screen_cells.specs.declared.strip.Strip.{Strip}
-use Rattle.screen_pictures.specs.Picture.{Viewer, picture, is_at, with_marker}
+use Rattle.screen_pictures.specs.Picture.{Painted, picture, is_at, with_marker}
 use Rattle.screen_pictures.specs.Screen.{values}
 use Rattle.screen_cells.specs.Shown.{strip_cell}
 
 -- row y of what is painted
-abbrev pub painted_row : Columns → List Viewer → Option (ℕ × ℕ) → ℕ → List Cell
+abbrev pub painted_row : Columns → List Painted → Option (ℕ × ℕ) → ℕ → List Cell
 painted_row columns viewers marker y = values COLUMNS (λ x. picture columns viewers marker x y)
 
 -- the cell at column x of row y, where the tracks show these strips with these lines

@@ -1,17 +1,17 @@
 -- Viewers as they are handed in, and what a track shows in a row.
 use Rattle.std.specs.Prelude.{◌≤◌, ◌-◌, ◌==◌, ℕ, if◌then◌else◌, List, length}
 use Rattle.piece_ring.specs.Flat.{flat}
-use Rattle.piece_ring.specs.Offsets.{AreWithin}
+use Rattle.piece_ring.specs.Text.{AreWithin}
 use Rattle.readers_scanners.specs.Reading.{contents}
 use Rattle.text_frames.specs.Row.{ShownCell}
 use Rattle.screen_cells.specs.declared.shown.Shown.{Shown}
 use Rattle.screen_cells.specs.declared.strip.Strip.{Strip}
 use Rattle.screen_cells.specs.declared.strip.Strip.TheVariants.{Filler, Menu, Frame}
 use Rattle.screen_pictures.specs.declared.cell.Cell.{Cell}
-use Rattle.screen_pictures.specs.Picture.{Viewer, filler, bar_cell, menu_cell, text_cell}
+use Rattle.screen_pictures.specs.Picture.{Painted, filler, bar_cell, menu_cell, text_cell}
 
 -- a viewer as it reads, over these characters
-abbrev pub as_read : List ℕ → Shown → Viewer
+abbrev pub as_read : List ℕ → Shown → Painted
 as_read characters s = record {
   id = s.id.0;
   menu = contents characters (flat s.menu.now);

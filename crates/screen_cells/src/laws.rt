@@ -2,7 +2,7 @@
 ghost use Rattle.std.specs.Prelude.{◌≡◌, ◌<◌, ℕ, Option, List};
 ghost use Rattle.viewer_tracks.specs.Columns.{no_viewers};
 ghost use Rattle.screen_pictures.specs.declared.cell.Cell.{Cell as ACell};
-ghost use Rattle.screen_pictures.specs.Picture.{Viewer, filler_cell, is_at, picture};
+ghost use Rattle.screen_pictures.specs.Picture.{Painted, filler_cell, is_at, picture};
 ghost use Rattle.screen_pictures.specs.Screen.{screen_of, cell_at};
 
 use viewer_tracks::{COLUMNS, ROWS};
@@ -14,6 +14,6 @@ pub fn cells_of_a_screen()
 
 /// Where there is no viewer, all is filler.
 pub fn all_filler_without_viewers()
-    ensures { (viewers : List Viewer) (marker : Option (ℕ × ℕ)) (x y : ℕ)
+    ensures { (viewers : List Painted) (marker : Option (ℕ × ℕ)) (x y : ℕ)
         → picture no_viewers viewers marker x y ≡ filler_cell (is_at marker x y) }
 {}

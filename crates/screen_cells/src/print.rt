@@ -1,5 +1,5 @@
 //! Printing a screen.
-ghost use Rattle.screen_cells.specs.Prints.{Prints};
+ghost use Rattle.output_bytes.specs.Sent.{Sends};
 ghost use Rattle.screen_pictures.specs.Printed.{printed, character_lines, mark_lines};
 
 use crate::line::{character_line, has_mark_line, mark_line};
@@ -16,7 +16,7 @@ impl Screen {
     /// It returns `Fault` where a write or the flush fails, and where a write takes no byte; the writer may then have
     /// taken a prefix of the text. It takes no memory.
     pub fn print<W: Write>(&self, writer: &mut W) -> Result<(), Fault>
-        ensures { Prints (printed self.now) result (W.contents writer.old) (W.contents writer.new) }
+        ensures { Sends result (W.contents writer.old) (W.contents writer.new) (printed self.now) }
     {
         self.print_characters(writer)?;
         send(writer, b"marks\n")?;
@@ -27,7 +27,7 @@ impl Screen {
 
     /// Writes the line of each row's characters, from the top.
     fn print_characters<W: Write>(&self, writer: &mut W) -> Result<(), Fault>
-        ensures { Prints (character_lines self.now) result (W.contents writer.old) (W.contents writer.new) }
+        ensures { Sends result (W.contents writer.old) (W.contents writer.new) (character_lines self.now) }
     {
         for y in (0..ROWS).rev() {
             let row = self.row(y);
@@ -38,7 +38,7 @@ impl Screen {
 
     /// Writes the line of each row that has a mark line, from the top.
     fn print_marks<W: Write>(&self, writer: &mut W) -> Result<(), Fault>
-        ensures { Prints (mark_lines self.now) result (W.contents writer.old) (W.contents writer.new) }
+        ensures { Sends result (W.contents writer.old) (W.contents writer.new) (mark_lines self.now) }
     {
         for y in (0..ROWS).rev() {
             let row = self.row(y);

@@ -1,7 +1,6 @@
 //! Writing all of some bytes, with the fault that a screen's calls return.
-ghost use Rattle.std.specs.Prelude.{OnOk, OnErr};
-ghost use Rattle.std.specs.Io.KnownBytes.{Appends, Keeps};
-ghost use Rattle.screen_cells.specs.Sent.{AppendsFront};
+ghost use Rattle.std.specs.Io.KnownBytes.{Keeps};
+ghost use Rattle.output_bytes.specs.Sent.{Sends};
 
 use output_bytes::OutputFault;
 use sector_disk::Fault;
@@ -9,8 +8,7 @@ use std::io::Write;
 
 /// Writes all of the bytes. It fails where a write does, and where a write takes no byte.
 pub(crate) fn send<W: Write>(writer: &mut W, bytes: &[u8]) -> Result<(), Fault>
-    ensures sent { OnOk result (Appends (W.contents writer.old) (W.contents writer.new) bytes.now) }
-    ensures front { OnErr result (AppendsFront (W.contents writer.old) (W.contents writer.new) bytes.now) }
+    ensures { Sends result (W.contents writer.old) (W.contents writer.new) bytes.now }
 {
     match output_bytes::send(writer, bytes) {
         Ok(()) => Ok(()),

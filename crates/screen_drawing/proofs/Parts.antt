@@ -1,30 +1,18 @@
 -- A drawing that is taken part by part.
-use Rattle.std.proofs.Common.{◌≡◌, ℕ, ◌+◌, ◌-◌, ◌<◌, ◌≤◌, List, [], ◌++◌, Option, refl, sym, ap, ◌∙◌, arith, subst}
-use Rattle.std.proofs.Common.{append-nil, drop, length, get_or, add-one, suc}
+use Rattle.std.proofs.Common.{◌≡◌, ℕ, ◌+◌, ◌-◌, ◌<◌, ◌≤◌, List, [], ◌++◌, Option, sym, ap, ◌∙◌, arith, subst}
+use Rattle.std.proofs.Common.{drop, length, get_or, add-one, suc}
 use Rattle.std.proofs.Math.Seq.{drop-cons}
-use Rattle.std.specs.Prelude.{Bool, true, if◌then◌else◌, IsErrAnd, Result, Ok, Err}
-use Rattle.std.specs.Io.KnownBytes.{Appends, Keeps}
-use Rattle.std.proofs.KnownBytes.{Appends-kept, Keeps-refl}
+use Rattle.std.specs.Prelude.{Bool, true, if◌then◌else◌}
+use Rattle.std.specs.Io.KnownBytes.{Appends}
+use Rattle.std.proofs.KnownBytes.{Keeps-refl}
 use Rattle.std.specs.List.{flat_map, range_with_len}
 use denote.Bor.{Bor}
 use Rattle.output_bytes.specs.Sent.{AppendsFront}
-use Rattle.output_bytes.proofs.Taking.{HasTaken, front_part, taken_all, taken_none, taken_part}
+use Rattle.output_bytes.proofs.Taking.{HasTaken, front_part, taken_all, taken_part}
 use Rattle.terminal_painting.specs.declared.face.Face.{Face}
 use Rattle.terminal_painting.specs.declared.pen.Pen.{Pen}
-use Rattle.screen_drawing.specs.Draws.{Draws}
 use Rattle.screen_drawing.specs.Drawn.{drawn_start, drawn_stretch, is_start, pen_at, stretch_at}
 use Rattle.screen_drawing.specs.Spelling.{joined}
-
--- the same text in other words
-pub drawn_as : {T E : Type 0} (r : Result T E) (old new : Option (List ℕ)) (text same : List ℕ) → text ≡ same
-    → Draws r old new text → Draws r old new same
-drawn_as r old new text same is drawn = subst (λ t. Draws r old new t) is drawn
-
--- where a part wasn't drawn whole
-pub front_drawn : {T E : Type 0} (r : Result T E) (Q : E → Type 0) (old new : Option (List ℕ)) (text : List ℕ)
-    → IsErrAnd r Q → AppendsFront old new text → Draws r old new text
-front_drawn (Ok x) Q old new text is front = absurd is
-front_drawn (Err e) Q old new text is front = front
 
 -- a part more of what is left, or a front of it
 pub next_taken : (old mid new : Option (List ℕ)) (text left part rest : List ℕ) → left ≡ part ++ rest
@@ -41,54 +29,6 @@ next_front old mid new text left part rest next before now =
 pub all_taken : (old new : Option (List ℕ)) (text left : List ℕ) → HasTaken old new text left → left ≡ []
     → Appends old new text
 all_taken old new text left before none = taken_all old new new text left before none (Keeps-refl new)
-
--- the last part is taken
-pub last_taken : (old mid new : Option (List ℕ)) (text part : List ℕ) → HasTaken old mid text part
-    → Appends mid new part → Appends old new text
-last_taken old mid new text part before now =
-    all_taken old new text [] (next_taken old mid new text part part [] (sym (append-nil part)) before now) refl
-
-pub last_front : (old mid new : Option (List ℕ)) (text part : List ℕ) → HasTaken old mid text part
-    → AppendsFront mid new part → AppendsFront old new text
-last_front old mid new text part before now =
-    next_front old mid new text part part [] (sym (append-nil part)) before now
-
--- of two parts
-pub first_taken : (old new : Option (List ℕ)) (first second : List ℕ) → Appends old new first
-    → HasTaken old new (first ++ second) second
-first_taken old new first second now =
-    taken_part old old new (first ++ second) first second (taken_none old (first ++ second)) now
-
-pub first_front : (old new : Option (List ℕ)) (first second : List ℕ) → AppendsFront old new first
-    → AppendsFront old new (first ++ second)
-first_front old new first second now =
-    front_part old old new (first ++ second) first second (taken_none old (first ++ second)) now
-
-pub both_taken : (old mid new : Option (List ℕ)) (first second : List ℕ) → Appends old mid first
-    → Appends mid new second → Appends old new (first ++ second)
-both_taken old mid new first second one two =
-    last_taken old mid new (first ++ second) second (first_taken old mid first second one) two
-
-pub second_front : (old mid new : Option (List ℕ)) (first second : List ℕ) → Appends old mid first
-    → AppendsFront mid new second → AppendsFront old new (first ++ second)
-second_front old mid new first second one two =
-    last_front old mid new (first ++ second) second (first_taken old mid first second one) two
-
--- a text that was taken, after the writer has passed it on or couldn't
-pub whole_front : (old mid new : Option (List ℕ)) (text : List ℕ) → Appends old mid text → Keeps mid new
-    → AppendsFront old new text
-whole_front old mid new text now kept = record {
-  front = text;
-  back = [];
-  parts = sym (append-nil text);
-  taken = Appends-kept old mid new text now kept;
-}
-
--- the second of two parts, once the first was drawn
-pub then_drawn : {T E : Type 0} (r : Result T E) (old mid new : Option (List ℕ)) (first second : List ℕ)
-    → Appends old mid first → Draws r mid new second → Draws r old new (first ++ second)
-then_drawn (Ok x) old mid new first second one two = both_taken old mid new first second one two
-then_drawn (Err e) old mid new first second one two = second_front old mid new first second one two
 
 -- the pieces from an index on
 pub next_piece : (pieces : List (Bor (List ℕ))) (i : ℕ) (d : Bor (List ℕ)) → i < length pieces

@@ -19,7 +19,7 @@ use Rattle.terminal_painting.specs.declared.pen.Weight.TheVariants.{Regular, Bol
 use Rattle.terminal_painting.specs.declared.pen.Rule.{Rule}
 use Rattle.terminal_painting.specs.declared.pen.Rule.TheVariants.{Plain, Under, Over}
 use Rattle.terminal_painting.specs.declared.pen.TheConstants.{BLACK, WHITE}
-use Rattle.terminal_painting.specs.Frame.{row_of_cells}
+use Rattle.terminal_painting.specs.Scene.{row_of_cells}
 use Rattle.terminal_painting.specs.Pen.{blank, same_pen}
 use Rattle.screen_drawing.specs.Spelling.{baseline, caret_width, cell_height, cell_width, colour_code, escaped_byte}
 

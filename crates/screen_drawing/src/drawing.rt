@@ -1,7 +1,6 @@
 //! Drawing a screen.
-ghost use Rattle.std.specs.Prelude.{◌≡◌, ◌<◌, ◌≤◌, ◌*◌, length, position, IfSome, OnOk, OnErr};
-ghost use Rattle.std.specs.Io.KnownBytes.{Appends};
-ghost use Rattle.output_bytes.specs.Sent.{AppendsFront};
+ghost use Rattle.std.specs.Prelude.{◌≡◌, ◌<◌, ◌≤◌, ◌*◌, length, position, IfSome};
+ghost use Rattle.output_bytes.specs.Sent.{Sends};
 ghost use Rattle.viewer_tracks.specs.declared.display.TheConstants.{COLUMNS as columns, ROWS as rows};
 ghost use Rattle.screen_pictures.specs.Screen.{column_at};
 ghost use Rattle.screen_drawing.specs.Drawn.{background, drawn, drawn_caret, drawn_cells, drawn_column, drawn_row};
@@ -9,7 +8,6 @@ ghost use Rattle.screen_drawing.specs.Drawn.{drawn_rows, drawn_paper, drawn_star
 ghost use Rattle.screen_drawing.specs.Drawn.{is_bare, is_in_another, is_ruled, is_start, pen_at, stretch_at};
 ghost use Rattle.screen_drawing.specs.Drawn.{are_spaces, stretch_length};
 ghost use Rattle.screen_drawing.specs.Spelling.{caret_width, cell_height, cell_width};
-ghost use Rattle.screen_drawing.specs.Draws.{Draws};
 
 use crate::pieces::{Drawing, send_all};
 use crate::shapes::{Area, paper_cells, rectangle, text_cells};
@@ -42,8 +40,7 @@ pub fn draw<W: Write>(
     writer: &mut W,
     screen: &[[Cell; COLUMN_COUNT]; ROW_COUNT],
 ) -> Result<(), OutputFault>
-    ensures drawn { OnOk result (Appends (W.contents writer.old) (W.contents writer.new) (drawn screen.now)) }
-    ensures front { OnErr result (AppendsFront (W.contents writer.old) (W.contents writer.new) (drawn screen.now)) }
+    ensures { Sends result (W.contents writer.old) (W.contents writer.new) (drawn screen.now) }
 {
     draw_heading(writer)?;
     draw_background(writer)?;
@@ -54,7 +51,7 @@ pub fn draw<W: Write>(
 
 /// Begins the drawing: its size, and the font.
 fn draw_heading<W: Write>(writer: &mut W) -> Drawing
-    ensures { Draws result (W.contents writer.old) (W.contents writer.new) heading }
+    ensures { Sends result (W.contents writer.old) (W.contents writer.new) heading }
 {
     let width = digits(WIDTH);
     let height = digits(HEIGHT);
@@ -76,7 +73,7 @@ fn draw_heading<W: Write>(writer: &mut W) -> Drawing
 
 /// Draws white paper.
 fn draw_background<W: Write>(writer: &mut W) -> Drawing
-    ensures { Draws result (W.contents writer.old) (W.contents writer.new) background }
+    ensures { Sends result (W.contents writer.old) (W.contents writer.new) background }
 {
     let area = Area {
         x: 0,
@@ -89,7 +86,7 @@ fn draw_background<W: Write>(writer: &mut W) -> Drawing
 
 /// Draws the rows, from the top.
 fn draw_rows<W: Write>(writer: &mut W, screen: &Rows) -> Drawing
-    ensures { Draws result (W.contents writer.old) (W.contents writer.new) (drawn_rows screen.now) }
+    ensures { Sends result (W.contents writer.old) (W.contents writer.new) (drawn_rows screen.now) }
 {
     for y in 0..ROWS {
         draw_row(writer, y, screen)?;
@@ -101,7 +98,7 @@ fn draw_rows<W: Write>(writer: &mut W, screen: &Rows) -> Drawing
 #[tactic(auto, unfolding(crate::specs::Drawn::drawn_row))]
 fn draw_row<W: Write>(writer: &mut W, y: u8, screen: &Rows) -> Drawing
     requires { y < rows }
-    ensures { Draws result (W.contents writer.old) (W.contents writer.new) (drawn_row screen.now y) }
+    ensures { Sends result (W.contents writer.old) (W.contents writer.new) (drawn_row screen.now y) }
 {
     let cells = &screen[usize::from(ROWS - 1 - y)];
     draw_cells(writer, y, cells, &row_of_cells(cells))
@@ -109,7 +106,7 @@ fn draw_row<W: Write>(writer: &mut W, y: u8, screen: &Rows) -> Drawing
 
 /// Draws the cells of a row, from the left.
 fn draw_cells<W: Write>(writer: &mut W, y: u8, cells: &[Cell; COLUMN_COUNT], row: &Row) -> Drawing
-    ensures { Draws result (W.contents writer.old) (W.contents writer.new) (drawn_cells y cells.now row.now) }
+    ensures { Sends result (W.contents writer.old) (W.contents writer.new) (drawn_cells y cells.now row.now) }
 {
     for x in 0..COLUMNS {
         draw_column(writer, (x, y), cells, row)?;
@@ -125,7 +122,7 @@ fn draw_column<W: Write>(
     row: &Row,
 ) -> Drawing
     requires { place.0 < columns }
-    ensures { Draws result (W.contents writer.old) (W.contents writer.new)
+    ensures { Sends result (W.contents writer.old) (W.contents writer.new)
         (drawn_column place.1 cells.now row.now place.0) }
 {
     draw_start(writer, place, row)?;
@@ -143,7 +140,7 @@ fn mark_at(cells: &[Cell; COLUMN_COUNT], x: u8) -> Mark
 /// Draws the stretch of cells in one pen that begins at a column, if one does.
 fn draw_start<W: Write>(writer: &mut W, place: (u8, u8), row: &Row) -> Drawing
     requires { place.0 < columns }
-    ensures { Draws result (W.contents writer.old) (W.contents writer.new) (drawn_start place.1 row.now place.0) }
+    ensures { Sends result (W.contents writer.old) (W.contents writer.new) (drawn_start place.1 row.now place.0) }
 {
     if !is_start(row, place.0) {
         return Ok(());
@@ -201,7 +198,7 @@ fn other_pen(faces: &[Face], pen: Pen) -> Option<usize>
 /// Draws cells of one pen from a column on: their paper where it isn't white, and their text where there is one.
 fn draw_stretch<W: Write>(writer: &mut W, place: (u8, u8), faces: &[Face], pen: Pen) -> Drawing
     requires { length faces.now ≤ 80 }
-    ensures { Draws result (W.contents writer.old) (W.contents writer.new)
+    ensures { Sends result (W.contents writer.old) (W.contents writer.new)
         (drawn_stretch place.0 place.1 faces.now pen) }
 {
     draw_paper(writer, place, faces.len() as u8, pen.paper)?;
@@ -210,7 +207,7 @@ fn draw_stretch<W: Write>(writer: &mut W, place: (u8, u8), faces: &[Face], pen: 
 
 /// Draws the background of cells, if it isn't white.
 fn draw_paper<W: Write>(writer: &mut W, place: (u8, u8), columns: u8, paper: u8) -> Drawing
-    ensures { Draws result (W.contents writer.old) (W.contents writer.new) (drawn_paper place.0 place.1 columns paper) }
+    ensures { Sends result (W.contents writer.old) (W.contents writer.new) (drawn_paper place.0 place.1 columns paper) }
 {
     if paper == WHITE {
         return Ok(());
@@ -221,7 +218,7 @@ fn draw_paper<W: Write>(writer: &mut W, place: (u8, u8), columns: u8, paper: u8)
 /// Draws the characters of cells of one pen, if there is anything to see of them.
 fn draw_text<W: Write>(writer: &mut W, place: (u8, u8), faces: &[Face], pen: Pen) -> Drawing
     requires { length faces.now ≤ 80 }
-    ensures { Draws result (W.contents writer.old) (W.contents writer.new) (drawn_text place.0 place.1 faces.now pen) }
+    ensures { Sends result (W.contents writer.old) (W.contents writer.new) (drawn_text place.0 place.1 faces.now pen) }
 {
     if is_bare(faces, pen) {
         return Ok(());
@@ -255,7 +252,7 @@ fn are_spaces(faces: &[Face]) -> bool
 
 /// Draws the caret, if there is one.
 fn draw_caret<W: Write>(writer: &mut W, place: (u8, u8), mark: Mark) -> Drawing
-    ensures { Draws result (W.contents writer.old) (W.contents writer.new) (drawn_caret place.0 place.1 mark) }
+    ensures { Sends result (W.contents writer.old) (W.contents writer.new) (drawn_caret place.0 place.1 mark) }
 {
     match mark {
         Mark::Caret => rectangle(writer, caret_area(place), BLACK),

@@ -1,6 +1,6 @@
 //! A text that is written piece by piece.
 ghost use Rattle.std.specs.Prelude.{◌≡◌};
-ghost use Rattle.screen_drawing.specs.Draws.{Draws};
+ghost use Rattle.output_bytes.specs.Sent.{Sends};
 ghost use Rattle.screen_drawing.specs.Spelling.{joined};
 
 use output_bytes::{OutputFault, send};
@@ -11,7 +11,7 @@ pub(crate) type Drawing = Result<(), OutputFault>;
 
 /// Writes the pieces, one after another.
 pub(crate) fn send_all<W: Write>(writer: &mut W, pieces: &[&[u8]]) -> Drawing
-    ensures { Draws result (W.contents writer.old) (W.contents writer.new) (joined pieces.now) }
+    ensures { Sends result (W.contents writer.old) (W.contents writer.new) (joined pieces.now) }
 {
     for piece in pieces {
         send(writer, piece)?;

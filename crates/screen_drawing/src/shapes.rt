@@ -1,7 +1,7 @@
 //! Rectangles and texts of a drawing.
 ghost use Rattle.std.specs.Prelude.{◌≡◌, ◌<◌, ◌≤◌, length};
+ghost use Rattle.output_bytes.specs.Sent.{Sends};
 ghost use Rattle.terminal_painting.specs.declared.face.Face.{Face as AFace};
-ghost use Rattle.screen_drawing.specs.Draws.{Draws};
 ghost use Rattle.screen_drawing.specs.Drawn.{paper_cells, rectangle, rule_text, slant_text, text_cells, weight_text};
 
 use crate::pieces::{Drawing, send_all};
@@ -20,7 +20,7 @@ pub(crate) struct Area {
 
 /// Draws a rectangle in a colour of the terminal.
 pub(crate) fn rectangle<W: Write>(writer: &mut W, area: Area, colour: u8) -> Drawing
-    ensures { Draws result (W.contents writer.old) (W.contents writer.new)
+    ensures { Sends result (W.contents writer.old) (W.contents writer.new)
         (rectangle area.x area.y area.width area.height colour) }
 {
     send_all(
@@ -48,7 +48,7 @@ pub(crate) fn paper_cells<W: Write>(
     columns: u8,
     paper: u8,
 ) -> Drawing
-    ensures { Draws result (W.contents writer.old) (W.contents writer.new) (paper_cells place.0 place.1 columns paper) }
+    ensures { Sends result (W.contents writer.old) (W.contents writer.new) (paper_cells place.0 place.1 columns paper) }
 {
     let area = Area {
         x: CELL_WIDTH * u16::from(place.0),
@@ -67,7 +67,7 @@ pub(crate) fn text_cells<W: Write>(
     pen: Pen,
 ) -> Drawing
     requires { length faces.now ≤ 80 }
-    ensures { Draws result (W.contents writer.old) (W.contents writer.new) (text_cells place.0 place.1 faces.now pen) }
+    ensures { Sends result (W.contents writer.old) (W.contents writer.new) (text_cells place.0 place.1 faces.now pen) }
 {
     let x = CELL_WIDTH * u16::from(place.0);
     let y = CELL_HEIGHT * u16::from(place.1) + BASELINE;

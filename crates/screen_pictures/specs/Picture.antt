@@ -1,9 +1,8 @@
 -- What the cell at column x and row y shows: a character, in a look, and a mark.
 --
 -- The row under the top of a viewer shows the first line of its menu over the whole width, with hyphens past its end.
--- In
--- the rows below, the first column is the scroll bar, and the others show the lines of the main text from the frame's
--- `org` on. Where no viewer is seen, the cell is filler.
+-- In the rows below, the first column is the scroll bar, and the others show the lines of the main text from the
+-- frame's `org` on. Where no viewer is seen, the cell is filler.
 use Rattle.std.specs.Prelude.{ℕ, ◌+◌, ◌-◌, Bool, false, ◌&&◌, ◌==◌, nat_le, nat_lt, if◌then◌else◌, List, length, map}
 use Rattle.std.specs.Prelude.{Option, Some, None, slice_get}
 use Rattle.std.specs.List.{find}
@@ -26,8 +25,9 @@ use Rattle.screen_pictures.specs.declared.cell.Mark.TheVariants.{Marker, Menu, B
 use Rattle.screen_pictures.specs.Bytes.{space, hyphen, vertical_bar, shown_byte}
 use Rattle.screen_pictures.specs.Mark.{mark_of}
 
--- a viewer by its number, with its menu text and its main text, each character a byte in its look, and the main frame
-pub record Viewer : Type 0 where
+-- What is painted of a viewer: its number, its menu text and its main text, each character a byte in its look, and the
+-- main frame.
+pub record Painted : Type 0 where
   pub id : ℕ
   pub menu : Text ℕ
   pub main : Text ℕ
@@ -75,14 +75,14 @@ caret_at w h text org (Some p) =
     if nat_le p (length text) then cell_of w h (map (λ c. c.0) text) org p else None
 
 -- the cell of a main frame of w columns beside its bar and h rows
-abbrev pub frame_cell : Viewer → ℕ → ℕ → ℕ → ℕ → Cell
+abbrev pub frame_cell : Painted → ℕ → ℕ → ℕ → ℕ → Cell
 frame_cell v w h column row =
     if column == 0 then bar_cell else
     text_cell (row_cells w v.main v.frame.org row) (caret_at w h v.main v.frame.org v.frame.caret) v.frame.selection
     (column - 1) row
 
 -- the cell in this column, from the viewer's left one, and row y of a viewer of that width and these rows
-abbrev pub viewer_cell : Viewer → ℕ → ℕ → ℕ → ℕ → ℕ → Cell
+abbrev pub viewer_cell : Painted → ℕ → ℕ → ℕ → ℕ → ℕ → Cell
 viewer_cell v width bottom top column y =
     if top == y + 1 then menu_cell (row_cells width v.menu 0 0) column
     else frame_cell v (width - 1) (top - bottom - 1) column (top - 2 - y)
@@ -93,18 +93,18 @@ width_of User = SYSTEM_LEFT
 width_of System = COLUMNS - SYSTEM_LEFT
 
 -- the cell of a viewer's in this column and row y of its track, where it is among those that are shown, or else filler
-abbrev pub shown_cell : Columns → Track → ℕ → ℕ → ℕ → Option Viewer → Cell
+abbrev pub shown_cell : Columns → Track → ℕ → ℕ → ℕ → Option Painted → Cell
 shown_cell columns track id column y None = filler
 shown_cell columns track id column y (Some v) =
     viewer_cell v (width_of track) (placed_bottom columns id) (placed_top columns id) column y
 
 -- the cell in this column and row y of a track, by the viewer that is seen there, the first of its number
-abbrev pub seen_cell : Columns → List Viewer → Track → ℕ → ℕ → Option ℕ → Cell
+abbrev pub seen_cell : Columns → List Painted → Track → ℕ → ℕ → Option ℕ → Cell
 seen_cell columns viewers track column y None = filler
 seen_cell columns viewers track column y (Some id) =
     shown_cell columns track id column y (find (λ v. v.id == id) viewers)
 
-abbrev pub track_cell : Columns → List Viewer → Track → ℕ → ℕ → Cell
+abbrev pub track_cell : Columns → List Painted → Track → ℕ → ℕ → Cell
 track_cell columns viewers track column y =
     seen_cell columns viewers track column y (viewer_at (shown columns track) y)
 
@@ -113,6 +113,6 @@ abbrev pub with_marker : Bool → Cell → Cell
 with_marker here cell = if here then record cell { mark = Marker } else cell
 
 -- the cell, with these columns, viewers and this marker
-unfoldable pub picture : Columns → List Viewer → Option (ℕ × ℕ) → ℕ → ℕ → Cell
+unfoldable pub picture : Columns → List Painted → Option (ℕ × ℕ) → ℕ → ℕ → Cell
 picture columns viewers marker x y =
     with_marker (is_at marker x y) (track_cell columns viewers (track_at x) (x - left_of (track_at x)) y)

@@ -1,6 +1,6 @@
 -- A printed screen. The lines of its rows come from the top down: first all with their characters, then, after a line
--- `marks`, those of the
--- rows in which the marker, a caret or a selected character is, with a letter for each cell, and at last a line `end`.
+-- `marks`, those of the rows in which the marker, a caret or a selected character is, with a letter for each cell, and at
+-- last a line `end`.
 use Rattle.std.specs.Prelude.{ℕ, ◌/◌, ◌%◌, Bool, ◌==◌, List, [], ◌∷◌, ◌++◌, length, take, drop, map, filter, reverse}
 use Rattle.std.specs.Prelude.{codes}
 use Rattle.std.specs.List.{flat_map, list_all, list_any, position_or_len, range_with_len}

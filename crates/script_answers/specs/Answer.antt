@@ -36,13 +36,21 @@ shown bytes = flat_map shown_byte bytes
 abbrev pub is_same_look : Look → Look → Bool
 is_same_look a b = (a.font == b.font) && ((a.colour == b.colour) && int_eq a.voff b.voff)
 
--- a character before stretches of one look each: it joins the first of them, where that has its look
-abbrev pub joined : ℕ × Look → List (Look × List ℕ) → List (Look × List ℕ)
-joined c [] = (c.1, c.0 ∷ []) ∷ []
-joined c (s ∷ ss) = if is_same_look c.1 s.0 then (s.0, c.0 ∷ s.1) ∷ ss else (c.1, c.0 ∷ []) ∷ s ∷ ss
+-- a stretch of a text that is in one look
+pub record LookStretch : Type 0 where
+  pub look : Look
+  pub bytes : List ℕ
 
--- a text as its longest stretches of one look, each a look and its bytes
-abbrev pub stretches : Text ℕ → List (Look × List ℕ)
+-- a character before stretches of one look each: it joins the first of them, where that has its look
+abbrev pub joined : ℕ × Look → List LookStretch → List LookStretch
+joined c [] = record { look = c.1; bytes = c.0 ∷ [] } ∷ []
+joined c (s ∷ ss) =
+    if is_same_look c.1 s.look
+    then record { look = s.look; bytes = c.0 ∷ s.bytes } ∷ ss
+    else record { look = c.1; bytes = c.0 ∷ [] } ∷ s ∷ ss
+
+-- a text as its longest stretches of one look
+abbrev pub stretches : Text ℕ → List LookStretch
 stretches [] = []
 stretches (c ∷ text) = joined c (stretches text)
 
@@ -50,8 +58,8 @@ stretches (c ∷ text) = joined c (stretches text)
 abbrev pub look_words : Look → List ℕ
 look_words look = decimal look.font ++ 32 ∷ decimal look.colour ++ 32 ∷ signed_decimal look.voff ++ 32 ∷ []
 
-abbrev pub stretch_line : Look × List ℕ → List ℕ
-stretch_line s = ended (look_words s.0 ++ shown s.1)
+abbrev pub stretch_line : LookStretch → List ℕ
+stretch_line s = ended (look_words s.look ++ shown s.bytes)
 
 -- A text: a line for each stretch. An empty text has no such line.
 abbrev pub text_lines : Text ℕ → List ℕ

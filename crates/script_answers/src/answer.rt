@@ -85,7 +85,8 @@ pub fn text_bytes(alloc: Global, text: &[(u8, Look)]) -> Result<Vec<u8>, AllocEr
 
 /// Adds the line of a stretch: its look and its bytes.
 fn push_stretch(text: &mut Vec<u8>, look: Look, stretch: &[(u8, Look)]) -> Result<(), AllocError>
-    ensures { OnOk result (text.new.items ≡ text.old.items ++ stretch_line (look, bytes_in stretch.now)) }
+    ensures { OnOk result (text.new.items
+        ≡ text.old.items ++ stretch_line (record { look = look; bytes = bytes_in stretch.now })) }
 {
     push_look(text, look)?;
     push_shown(text, stretch)?;

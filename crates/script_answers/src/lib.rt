@@ -11,5 +11,5 @@ pub use answer::{
     ShortLine, list_bytes, numbered_line, refusal_bytes, reply_bytes, screen_bytes, short_line,
     text_bytes,
 };
-pub use script_streams::OutputFault;
+pub use output_bytes::OutputFault;
 pub use sending::send;

@@ -1,16 +1,14 @@
 //! Writing an answer.
-ghost use Rattle.std.specs.Prelude.{OnOk, OnErr};
-ghost use Rattle.std.specs.Io.KnownBytes.{Appends};
-ghost use Rattle.screen_cells.specs.Sent.{AppendsFront};
+ghost use Rattle.output_bytes.specs.Sent.{Sends};
 ghost use Rattle.script_streams.specs.Counting.{CountsFault};
 
-use script_streams::{AnswerWriter, OutputFault};
+use output_bytes::OutputFault;
+use script_streams::AnswerWriter;
 
 /// Writes all of the bytes and flushes the writer. It fails where a write or the flush does; then a prefix of the
 /// bytes may have been taken.
 pub fn send<W: AnswerWriter>(writer: &mut W, bytes: &[u8]) -> Result<(), OutputFault>
-    ensures sent { OnOk result (Appends (W.contents writer.old) (W.contents writer.new) bytes.now) }
-    ensures front { OnErr result (AppendsFront (W.contents writer.old) (W.contents writer.new) bytes.now) }
+    ensures sent { Sends result (W.contents writer.old) (W.contents writer.new) bytes.now }
     ensures cause { CountsFault result (W.failures writer.old) (W.failures writer.new) }
 {
     let mut rest = bytes;

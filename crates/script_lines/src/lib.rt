@@ -12,5 +12,5 @@ mod request;
 mod words;
 
 pub use laws::{numbers_are_decimal, one_split};
-pub use line::{Ending, Line, Script};
+pub use line::{Line, LineEnd, Script};
 pub use request::Request;

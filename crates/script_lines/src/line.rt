@@ -69,7 +69,7 @@ impl Line {
 
 /// How a line came to its end.
 #[derive(Clone, Copy, Debug, PartialEq, Eq)]
-pub enum Ending {
+pub enum LineEnd {
     /// By a line feed.
     Feed,
     /// By the end of the script.
@@ -119,27 +119,27 @@ impl Script {
     }
 
     /// Takes the next line from the reader. It ends at a line feed, at the end of the script, or where a read fails.
-    pub fn take_line<R: ScriptReader>(&mut self, line: &mut Line, reader: &mut R) -> Ending
-        ensures line { result ≡ Ending.Feed
+    pub fn take_line<R: ScriptReader>(&mut self, line: &mut Line, reader: &mut R) -> LineEnd
+        ensures line { result ≡ LineEnd.Feed
             → TakesLine self.old self.new (R.remaining reader.old) (R.remaining reader.new) line.new }
-        ensures fewer { result ≡ Ending.Feed → most_lines self.new < most_lines self.old }
-        ensures rest { (result ≡ Ending.Feed → ⊥)
+        ensures fewer { result ≡ LineEnd.Feed → most_lines self.new < most_lines self.old }
+        ensures rest { (result ≡ LineEnd.Feed → ⊥)
             → TakesRest self.old self.new (R.remaining reader.old) (R.remaining reader.new) line.new }
-        ensures end { result ≡ Ending.End → IsAtEnd (R.remaining reader.new) }
+        ensures end { result ≡ LineEnd.End → IsAtEnd (R.remaining reader.new) }
         ensures counted { R.reads reader.new + self.new.reads ≡ R.reads reader.old + self.old.reads }
-        ensures calm { (result ≡ Ending.Fault → ⊥) → R.failures reader.new ≡ R.failures reader.old }
-        ensures fault { result ≡ Ending.Fault
+        ensures calm { (result ≡ LineEnd.Fault → ⊥) → R.failures reader.new ≡ R.failures reader.old }
+        ensures fault { result ≡ LineEnd.Fault
             → IsReadFault self.new.reads (R.failures reader.old) (R.failures reader.new) }
     {
         line.clear();
         while !self.take_pending(line) {
             match self.read_piece(reader) {
-                Some(0) => return Ending::End,
+                Some(0) => return LineEnd::End,
                 Some(_) => {}
-                None => return Ending::Fault,
+                None => return LineEnd::Fault,
             }
         }
-        Ending::Feed
+        LineEnd::Feed
     }
 
     /// Adds what is pending up to the next line feed to the line. Whether there was one: then it is taken too.

@@ -1,4 +1,4 @@
-//! Streams whose calls are counted, and what a call says that failed.
+//! Streams whose calls are counted, and what a read says that failed.
 ghost use Rattle.std.specs.Prelude.{◌≡◌};
 
 use ghost_traces::Count;
@@ -6,10 +6,6 @@ use ghost_traces::Count;
 /// A read that failed.
 #[derive(Clone, Copy, Debug, PartialEq, Eq)]
 pub struct InputFault;
-
-/// The output took no more.
-#[derive(Clone, Copy, Debug, PartialEq, Eq)]
-pub struct OutputFault;
 
 /// A reader or a writer whose calls are counted: those that gave bytes, and those that failed.
 #[derive(Drop)]

@@ -8,6 +8,6 @@ mod counted;
 mod reader;
 mod writer;
 
-pub use counted::{Counted, InputFault, OutputFault};
+pub use counted::{Counted, InputFault};
 pub use reader::{CountedReader, ScriptReader};
 pub use writer::{AnswerWriter, CountedWriter};

@@ -4,7 +4,8 @@ ghost use Rattle.std.specs.Io.{WritesAtMost};
 ghost use Rattle.std.specs.Io.KnownBytes.{Keeps, WriteAppends};
 ghost use Rattle.script_streams.specs.Counting.{CountsFault};
 
-use crate::counted::{Counted, OutputFault};
+use crate::counted::Counted;
+use output_bytes::OutputFault;
 use std::io::Write;
 
 /// Takes the answers to a script.

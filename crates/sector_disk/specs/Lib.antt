@@ -6,3 +6,4 @@ pub mod File
 pub mod Failing
 pub mod Faults
 pub mod Stored
+pub mod StoredLaws

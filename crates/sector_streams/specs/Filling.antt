@@ -1,10 +1,8 @@
 -- Bytes that come one by one, and the sectors that they fill.
 use Rattle.std.specs.Prelude.{◌≡◌, ◌<◌, ◌≤◌, ◌+◌, ◌*◌, ℕ, List, length, get_or}
 use Rattle.std.specs.Borrow.{GName}
-use Rattle.std.proofs.Common.{subst}
 use Rattle.sector_disk.specs.declared.disk.Disk.{Ghosts}
 use Rattle.sector_disk.specs.Trail.{Content}
-use Rattle.sector_disk.specs.Confined.{IsConfined}
 use Rattle.sector_disk.specs.declared.disk.TheConstants.{SECTOR_BYTES}
 use Rattle.sector_streams.specs.declared.filling.Filling.{Filling}
 use Rattle.sector_streams.specs.Joined.{OnSameStretch}
@@ -40,11 +38,3 @@ HasTaken c f bytes = length bytes ≤ SECTOR_BYTES * most_sectors f → IsSpread
 abbrev pub OnSameSectors : {D : Type 0} → Ghosts D → D → D → Filling → Filling → GName → GName → GName → GName → Type 0
 OnSameSectors d old new f f' = OnSameStretch d InRange old new (first_sector f) (first_sector f')
     (most_sectors f) (most_sectors f')
-
--- calls that were confined to the sectors of a filling were confined to these numbers
-pub sectors_are : {D : Type 0} (d : Ghosts D) (f : Filling) {from limit : ℕ} {old new : D} → first_sector f ≡ from
-    → most_sectors f ≡ limit → IsConfined d.size d.honest d.trail (SectorsOf f) old new
-    → IsConfined d.size d.honest d.trail (InRange from limit) old new
-sectors_are d f {from = from} {old = old} {new = new} same_first same_most run =
-    subst (λ n. IsConfined d.size d.honest d.trail (InRange from n) old new) same_most
-    (subst (λ n. IsConfined d.size d.honest d.trail (InRange n (most_sectors f)) old new) same_first run)

@@ -1,4 +1,5 @@
 pub mod Joined
 pub mod JoinedLaws
 pub mod Filling
+pub mod FillingLaws
 pub mod Draining

@@ -8,6 +8,7 @@ use sector_disk::{Disk, Fault};
 
 /// Bytes on their way to sectors of a disk, for the time of a call. It borrows the disk and the filling, and leaves
 /// both as its last call left them.
+#[derive(Drop)]
 pub struct SectorSink<'a, D: Disk> {
     disk: &'a mut D,
     filling: &'a mut Filling,
@@ -18,25 +19,10 @@ impl<'a, D: Disk> SectorSink<'a, D> {
     /// A sink that goes on where the filling stands.
     pub fn over(disk: &'a mut D, filling: &'a mut Filling) -> Self
         requires { first_sector filling.old + most_sectors filling.old ≤ D.size disk.old }
-        ensures disk { result.disk.now ≡ disk.old }
-        ensures filling { result.filling.now ≡ filling.old }
-        ensures same_disk { result.disk.ghost_name ≡ disk.entry.ghost_name }
-        ensures same_filling { result.filling.ghost_name ≡ filling.entry.ghost_name }
+        ensures disk { result.disk ≡ disk.entry }
+        ensures filling { result.filling ≡ filling.entry }
     {
         SectorSink { disk, filling }
-    }
-}
-
-impl<D: Disk> Drop for SectorSink<'_, D> {
-    /// Gives disk and filling back.
-    fn drop(self)
-        ensures disk { self.exit.0.now ≡ self.entry.disk.now }
-        ensures filling { self.exit.1.0.now ≡ self.entry.filling.now }
-    {
-        let SectorSink {
-            disk: _,
-            filling: _,
-        } = self;
     }
 }
 

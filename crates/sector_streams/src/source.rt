@@ -8,6 +8,7 @@ use sector_disk::{Disk, Fault};
 
 /// Bytes on their way out of sectors of a disk, for the time of a call. It borrows the disk and the draining, and
 /// leaves both as its last call left them.
+#[derive(Drop)]
 pub struct SectorSource<'a, D: Disk> {
     disk: &'a mut D,
     draining: &'a mut Draining,
@@ -18,25 +19,10 @@ impl<'a, D: Disk> SectorSource<'a, D> {
     /// A source that goes on where the draining stands.
     pub fn over(disk: &'a mut D, draining: &'a mut Draining) -> Self
         requires { IsOnDisk (D.size disk.old) draining.old }
-        ensures disk { result.disk.now ≡ disk.old }
-        ensures draining { result.draining.now ≡ draining.old }
-        ensures same_disk { result.disk.ghost_name ≡ disk.entry.ghost_name }
-        ensures same_draining { result.draining.ghost_name ≡ draining.entry.ghost_name }
+        ensures disk { result.disk ≡ disk.entry }
+        ensures draining { result.draining ≡ draining.entry }
     {
         SectorSource { disk, draining }
-    }
-}
-
-impl<D: Disk> Drop for SectorSource<'_, D> {
-    /// Gives disk and draining back.
-    fn drop(self)
-        ensures disk { self.exit.0.now ≡ self.entry.disk.now }
-        ensures draining { self.exit.1.0.now ≡ self.entry.draining.now }
-    {
-        let SectorSource {
-            disk: _,
-            draining: _,
-        } = self;
     }
 }
 

@@ -15,7 +15,6 @@ use Rattle.event_bytes.specs.declared.event.Event.TheVariants.{Typed, Key as Pre
 use Rattle.piece_ring.specs.Text.{Text, inserted}
 use Rattle.desktop_definitions.specs.declared.viewer.Viewer.{Viewer}
 use Rattle.desktop_definitions.specs.declared.viewer.Caret.{Caret}
-use Rattle.desktop_definitions.specs.declared.reply.Reply.{Reply}
 use Rattle.desktop_definitions.specs.declared.reply.Reply.TheVariants.{Done, No}
 use Rattle.desktop_definitions.specs.Limits.{no_caret, full}
 use Rattle.desktop_definitions.specs.Sound.{IsSound}
@@ -29,7 +28,7 @@ use Rattle.desktop_definitions.specs.Change.{put_at_caret, showing, more_written
 use Rattle.desktop_definitions.specs.Changed.{texts_shown}
 use Rattle.desktop_definitions.specs.Keys.{typed}
 use Rattle.desktop_definitions.specs.Opening.{dropped}
-use Rattle.desktop_definitions.specs.Step.{fits, settled, raw, step_in}
+use Rattle.desktop_definitions.specs.Step.{fits, settled, raw, step_in, Outcome, outcome_of}
 use Rattle.desktop_laws.specs.ChangeLaws.{followed_shown, org_shown}
 use Rattle.desktop_laws.specs.PlaceLaws.{at_is}
 use Rattle.desktop_laws.specs.RowLaws.{shown_rest}
@@ -101,11 +100,12 @@ module _ (d : Desktop) (sound : IsSound d) where
 
 -- what is done keeps it, and a refusal does
 front_settled : (k n : ℕ) (d : Desktop) (r : Result Desktop ℕ) → AllShown d → IfOk r (KeepsFront k n d)
-    → take k (text_of (settled d r).0 n) ≡ take k (text_of d n)
+    → take k (text_of (settled d r).desktop n) ≡ take k (text_of d n)
 unfolding settled
 front_settled k n d (Err code) shown is = refl
 front_settled k n d (Ok new) shown is = elim (fits (dropped new)) as
-    (λ b. take k (text_of (let after : Desktop × Reply = if b then (dropped new, Done) else (d, No full) in after).0 n)
+    (λ b. take k (text_of
+        (let after : Outcome = if b then outcome_of (dropped new) Done else outcome_of d (No full) in after).desktop n)
     ≡ take k (text_of d n)) [
       | true ↦ ap (λ (x : Desktop). take k (text_of x n)) (all_stay new (shown_rest d new is.numbers is.viewers shown))
           ∙ is.text
@@ -118,24 +118,24 @@ module _ (d : Desktop) (sound : IsSound d) (bytes : List ℕ) where
 
   -- of the text in which the caret stands
   at_caret : (c : Caret) → d.caret ≡ Some c
-      → take c.position (text_of (settled d (typed d bytes)).0 (viewer_of d c.viewer).main)
+      → take c.position (text_of (settled d (typed d bytes)).desktop (viewer_of d c.viewer).main)
       ≡ take c.position (text_of d (viewer_of d c.viewer).main)
   unfolding typed
   at_caret c here =
       let n : ℕ = (viewer_of d c.viewer).main in
       let is = front_put d sound (in_look d.look bytes) c (caret_within c here) in
       subst (λ (o : Option Caret). take c.position (text_of (settled d (needs o no_caret
-      (λ c. Ok (more_written (put_at_caret d (in_look d.look bytes) c) (length bytes))))).0 n)
+      (λ c. Ok (more_written (put_at_caret d (in_look d.look bytes) c) (length bytes))))).desktop n)
       ≡ take c.position (text_of d n)) (sym here)
       (front_settled c.position n d (Ok (more_written (put_at_caret d (in_look d.look bytes) c) (length bytes)))
       sound.shown
       (record { text = is.text; numbers = is.numbers; viewers = is.viewers }))
 
   of_caret : (version n : ℕ) (c : Caret) → d.caret ≡ Some c → (viewer_of d c.viewer).main ≡ n
-      → take c.position (text_of (step_in version d (Typed bytes)).0 n) ≡ take c.position (text_of d n)
+      → take c.position (text_of (step_in version d (Typed bytes)).desktop n) ≡ take c.position (text_of d n)
   unfolding step_in raw
   of_caret version n c here is =
-      subst (λ m. take c.position (text_of (settled d (typed d bytes)).0 m) ≡ take c.position (text_of d m)) is
+      subst (λ m. take c.position (text_of (settled d (typed d bytes)).desktop m) ≡ take c.position (text_of d m)) is
       (at_caret c here)
 
   elsewhere : (n : ℕ) (c : Caret) → d.caret ≡ Some c → ((viewer_of d c.viewer).main == n) ≡ false
@@ -145,18 +145,18 @@ module _ (d : Desktop) (sound : IsSound d) (bytes : List ℕ) where
 
   -- and so of each text
   typed_front : (version n : ℕ) (o : Option Caret) → d.caret ≡ o
-      → take (position_or_zero o) (text_of (step_in version d (Typed bytes)).0 n)
+      → take (position_or_zero o) (text_of (step_in version d (Typed bytes)).desktop n)
       ≡ take (position_or_zero o) (text_of d n)
   typed_front version n None here = refl
   typed_front version n (Some c) here = (elim ((viewer_of d c.viewer).main == n) as
       (λ b. ((viewer_of d c.viewer).main == n) ≡ b
-      → take c.position (text_of (step_in version d (Typed bytes)).0 n) ≡ take c.position (text_of d n)) [
+      → take c.position (text_of (step_in version d (Typed bytes)).desktop n) ≡ take c.position (text_of d n)) [
         | true ↦ λ there. of_caret version n c here (eqb-true (viewer_of d c.viewer).main n there)
         | false ↦ λ apart. ap (take c.position) (others_stay version d (Typed bytes) n sound (elsewhere n c here apart))
       ]) refl
 
 pub fronts_stay : (version : ℕ) (d : Desktop) (event : Event) (n : ℕ) → IsSound d
-    → take (stale_from d event) (text_of (step_in version d event).0 n) ≡ take (stale_from d event) (text_of d n)
+    → take (stale_from d event) (text_of (step_in version d event).desktop n) ≡ take (stale_from d event) (text_of d n)
 unfolding stale_from
 fronts_stay version d (Typed bytes) n sound = typed_front d sound bytes version n d.caret refl
 fronts_stay version d (Pressed key) n sound = refl

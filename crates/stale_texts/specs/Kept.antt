@@ -26,7 +26,6 @@ use Rattle.desktop_definitions.specs.declared.region.Region.{Region}
 use Rattle.desktop_definitions.specs.declared.region.Region.TheVariants.{Filler, Menu, Bar, Body}
 use Rattle.desktop_definitions.specs.Limits.{no_caret, no_selection, outside, too_many_files, full}
 use Rattle.text_frames.specs.Cells.{position_at, row_of}
-use Rattle.desktop_definitions.specs.declared.reply.Reply.{Reply}
 use Rattle.desktop_definitions.specs.declared.reply.Reply.TheVariants.{Done, No}
 use Rattle.desktop_definitions.specs.Sound.{IsSound}
 use Rattle.desktop_definitions.specs.Tables.{Texts, numbered, has_room}
@@ -44,7 +43,7 @@ use Rattle.desktop_definitions.specs.Gesture.{done_in_filler, done_in_menu, done
 use Rattle.desktop_definitions.specs.Gesture.{is_on_display, region_at, pointed, resized, scrolled_to_row}
 use Rattle.desktop_definitions.specs.Gesture.{scrolled_to_share, copied_to, looks_taken, taken_out, sent_to_caret}
 use Rattle.desktop_definitions.specs.Gesture.{drawn_in, is_some_stretch}
-use Rattle.desktop_definitions.specs.Step.{filed, marked, fits, settled, raw, step_in}
+use Rattle.desktop_definitions.specs.Step.{filed, marked, fits, settled, raw, step_in, Outcome, outcome_of}
 use Rattle.desktop_laws.specs.ChangeLaws.{followed_shown, org_shown}
 use Rattle.desktop_laws.specs.PlaceLaws.{at_is}
 use Rattle.desktop_laws.specs.RowLaws.{shown_rest}
@@ -326,18 +325,19 @@ module _ (version n : ℕ) (d : Desktop) where
 
 -- a text stays that a row leaves, where no text was left over before
 settled_leaves : (n : ℕ) (d : Desktop) (r : Result Desktop ℕ) → AllShown d → LeavesIn n d r
-    → text_of (settled d r).0 n ≡ text_of d n
+    → text_of (settled d r).desktop n ≡ text_of d n
 unfolding settled
 settled_leaves n d (Err code) shown is = refl
 settled_leaves n d (Ok new) shown is = elim (fits (dropped new)) as
-    (λ b. text_of (let after : Desktop × Reply = if b then (dropped new, Done) else (d, No full) in after).0 n
+    (λ b. text_of
+        (let after : Outcome = if b then outcome_of (dropped new) Done else outcome_of d (No full) in after).desktop n
     ≡ text_of d n) [
       | true ↦ ap (λ (x : Desktop). text_of x n) (all_stay new (shown_rest d new is.numbers is.viewers shown)) ∙ is.text
       | false ↦ refl
     ]
 
 pub others_stay : (version : ℕ) (d : Desktop) (event : Event) (n : ℕ) → IsSound d
-    → is_stale (stale_of d event) n ≡ false → text_of (step_in version d event).0 n ≡ text_of d n
+    → is_stale (stale_of d event) n ≡ false → text_of (step_in version d event).desktop n ≡ text_of d n
 unfolding step_in
 others_stay version d event n sound apart =
     settled_leaves n d (raw version d event) sound.shown (raw_leaves version n d event apart)

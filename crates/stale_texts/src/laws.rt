@@ -12,13 +12,13 @@ ghost use Rattle.stale_texts.specs.Stale.{is_stale, stale_of, stale_from};
 /// commands of whatever version it is stepped.
 pub fn other_texts_stay()
     ensures { (version : ℕ) (d : Desktop) (event : Event) (n : ℕ) → IsSound d → is_stale (stale_of d event) n ≡ false
-        → text_of (step_in version d event).0 n ≡ text_of d n }
+        → text_of (step_in version d event).desktop n ≡ text_of d n }
 {}
 
 /// An event leaves of each text the characters before the position from which on it may change texts.
 pub fn texts_keep_their_front()
     ensures { (version : ℕ) (d : Desktop) (event : Event) (n : ℕ) → IsSound d
-        → take (stale_from d event) (text_of (step_in version d event).0 n)
+        → take (stale_from d event) (text_of (step_in version d event).desktop n)
         ≡ take (stale_from d event) (text_of d n) }
 {}
 

@@ -3,7 +3,8 @@ use Rattle.std.proofs.Common.{◌≡◌, ◌≢◌, inl, inr, ℕ, ◌+◌, ◌*
 use Rattle.std.proofs.Common.{refl, sym, ◌∙◌, ap, subst, arith}
 use Rattle.std.proofs.lemmas.Bool.{cases_lt, cases_eq}
 use Rattle.sector_disk.specs.Trail.{Content}
-use Rattle.sector_disk.specs.Stored.{stored, stored_same}
+use Rattle.sector_disk.specs.Stored.{stored}
+use Rattle.sector_disk.specs.StoredLaws.{stored_same}
 use Rattle.event_bytes.specs.declared.event.Event.{Event}
 use Rattle.event_bytes.specs.Spelling.{Begins}
 use Rattle.desktop_definitions.specs.Desktop.{Desktop}

@@ -10,7 +10,7 @@ use Rattle.sector_disk.proofs.Touching.{weakened, chained, at_last, read_is_an_i
 use Rattle.event_bytes.specs.declared.event.Event.{Event}
 use Rattle.desktop_definitions.specs.declared.reply.Reply.{Reply}
 use Rattle.desktop_definitions.specs.Desktop.{Desktop}
-use Rattle.desktop_definitions.specs.Step.{step, steps}
+use Rattle.desktop_definitions.specs.Step.{step, steps, Outcome}
 use Rattle.store_layout.specs.declared.layout.TheConstants.{LAYOUT}
 use Rattle.store_layout.specs.Bits.{clash}
 use Rattle.store_layout.specs.Finding.{FindingLaw, FindsOneThing}
@@ -25,7 +25,8 @@ use Rattle.desk_journal.specs.Session.{session_of}
 use Rattle.desk_journal.proofs.Due.{due_or_room, has_it, has_none}
 use Rattle.desk_journal.proofs.Passing.{shows_means}
 use Rattle.desk_journal.proofs.Prefixes.{steps_both}
-use Rattle.store_runs.specs.Run.{StoreAnswer, Serves, StopsAReopening, MeansSome, events_in, counted, all_counted}
+use Rattle.store_runs.specs.Run.{Counts, StoreAnswer, Serves, StopsAReopening, MeansSome, events_in}
+use Rattle.store_runs.specs.Run.{all_counted, counted, counts_of}
 use Rattle.desk_journal.specs.View.{StoreView, IsDurable}
 
 -- the same device, call after call
@@ -44,23 +45,27 @@ pub record GoesOn {D : Type 0} (d : Ghosts D) (call : StoreCall) (old new : Stor
   pub usable : new.must_reopen ≡ false
   pub durable : IsDurable d new
   pub desktop : d.honest old.disk → new.desktop ≡ steps old.desktop (events_in (call ∷ []))
-  pub counts : (new.layout, new.epoch, new.events) ≡ counted call (old.layout, old.epoch, old.events)
+  pub counts : counts_of new ≡ counted call (counts_of old)
 
 -- an event more, where the journal has room, or as the first one after a checkpoint
 counts_posted : {D : Type 0} (d : Ghosts D) (event : Event) (reply : Reply) (old new : StoreView D)
-    → IsAcknowledged d event reply old new → (new.layout, new.epoch, new.events)
-    ≡ counted (Posting event) (old.layout, old.epoch, old.events)
+    → IsAcknowledged d event reply old new → counts_of new ≡ counted (Posting event) (counts_of old)
 counts_posted d event reply old new told = elim (due_or_room (session_of old)) [
   | inr room ↦
       let there = told.more room in
-      (λ i. ((told.layout ∙ sym room.1) i, there.0 i, there.1 i)) ∙ sym (ap next (has_it (session_of old) room))
+      (λ i. record { layout = (told.layout ∙ sym room.1) i; epoch = there.0 i; events = there.1 i })
+      ∙ sym (ap next (has_it (session_of old) room))
   | inl due ↦
       let there = told.anew due in
-      (λ i. (told.layout i, there.0 i, there.1 i)) ∙ sym (ap next (has_none (session_of old) due))
+      (λ i. record { layout = told.layout i; epoch = there.0 i; events = there.1 i })
+      ∙ sym (ap next (has_none (session_of old) due))
 ]
   where
-    next : Bool → ℕ × ℕ × ℕ
-    next b = if b then (old.layout, old.epoch, old.events + 1) else (LAYOUT, old.epoch + 1, 1)
+    next : Bool → Counts
+    next b =
+        if b
+        then record { layout = old.layout; epoch = old.epoch; events = old.events + 1 }
+        else record { layout = LAYOUT; epoch = old.epoch + 1; events = 1 }
 
 pub went_on : {D : Type 0} (d : Ghosts D) (call : StoreCall) (reply : Reply) (old new : StoreView D)
     → Serves d call (Ok reply) old new → GoesOn d call old new
@@ -69,7 +74,7 @@ went_on d (Posting event) reply old new p = record {
   calm = p.behaves.faults.calm (λ wrong. absurd cc);
   usable = p.ok.usable;
   durable = p.ok.durable;
-  desktop = λ h. ap (λ x. x.0) (p.ok.stepped h);
+  desktop = λ h. ap (λ (o : Outcome). o.desktop) (p.ok.stepped h);
   counts = counts_posted d event reply old new p.ok;
 }
 went_on d Checkpoint reply old new p = record {
@@ -78,7 +83,7 @@ went_on d Checkpoint reply old new p = record {
   usable = p.0.ok.usable;
   durable = p.0.ok.durable;
   desktop = p.0.ok.desktop;
-  counts = λ i. (p.0.ok.layout i, p.0.ok.epoch i, p.0.ok.events i);
+  counts = λ i. record { layout = p.0.ok.layout i; epoch = p.0.ok.epoch i; events = p.0.ok.events i };
 }
 
 -- ---- calls one after another
@@ -88,7 +93,7 @@ events_append [] b = refl
 events_append (Posting event ∷ a) b = ap (λ es. event ∷ es) (events_append a b)
 events_append (Checkpoint ∷ a) b = events_append a b
 
-counted_append : (a : List StoreCall) (call : StoreCall) (n : ℕ × ℕ × ℕ)
+counted_append : (a : List StoreCall) (call : StoreCall) (n : Counts)
     → all_counted (a ++ call ∷ []) n ≡ counted call (all_counted a n)
 counted_append [] call n = refl
 counted_append (other ∷ a) call n = counted_append a call (counted other n)
@@ -99,7 +104,7 @@ module _ (calls : List StoreCall) (k : ℕ) (call : StoreCall) (room : k < lengt
   calls_next : take (k + 1) calls ≡ take k calls ++ call ∷ []
   calls_next = take_more calls k call room ∙ ap (λ c. take k calls ++ c ∷ []) (sym here)
 
-  pub counts_next : (n m m' : ℕ × ℕ × ℕ) → m ≡ all_counted (take k calls) n → m' ≡ counted call m
+  pub counts_next : (n m m' : Counts) → m ≡ all_counted (take k calls) n → m' ≡ counted call m
       → m' ≡ all_counted (take (k + 1) calls) n
   counts_next n m m' was is = is ∙ ap (counted call) was ∙ sym (counted_append (take k calls) call n)
       ∙ sym (ap (λ cs. all_counted cs n) calls_next)
@@ -142,8 +147,8 @@ module _ (size : ℕ) (first : Desktop) (calls : List StoreCall) where
         | inl means ↦ after_some k c
             (subst (λ d'. Means size d' c) is (subst (λ n. Means n old.desktop c) as_large means))
         | inr means ↦ after_some (k + 1) c (subst (λ d'. Means size d' c)
-            (desktop_next calls k (Posting event) room here first old.desktop (step old.desktop event).0 is refl)
-            (subst (λ n. Means n (step old.desktop event).0 c) as_large means))
+            (desktop_next calls k (Posting event) room here first old.desktop (step old.desktop event).desktop is refl)
+            (subst (λ n. Means n (step old.desktop event).desktop c) as_large means))
       ]))
   call_more d k Checkpoint answer start old new room here usable honest as_large is before p =
       chained before (weakened (p.0.any_moment usable honest) (λ c means. after_some k c

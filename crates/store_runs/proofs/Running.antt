@@ -11,7 +11,7 @@ use Rattle.sector_disk.specs.Trail.{Content, Trail, now, IsCrashImage, Leaves, L
 use Rattle.event_bytes.specs.declared.event.Event.{Event}
 use Rattle.desktop_definitions.specs.declared.reply.Reply.{Reply}
 use Rattle.desktop_definitions.specs.Desktop.{Desktop}
-use Rattle.desktop_definitions.specs.Step.{step, steps}
+use Rattle.desktop_definitions.specs.Step.{step, steps, outcome_of, Outcome}
 use Rattle.store_layout.specs.Bits.{true_or_false, clash}
 use Rattle.store_layout.specs.Meaning.{Means, MeansEither}
 use Rattle.desk_journal.specs.Errors.{Error}
@@ -73,8 +73,8 @@ begins_running size disk desktop shown = record {
 -- what a post's contract says, of a store before and after
 pub record Posted (size : ℕ) (event : Event) (answer : StoreAnswer) (old new : Trail) (desktop desktop' : Desktop)
     (broken broken' : Bool) : Type 0 where
-  pub any_moment : broken ≡ false → LeavesOnly old new (MeansEither size desktop (step desktop event).0)
-  pub stepped : IfOk answer (λ reply. (desktop', reply) ≡ step desktop event)
+  pub any_moment : broken ≡ false → LeavesOnly old new (MeansEither size desktop (step desktop event).desktop)
+  pub stepped : IfOk answer (λ reply. outcome_of desktop' reply ≡ step desktop event)
   pub acknowledged : OnOk answer (Leaves (now new) (Means size desktop'))
   pub memory : IsErrOf answer NoMemory → broken ≡ false → LeavesOnly old new (Means size desktop)
   pub broken_by_memory : IsErrOf answer NoMemory → broken' ≡ true
@@ -131,7 +131,7 @@ module _ (size : ℕ) (first : Desktop) (old new : Trail) (from : ℕ) (desktop 
 
   -- where an accepted event leads
   led_on : (answer : StoreAnswer) → accepted (answered answer ∷ []) ≡ answered answer ∷ []
-      → (step (led_to first posts) event).0 ≡ led_to first (grown answer)
+      → (step (led_to first posts) event).desktop ≡ led_to first (grown answer)
   led_on answer taken = sym (
       ap (λ ps. steps first (events_of ps)) (accepted-grown answer ∙ ap (λ ps. accepted posts ++ ps) taken)
       ∙ ap (steps first) (map-append (λ (p : Post). p.event) (accepted posts) (answered answer ∷ []))
@@ -144,7 +144,7 @@ module _ (size : ℕ) (first : Desktop) (old new : Trail) (from : ℕ) (desktop 
 
   with_event : (answer : StoreAnswer) (so_far : List Post) (c : Content)
       → length (accepted so_far) ≤ length (accepted (grown answer)) → accepted (answered answer ∷ [])
-      ≡ answered answer ∷ [] → Means size (step (led_to first posts) event).0 c
+      ≡ answered answer ∷ [] → Means size (step (led_to first posts) event).desktop c
       → MeansPrefix size first so_far (grown answer) c
   with_event answer so_far c more taken means = whole size first so_far (grown answer) c more
       (subst (λ d. Means size d c) (led_on answer taken) means)
@@ -154,12 +154,12 @@ module _ (size : ℕ) (first : Desktop) (old new : Trail) (from : ℕ) (desktop 
 
   -- a post that was begun: each image means the desktop from before it or the one after the event
   module _ (answer : StoreAnswer) (usable : broken ≡ false) (taken : accepted (answered answer ∷ [])
-      ≡ answered answer ∷ []) (run : LeavesOnly old new (MeansEither size desktop (step desktop event).0)) where
+      ≡ answered answer ∷ []) (run : LeavesOnly old new (MeansEither size desktop (step desktop event).desktop)) where
     before : (c : Content) → Means size desktop c → Means size (led_to first posts) c
     before c = subst (λ d. Means size d c) (was.is usable)
 
-    after : (c : Content) → Means size (step desktop event).0 c → Means size (step (led_to first posts) event).0 c
-    after c = subst (λ d. Means size (step d event).0 c) (was.is usable)
+    after : (c : Content) → Means size (step desktop event).desktop c → Means size (step (led_to first posts) event).desktop c
+    after c = subst (λ d. Means size (step d event).desktop c) (was.is usable)
 
     begun : Leaves (now new) (MeansPrefix size first (grown answer) (grown answer))
         → Survives size first new from new.clock (grown answer)
@@ -173,8 +173,8 @@ module _ (size : ℕ) (first : Desktop) (old new : Trail) (from : ℕ) (desktop 
   done reply post = elim (true_or_false broken) [
     | inl must ↦ absurd (let never : IsErrOf (Ok reply) MustReopen = post.must_reopen must in cc)
     | inr usable ↦
-        let stepped : desktop' ≡ (step desktop event).0 = ap (λ x. x.0) post.stepped in
-        let is : desktop' ≡ led_to first (grown (Ok reply)) = stepped ∙ ap (λ d. (step d event).0) (was.is usable)
+        let stepped : desktop' ≡ (step desktop event).desktop = ap (λ (o : Outcome). o.desktop) post.stepped in
+        let is : desktop' ≡ led_to first (grown (Ok reply)) = stepped ∙ ap (λ d. (step d event).desktop) (was.is usable)
         ∙ led_on (Ok reply) refl in
         let last : Leaves (now new) (MeansPrefix size first (grown (Ok reply)) (grown (Ok reply))) =
         λ c image. whole size first (grown (Ok reply)) (grown (Ok reply)) c (omega arith)

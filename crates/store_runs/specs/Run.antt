@@ -143,13 +143,24 @@ events_in [] = []
 events_in (Posting event ∷ calls) = event ∷ events_in calls
 events_in (Checkpoint ∷ calls) = events_in calls
 
--- a version, an epoch and a number of events, after a call
-abbrev pub counted : StoreCall → ℕ × ℕ × ℕ → ℕ × ℕ × ℕ
-counted (Posting event) n =
-    if nat_lt n.2 JOURNAL_EVENTS && n.0 == LAYOUT then (n.0, n.1, n.2 + 1) else (LAYOUT, n.1 + 1, 1)
-counted Checkpoint n = (LAYOUT, n.1 + 1, 0)
+-- the version of a store's layout, its epoch, and how many events are in its journal
+pub record Counts : Type 0 where
+  pub layout : ℕ
+  pub epoch : ℕ
+  pub events : ℕ
 
-abbrev pub all_counted : List StoreCall → ℕ × ℕ × ℕ → ℕ × ℕ × ℕ
+abbrev pub counts_of : {D : Type 0} → StoreView D → Counts
+counts_of store = record { layout = store.layout; epoch = store.epoch; events = store.events }
+
+-- these numbers after a call
+abbrev pub counted : StoreCall → Counts → Counts
+counted (Posting event) n =
+    if nat_lt n.events JOURNAL_EVENTS && n.layout == LAYOUT
+    then record { layout = n.layout; epoch = n.epoch; events = n.events + 1 }
+    else record { layout = LAYOUT; epoch = n.epoch + 1; events = 1 }
+counted Checkpoint n = record { layout = LAYOUT; epoch = n.epoch + 1; events = 0 }
+
+abbrev pub all_counted : List StoreCall → Counts → Counts
 all_counted [] n = n
 all_counted (call ∷ calls) n = all_counted calls (counted call n)
 
@@ -167,9 +178,7 @@ StopsAReopening = OneOf (NoMemory ∷ Fault ∷ Worn ∷ [])
 pub record IsReopened {D : Type 0} (d : Ghosts D) (calls : List StoreCall) (closed reopened : StoreView D) : Type 0
   where
     pub desktop : d.honest closed.disk → reopened.desktop ≡ steps closed.desktop (events_in calls)
-    pub counts : d.honest closed.disk
-        → (reopened.layout, reopened.epoch, reopened.events)
-        ≡ all_counted calls (closed.layout, closed.epoch, closed.events)
+    pub counts : d.honest closed.disk → counts_of reopened ≡ all_counted calls (counts_of closed)
     pub durable : IsDurable d reopened
     -- nothing is pending: what it shows is on the medium
     pub settled : d.honest closed.disk → (n : ℕ) → (now (d.trail reopened.disk)).pending n ≡ false

@@ -14,13 +14,13 @@ use Rattle.output_bytes.proofs.Taking.{front_part}
 use Rattle.viewer_tracks.specs.declared.display.TheConstants.{COLUMNS}
 use Rattle.screen_pictures.specs.Screen.{values}
 use Rattle.terminal_painting.specs.declared.face.Face.{Face}
-use Rattle.terminal_painting.specs.declared.frame.Frame.{Frame}
+use Rattle.terminal_painting.specs.declared.scene.Scene.{Scene}
 use Rattle.terminal_painting.specs.declared.operation.Operation.{Operation}
 use Rattle.terminal_painting.specs.declared.operation.Operation.TheVariants.{Hide, Hold, Take, Wipe}
 use Rattle.terminal_painting.specs.declared.pen.Pen.{Pen}
 use Rattle.terminal_painting.specs.declared.pen.TheConstants.{WHITE}
 use Rattle.terminal_painting.specs.Changes.{changes}
-use Rattle.terminal_painting.specs.Frame.{IsCaret, frame_row, frame_rows, height_of}
+use Rattle.terminal_painting.specs.Scene.{IsCaret, scene_row, scene_rows, height_of}
 use Rattle.terminal_painting.specs.Grid.{Grid, done}
 use Rattle.terminal_painting.specs.Painting.{HasRoom, IsPainted, IsShown, Leads, Paints, PaintsFront}
 use Rattle.terminal_painting.specs.Painting.{beginning, begun_rows, ending, painting, rows_changes}
@@ -273,40 +273,40 @@ row_led old mid new P rows y news olds row old_row sent few within row_is old_is
     (IsBetween rows (y + 1) news olds) before this)
 
 -- the end of a painting
-pub ended : (frame : Frame) (caret : Option (ℕ × ℕ)) (g : Grid) → frame.rows ≤ height_of frame → IsCaret frame caret
-    → IsShown (height_of frame) (frame_rows frame) g → IsPainted frame (done (ending caret) g)
-ended frame None g higher stands s = record {
-  room = room_after (height_of frame) (ending None) g s.room;
+pub ended : (scene : Scene) (caret : Option (ℕ × ℕ)) (g : Grid) → scene.rows ≤ height_of scene → IsCaret scene caret
+    → IsShown (height_of scene) (scene_rows scene) g → IsPainted scene (done (ending caret) g)
+ended scene None g higher stands s = record {
+  room = room_after (height_of scene) (ending None) g s.room;
   shows = record {
-    rows = shows_moved (frame_rows frame) g (done (ending None) g) (λ x y. refl) s.shows;
+    rows = shows_moved (scene_rows scene) g (done (ending None) g) (λ x y. refl) s.shows;
     caret = None;
     stands = stands;
     cursor = refl;
   };
 }
-ended frame (Some place) g higher stands s =
+ended scene (Some place) g higher stands s =
     let wide : place.0 + 1 ≤ g.width = omega (arith, s.room.wide, stands.0) in
     let high : place.1 + 1 ≤ g.height = omega (arith, s.room.high, stands.1, higher) in
     record {
-      room = room_after (height_of frame) (ending (Some place)) g s.room;
+      room = room_after (height_of scene) (ending (Some place)) g s.room;
       shows = record {
-        rows = shows_moved (frame_rows frame) g (done (ending (Some place)) g) (λ x y. refl) s.shows;
+        rows = shows_moved (scene_rows scene) g (done (ending (Some place)) g) (λ x y. refl) s.shows;
         caret = Some place;
         stands = stands;
         cursor = (refl, least (place.0 + 1) g.width wide, least (place.1 + 1) g.height high);
       };
     }
 
-ending_leads : (old new : Option (List ℕ)) (frame : Frame) (caret : Option (ℕ × ℕ)) → frame.rows ≤ height_of frame
-    → frame.rows ≤ 32 → IsCaret frame caret → Appends old new (spelled_all (ending caret))
-    → Leads (ending caret) old new (IsShown (height_of frame) (frame_rows frame)) (IsPainted frame)
-ending_leads old new frame caret higher few stands sent = record {
+ending_leads : (old new : Option (List ℕ)) (scene : Scene) (caret : Option (ℕ × ℕ)) → scene.rows ≤ height_of scene
+    → scene.rows ≤ 32 → IsCaret scene caret → Appends old new (spelled_all (ending caret))
+    → Leads (ending caret) old new (IsShown (height_of scene) (scene_rows scene)) (IsPainted scene)
+ending_leads old new scene caret higher few stands sent = record {
   sendable = sendable caret stands;
   sent = sent;
-  led = λ g shown. ended frame caret g higher stands shown;
+  led = λ g shown. ended scene caret g higher stands shown;
 }
   where
-    sendable : (place : Option (ℕ × ℕ)) → IsCaret frame place → AreSendable (ending place)
+    sendable : (place : Option (ℕ × ℕ)) → IsCaret scene place → AreSendable (ending place)
     sendable None is = (tt, (tt, tt))
     sendable (Some place) is = ((omega (arith, is.0), omega (arith, is.1, few)), (tt, (tt, tt)))
 
@@ -356,26 +356,26 @@ row_front old mid new rows y news olds row old_row sent within row_is old_is is 
     before (subst (λ l. AppendsFront mid new (spelled_all l)) same now)
 
 -- a painting in parts
-module _ (old : Option (List ℕ)) (height : ℕ) (frame : Frame) (known all : List (List Face)) (caret : Option (ℕ × ℕ))
-    (high : height ≡ height_of frame) (is : known ≡ all) (stands : IsCaret frame caret) where
+module _ (old : Option (List ℕ)) (height : ℕ) (scene : Scene) (known all : List (List Face)) (caret : Option (ℕ × ℕ))
+    (high : height ≡ height_of scene) (is : known ≡ all) (stands : IsCaret scene caret) where
   abbrev rows : ℕ
-  rows = height_of frame
+  rows = height_of scene
 
   abbrev start : List Operation
   start = beginning (length all == rows)
 
   abbrev middle : List Operation
-  middle = rows_changes rows (λ k. get_or (begun_rows all rows) k []) (frame_row frame)
+  middle = rows_changes rows (λ k. get_or (begun_rows all rows) k []) (scene_row scene)
 
   started : beginning (length known == height) ≡ start
   started = λ i. beginning (length (is i) == high i)
 
   pub begin_front : (new : Option (List ℕ)) → AppendsFront old new (spelled_all (beginning (length known == height)))
-      → PaintsFront old new all frame
+      → PaintsFront old new all scene
   begin_front new now = record {
     caret = caret;
     stands = stands;
-    taken = front_of [] start (middle ++ ending caret) (painting all frame caret) old old new refl (Appends-nil old)
+    taken = front_of [] start (middle ++ ending caret) (painting all scene caret) old old new refl (Appends-nil old)
         (subst (λ l. AppendsFront old new (spelled_all l)) started now);
   }
 
@@ -394,50 +394,50 @@ module _ (old : Option (List ℕ)) (height : ℕ) (frame : Frame) (known all : L
         (IsShown n (begun_rows known n))) high begins)
 
     pub rows_front : (new : Option (List ℕ)) → AppendsFront first new
-        (spelled_all (rows_changes (height_of frame) (λ k. get_or slice k []) (frame_row frame)))
-        → PaintsFront old new all frame
+        (spelled_all (rows_changes (height_of scene) (λ k. get_or slice k []) (scene_row scene)))
+        → PaintsFront old new all scene
     rows_front new now = record {
       caret = caret;
       stands = stands;
-      taken = front_of start middle (ending caret) (painting all frame caret) old first new refl began.sent
-          (subst (λ l. AppendsFront first new (spelled_all (rows_changes rows (λ k. get_or l k []) (frame_row frame))))
+      taken = front_of start middle (ending caret) (painting all scene caret) old first new refl began.sent
+          (subst (λ l. AppendsFront first new (spelled_all (rows_changes rows (λ k. get_or l k []) (scene_row scene))))
           there now);
     }
 
     module _ (second : Option (List ℕ))
-        (goes : Leads (rows_changes (height_of frame) (λ k. get_or slice k []) (frame_row frame)) first second
-        (IsShown (height_of frame) slice) (IsShown (height_of frame) (frame_rows frame))) where
-      went : Leads middle first second (IsShown rows (begun_rows all rows)) (IsShown rows (frame_rows frame))
-      went = subst (λ l. Leads (rows_changes rows (λ k. get_or l k []) (frame_row frame)) first second (IsShown rows l)
-          (IsShown rows (frame_rows frame))) there goes
+        (goes : Leads (rows_changes (height_of scene) (λ k. get_or slice k []) (scene_row scene)) first second
+        (IsShown (height_of scene) slice) (IsShown (height_of scene) (scene_rows scene))) where
+      went : Leads middle first second (IsShown rows (begun_rows all rows)) (IsShown rows (scene_rows scene))
+      went = subst (λ l. Leads (rows_changes rows (λ k. get_or l k []) (scene_row scene)) first second (IsShown rows l)
+          (IsShown rows (scene_rows scene))) there goes
 
-      both : Leads (start ++ middle) old second (IsShown rows all) (IsShown rows (frame_rows frame))
+      both : Leads (start ++ middle) old second (IsShown rows all) (IsShown rows (scene_rows scene))
       both = leads_on start middle old first second (IsShown rows all) (IsShown rows (begun_rows all rows))
-          (IsShown rows (frame_rows frame)) began went
+          (IsShown rows (scene_rows scene)) began went
 
       pub end_front : (new : Option (List ℕ)) → AppendsFront second new (spelled_all (ending caret))
-          → PaintsFront old new all frame
+          → PaintsFront old new all scene
       end_front new now = record {
         caret = caret;
         stands = stands;
-        taken = front_of (start ++ middle) (ending caret) [] (painting all frame caret) old second new
+        taken = front_of (start ++ middle) (ending caret) [] (painting all scene caret) old second new
             (sym (append_assoc start middle (ending caret))
             ∙ ap (λ l. (start ++ middle) ++ l) (sym (append-nil (ending caret))))
             both.sent now;
       }
 
-      pub painted : (new : Option (List ℕ)) → frame.rows ≤ 32 → Appends second new (spelled_all (ending caret))
-          → Paints old new all frame
+      pub painted : (new : Option (List ℕ)) → scene.rows ≤ 32 → Appends second new (spelled_all (ending caret))
+          → Paints old new all scene
       painted new few sent =
-          let higher : frame.rows ≤ height_of frame = omega arith in
+          let higher : scene.rows ≤ height_of scene = omega arith in
           record {
             caret = caret;
             stands = stands;
             leads = leads_on start (middle ++ ending caret) old first new (IsShown rows all)
-                (IsShown rows (begun_rows all rows)) (IsPainted frame) began
+                (IsShown rows (begun_rows all rows)) (IsPainted scene) began
                 (leads_on middle (ending caret) first second new (IsShown rows (begun_rows all rows))
-                (IsShown rows (frame_rows frame)) (IsPainted frame) went
-                (ending_leads second new frame caret higher few stands sent));
+                (IsShown rows (scene_rows scene)) (IsPainted scene) went
+                (ending_leads second new scene caret higher few stands sent));
           }
 
 -- rows below those that are painted stay
@@ -463,20 +463,20 @@ same_ending : (caret : Option (ℕ × ℕ)) (g : Grid) (x y : ℕ) → (done (en
 same_ending None g x y = refl
 same_ending (Some place) g x y = refl
 
-pub rest_kept : (known : List (List Face)) (frame : Frame) (caret : Option (ℕ × ℕ)) (g : Grid) (x y : ℕ)
-    → HasRoom (height_of frame) g → length known ≡ height_of frame → height_of frame < y
-    → (done (painting known frame caret) g).cells x y ≡ g.cells x y
-rest_kept known frame caret g x y room long below =
-    let rows : ℕ = height_of frame in
+pub rest_kept : (known : List (List Face)) (scene : Scene) (caret : Option (ℕ × ℕ)) (g : Grid) (x y : ℕ)
+    → HasRoom (height_of scene) g → length known ≡ height_of scene → height_of scene < y
+    → (done (painting known scene caret) g).cells x y ≡ g.cells x y
+rest_kept known scene caret g x y room long below =
+    let rows : ℕ = height_of scene in
     let start : List Operation = beginning (length known == rows) in
     let middle : List Operation =
-    rows_changes rows (λ k. get_or (begun_rows known rows) k []) (frame_row frame) in
+    rows_changes rows (λ k. get_or (begun_rows known rows) k []) (scene_row scene) in
     let begun_grid : Grid = done start g in
     let same_w : begun_grid.width ≡ g.width = same_width start g in
     let same_h : begun_grid.height ≡ g.height = same_height start g in
     ap (λ (k : Grid). k.cells x y) (done_both start (middle ++ ending caret) g
     ∙ done_both middle (ending caret) begun_grid)
     ∙ same_ending caret (done middle begun_grid) x y
-    ∙ rows_kept rows (λ k. get_or (begun_rows known rows) k []) (frame_row frame) begun_grid x y below
-    (omega (arith, room.high)) (λ k h. omega (arith, room.wide, row_long frame k))
+    ∙ rows_kept rows (λ k. get_or (begun_rows known rows) k []) (scene_row scene) begun_grid x y below
+    (omega (arith, room.high)) (λ k h. omega (arith, room.wide, row_long scene k))
     ∙ ap (λ b. (done (beginning b) g).cells x y) (known_test rows known long)

@@ -7,10 +7,10 @@ use Rattle.std.proofs.lemmas.List.FromFn.{get_or-map-range_with_len, length-map-
 use Rattle.viewer_tracks.specs.declared.display.TheConstants.{COLUMNS}
 use Rattle.screen_pictures.specs.Screen.{column_at, values}
 use Rattle.terminal_painting.specs.declared.face.Face.{Face}
-use Rattle.terminal_painting.specs.declared.frame.Frame.{Frame}
+use Rattle.terminal_painting.specs.declared.scene.Scene.{Scene}
 use Rattle.terminal_painting.specs.declared.pen.TheConstants.{WHITE}
-use Rattle.terminal_painting.specs.Frame.{frame_row, frame_rows, height_of, letter_face, row_of_cells, row_of_text}
-use Rattle.terminal_painting.specs.Frame.{seen_row, text_of}
+use Rattle.terminal_painting.specs.Scene.{scene_row, scene_rows, height_of, letter_face, row_of_cells, row_of_text}
+use Rattle.terminal_painting.specs.Scene.{seen_row, text_of}
 use Rattle.terminal_painting.specs.Grid.{Grid}
 use Rattle.terminal_painting.specs.Pen.{blank, face_of}
 use Rattle.terminal_painting.specs.Shows.{Shows, ShowsFrom}
@@ -41,13 +41,13 @@ read_value row x f g s h =
     let inside : x < length (values COLUMNS f) = omega (arith, h, long COLUMNS f) in
     read row 1 x (x + 1) (values COLUMNS f) g (blank WHITE) s inside (omega arith) ∙ at COLUMNS f x (blank WHITE) h
 
-frame_row_shown : (frame : Frame) (g : Grid) (y : ℕ) → Shows (frame_rows frame) g → y < height_of frame
-    → ShowsFrom (y + 1) 1 (frame_row frame y) g
-unfolding frame_rows
-frame_row_shown frame g y s h =
-    let inside : y < length (values (height_of frame) (frame_row frame)) =
-    omega (arith, h, long (height_of frame) (frame_row frame)) in
-    subst (λ l. ShowsFrom (y + 1) 1 l g) (at (height_of frame) (frame_row frame) y [] h) (s y inside)
+scene_row_shown : (scene : Scene) (g : Grid) (y : ℕ) → Shows (scene_rows scene) g → y < height_of scene
+    → ShowsFrom (y + 1) 1 (scene_row scene y) g
+unfolding scene_rows
+scene_row_shown scene g y s h =
+    let inside : y < length (values (height_of scene) (scene_row scene)) =
+    omega (arith, h, long (height_of scene) (scene_row scene)) in
+    subst (λ l. ShowsFrom (y + 1) 1 l g) (at (height_of scene) (scene_row scene) y [] h) (s y inside)
 
 above : (y n : ℕ) → y < n → nat_lt y n ≡ true
 above y n h = grind (arith, nat_tests)
@@ -55,26 +55,26 @@ above y n h = grind (arith, nat_tests)
 not_above : (y n : ℕ) → n ≤ y → nat_lt y n ≡ false
 not_above y n h = grind (arith, nat_tests)
 
-seen : (frame : Frame) (y : ℕ) → y < frame.rows → frame_row frame y ≡ row_of_cells (seen_row frame y)
-unfolding frame_row
-seen frame y h =
-    ap (λ b. cond b (row_of_cells (seen_row frame y)) (row_of_text (text_of frame.below))) (above y frame.rows h)
+seen : (scene : Scene) (y : ℕ) → y < scene.rows → scene_row scene y ≡ row_of_cells (seen_row scene y)
+unfolding scene_row
+seen scene y h =
+    ap (λ b. cond b (row_of_cells (seen_row scene y)) (row_of_text (text_of scene.below))) (above y scene.rows h)
 
-told_below : (frame : Frame) (y : ℕ) → frame.rows ≤ y → frame_row frame y ≡ row_of_text (text_of frame.below)
-unfolding frame_row
-told_below frame y h =
-    ap (λ b. cond b (row_of_cells (seen_row frame y)) (row_of_text (text_of frame.below))) (not_above y frame.rows h)
+told_below : (scene : Scene) (y : ℕ) → scene.rows ≤ y → scene_row scene y ≡ row_of_text (text_of scene.below)
+unfolding scene_row
+told_below scene y h =
+    ap (λ b. cond b (row_of_cells (seen_row scene y)) (row_of_text (text_of scene.below))) (not_above y scene.rows h)
 
-pub cell_shown : (frame : Frame) (g : Grid) (x y : ℕ) → Shows (frame_rows frame) g → x < COLUMNS → y < frame.rows
-    → g.cells (x + 1) (y + 1) ≡ face_of x (column_at (seen_row frame y) x)
-cell_shown frame g x y s inside within =
-    let up : y < height_of frame = omega arith in
-    read_value (y + 1) x (λ k. face_of k (column_at (seen_row frame y) k)) g
-    (subst (λ l. ShowsFrom (y + 1) 1 l g) (seen frame y within) (frame_row_shown frame g y s up)) inside
+pub cell_shown : (scene : Scene) (g : Grid) (x y : ℕ) → Shows (scene_rows scene) g → x < COLUMNS → y < scene.rows
+    → g.cells (x + 1) (y + 1) ≡ face_of x (column_at (seen_row scene y) x)
+cell_shown scene g x y s inside within =
+    let up : y < height_of scene = omega arith in
+    read_value (y + 1) x (λ k. face_of k (column_at (seen_row scene y) k)) g
+    (subst (λ l. ShowsFrom (y + 1) 1 l g) (seen scene y within) (scene_row_shown scene g y s up)) inside
 
-pub letter_shown : (frame : Frame) (g : Grid) (x : ℕ) → Shows (frame_rows frame) g → x < COLUMNS
-    → frame.rows < height_of frame → g.cells (x + 1) (frame.rows + 1) ≡ letter_face (text_of frame.below) x
-letter_shown frame g x s inside line =
-    read_value (frame.rows + 1) x (letter_face (text_of frame.below)) g
-    (subst (λ l. ShowsFrom (frame.rows + 1) 1 l g) (told_below frame frame.rows (omega arith))
-    (frame_row_shown frame g frame.rows s line)) inside
+pub letter_shown : (scene : Scene) (g : Grid) (x : ℕ) → Shows (scene_rows scene) g → x < COLUMNS
+    → scene.rows < height_of scene → g.cells (x + 1) (scene.rows + 1) ≡ letter_face (text_of scene.below) x
+letter_shown scene g x s inside line =
+    read_value (scene.rows + 1) x (letter_face (text_of scene.below)) g
+    (subst (λ l. ShowsFrom (scene.rows + 1) 1 l g) (told_below scene scene.rows (omega arith))
+    (scene_row_shown scene g scene.rows s line)) inside

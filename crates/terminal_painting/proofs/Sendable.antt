@@ -10,12 +10,12 @@ use Rattle.screen_pictures.specs.Screen.{column_at, values}
 use Rattle.terminal_painting.specs.declared.pen.Pen.{Pen}
 use Rattle.terminal_painting.specs.declared.pen.TheConstants.{WHITE}
 use Rattle.terminal_painting.specs.declared.face.Face.{Face}
-use Rattle.terminal_painting.specs.declared.frame.Frame.{Frame}
+use Rattle.terminal_painting.specs.declared.scene.Scene.{Scene}
 use Rattle.terminal_painting.specs.declared.operation.Operation.{Operation}
 use Rattle.terminal_painting.specs.declared.operation.Operation.TheVariants.{Go, Take, Put, Clear}
 use Rattle.terminal_painting.specs.declared.changes.Brush.{Brush}
 use Rattle.terminal_painting.specs.Changes.{brush_at, changes, is_blank, reach, strokes}
-use Rattle.terminal_painting.specs.Frame.{frame_row, letter_face, row_of_cells, row_of_text, seen_row, text_of}
+use Rattle.terminal_painting.specs.Scene.{scene_row, letter_face, row_of_cells, row_of_text, seen_row, text_of}
 use Rattle.terminal_painting.specs.Pen.{face_of, plain, same_face, same_pen, sent_byte}
 use Rattle.terminal_painting.specs.Spelling.{AreSendable}
 use Rattle.terminal_painting.proofs.Showing.{by_cases}
@@ -47,21 +47,21 @@ values_long : (f : ℕ → Face) (n : ℕ) → length (values n f) ≡ n
 unfolding values
 values_long f n = length-map-range_with_len f 0 n
 
-pub row_printable : (frame : Frame) (y : ℕ) → ArePrintable (frame_row frame y)
-unfolding frame_row
-row_printable frame y =
-    by_cases (λ b. ArePrintable (cond b (row_of_cells (seen_row frame y)) (row_of_text (text_of frame.below))))
-    (nat_lt y frame.rows)
-    (λ _. printable_values (λ x. face_of x (column_at (seen_row frame y) x)) COLUMNS (λ x. (at_least _, at_most _)))
-    (λ _. printable_values (letter_face (text_of frame.below)) COLUMNS (λ x. (at_least _, at_most _)))
+pub row_printable : (scene : Scene) (y : ℕ) → ArePrintable (scene_row scene y)
+unfolding scene_row
+row_printable scene y =
+    by_cases (λ b. ArePrintable (cond b (row_of_cells (seen_row scene y)) (row_of_text (text_of scene.below))))
+    (nat_lt y scene.rows)
+    (λ _. printable_values (λ x. face_of x (column_at (seen_row scene y) x)) COLUMNS (λ x. (at_least _, at_most _)))
+    (λ _. printable_values (letter_face (text_of scene.below)) COLUMNS (λ x. (at_least _, at_most _)))
 
-pub row_long : (frame : Frame) (y : ℕ) → length (frame_row frame y) ≡ COLUMNS
-unfolding frame_row
-row_long frame y =
-    by_cases (λ b. length (cond b (row_of_cells (seen_row frame y)) (row_of_text (text_of frame.below))) ≡ COLUMNS)
-    (nat_lt y frame.rows)
-    (λ _. values_long (λ x. face_of x (column_at (seen_row frame y) x)) COLUMNS)
-    (λ _. values_long (letter_face (text_of frame.below)) COLUMNS)
+pub row_long : (scene : Scene) (y : ℕ) → length (scene_row scene y) ≡ COLUMNS
+unfolding scene_row
+row_long scene y =
+    by_cases (λ b. length (cond b (row_of_cells (seen_row scene y)) (row_of_text (text_of scene.below))) ≡ COLUMNS)
+    (nat_lt y scene.rows)
+    (λ _. values_long (λ x. face_of x (column_at (seen_row scene y) x)) COLUMNS)
+    (λ _. values_long (letter_face (text_of scene.below)) COLUMNS)
 
 pub both_sendable : (a b : List Operation) → AreSendable a → AreSendable b → AreSendable (a ++ b)
 both_sendable [] b first second = second

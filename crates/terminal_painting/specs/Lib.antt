@@ -3,5 +3,5 @@ pub mod Grid
 pub mod Spelling
 pub mod Changes
 pub mod Shows
-pub mod Frame
+pub mod Scene
 pub mod Painting

@@ -7,12 +7,12 @@ use Rattle.output_bytes.specs.Sent.{AppendsFront}
 use Rattle.viewer_tracks.specs.declared.display.TheConstants.{COLUMNS}
 use Rattle.terminal_painting.specs.declared.pen.TheConstants.{WHITE}
 use Rattle.terminal_painting.specs.declared.face.Face.{Face}
-use Rattle.terminal_painting.specs.declared.frame.Frame.{Frame}
+use Rattle.terminal_painting.specs.declared.scene.Scene.{Scene}
 use Rattle.terminal_painting.specs.declared.operation.Operation.{Operation}
 use Rattle.terminal_painting.specs.declared.operation.Operation.TheVariants.{Hold, Release, Hide, Show, Go, Take}
 use Rattle.terminal_painting.specs.declared.operation.Operation.TheVariants.{Wipe}
 use Rattle.terminal_painting.specs.Changes.{changes}
-use Rattle.terminal_painting.specs.Frame.{IsCaret, frame_row, frame_rows, height_of}
+use Rattle.terminal_painting.specs.Scene.{IsCaret, scene_row, scene_rows, height_of}
 use Rattle.terminal_painting.specs.Grid.{Grid, done}
 use Rattle.terminal_painting.specs.Pen.{blank, plain}
 use Rattle.terminal_painting.specs.Shows.{Shows}
@@ -28,11 +28,11 @@ abbrev pub HasCursor : Option (ℕ × ℕ) → Grid → Type 0
 HasCursor None g = g.has_cursor ≡ false
 HasCursor (Some place) g = (g.has_cursor ≡ true) × (g.column ≡ place.0 + 1) × (g.row ≡ place.1 + 1)
 
--- a grid shows a frame: its rows, and by the cursor a caret in sight
-pub record ShowsFrame (frame : Frame) (g : Grid) : Type 0 where
-  pub rows : Shows (frame_rows frame) g
+-- a grid shows a scene: its rows, and by the cursor a caret in sight
+pub record ShowsScene (scene : Scene) (g : Grid) : Type 0 where
+  pub rows : Shows (scene_rows scene) g
   pub caret : Option (ℕ × ℕ)
-  pub stands : IsCaret frame caret
+  pub stands : IsCaret scene caret
   pub cursor : HasCursor caret g
 
 -- a writer took the bytes of these operations, by which a grid of which the one holds becomes one of which the other
@@ -47,10 +47,10 @@ pub record IsShown (rows : ℕ) (faces : List (List Face)) (g : Grid) : Type 0 w
   pub room : HasRoom rows g
   pub shows : Shows faces g
 
--- a grid with room for a frame that shows it
-pub record IsPainted (frame : Frame) (g : Grid) : Type 0 where
-  pub room : HasRoom (height_of frame) g
-  pub shows : ShowsFrame frame g
+-- a grid with room for a scene that shows it
+pub record IsPainted (scene : Scene) (g : Grid) : Type 0 where
+  pub room : HasRoom (height_of scene) g
+  pub shows : ShowsScene scene g
 
 -- how a painting begins, where the rows are known or else all cells are made blank, and how it ends
 abbrev pub beginning : Bool → List Operation
@@ -70,22 +70,22 @@ unfoldable pub rows_changes : ℕ → (ℕ → List Face) → (ℕ → List Face
 rows_changes zero olds news = []
 rows_changes (suc n) olds news = rows_changes n olds news ++ changes (n + 1) (olds n) (news n)
 
--- what has a terminal that shows the known rows show a frame, with the cursor at this caret
-abbrev pub painting : List (List Face) → Frame → Option (ℕ × ℕ) → List Operation
-painting known frame caret =
-    let rows = height_of frame in
+-- what has a terminal that shows the known rows show a scene, with the cursor at this caret
+abbrev pub painting : List (List Face) → Scene → Option (ℕ × ℕ) → List Operation
+painting known scene caret =
+    let rows = height_of scene in
     let olds = begun_rows known rows in
     beginning (length known == rows)
-    ++ (rows_changes rows (λ y. slice_index_or olds y []) (frame_row frame) ++ ending caret)
+    ++ (rows_changes rows (λ y. slice_index_or olds y []) (scene_row scene) ++ ending caret)
 
--- a writer took what makes every grid with room for a frame that shows the known rows show the frame
-pub record Paints (old new : Option (List ℕ)) (known : List (List Face)) (frame : Frame) : Type 0 where
+-- a writer took what makes every grid with room for a scene that shows the known rows show the scene
+pub record Paints (old new : Option (List ℕ)) (known : List (List Face)) (scene : Scene) : Type 0 where
   pub caret : Option (ℕ × ℕ)
-  pub stands : IsCaret frame caret
-  pub leads : Leads (painting known frame caret) old new (IsShown (height_of frame) known) (IsPainted frame)
+  pub stands : IsCaret scene caret
+  pub leads : Leads (painting known scene caret) old new (IsShown (height_of scene) known) (IsPainted scene)
 
 -- a writer took a front of that
-pub record PaintsFront (old new : Option (List ℕ)) (known : List (List Face)) (frame : Frame) : Type 0 where
+pub record PaintsFront (old new : Option (List ℕ)) (known : List (List Face)) (scene : Scene) : Type 0 where
   pub caret : Option (ℕ × ℕ)
-  pub stands : IsCaret frame caret
-  pub taken : AppendsFront old new (spelled_all (painting known frame caret))
+  pub stands : IsCaret scene caret
+  pub taken : AppendsFront old new (spelled_all (painting known scene caret))

@@ -1,13 +1,13 @@
 //! What holds of all operations and grids.
 ghost use Rattle.std.specs.Prelude.{◌≡◌, ◌++◌, ◌<◌, ◌≤◌, ◌+◌, ℕ, List, [], Option, Some, length};
 ghost use Rattle.terminal_painting.specs.declared.face.Face.{Face as AFace};
-ghost use Rattle.terminal_painting.specs.declared.frame.Frame.{Frame as AFrame};
+ghost use Rattle.terminal_painting.specs.declared.scene.Scene.{Scene as AScene};
 ghost use Rattle.terminal_painting.specs.declared.operation.Operation.{Operation as AnOperation};
 ghost use Rattle.screen_pictures.specs.Screen.{column_at};
 ghost use Rattle.viewer_tracks.specs.declared.display.TheConstants.{COLUMNS as columns};
 ghost use Rattle.terminal_painting.specs.Changes.{changes};
 ghost use Rattle.terminal_painting.specs.Grid.{Grid, done};
-ghost use Rattle.terminal_painting.specs.Frame.{frame_rows, height_of, letter_face, seen_row, text_of};
+ghost use Rattle.terminal_painting.specs.Scene.{scene_rows, height_of, letter_face, seen_row, text_of};
 ghost use Rattle.terminal_painting.specs.Painting.{HasRoom, painting};
 ghost use Rattle.terminal_painting.specs.Pen.{face_of};
 ghost use Rattle.terminal_painting.specs.Shows.{Shows, ShowsFrom};
@@ -37,19 +37,19 @@ pub fn same_rows_change_nothing()
     ensures { (row : ℕ) (faces : List AFace) → changes row faces faces ≡ [] }
 {}
 
-/// After a painting over known rows, what a grid shows below the frame is as before.
+/// After a painting over known rows, what a grid shows below the scene is as before.
 pub fn rest_is_kept()
-    ensures { (known : List (List AFace)) (frame : AFrame) (caret : Option (ℕ × ℕ)) (g : Grid) (x y : ℕ)
-        → HasRoom (height_of frame) g → length known ≡ height_of frame → height_of frame < y
-        → (done (painting known frame caret) g).cells x y ≡ g.cells x y }
+    ensures { (known : List (List AFace)) (scene : AScene) (caret : Option (ℕ × ℕ)) (g : Grid) (x y : ℕ)
+        → HasRoom (height_of scene) g → length known ≡ height_of scene → height_of scene < y
+        → (done (painting known scene caret) g).cells x y ≡ g.cells x y }
 {}
 
-/// A grid that shows the rows of a frame shows each cell in sight, and the text of the line below.
+/// A grid that shows the rows of a scene shows each cell in sight, and the text of the line below.
 pub fn cells_are_shown()
-    ensures cells { (frame : AFrame) (g : Grid) (x y : ℕ) → Shows (frame_rows frame) g → x < columns → y < frame.rows
-        → g.cells (x + 1) (y + 1) ≡ face_of x (column_at (seen_row frame y) x) }
-    ensures below { (frame : AFrame) (g : Grid) (x : ℕ) → Shows (frame_rows frame) g → x < columns
-        → frame.rows < height_of frame → g.cells (x + 1) (frame.rows + 1) ≡ letter_face (text_of frame.below) x }
+    ensures cells { (scene : AScene) (g : Grid) (x y : ℕ) → Shows (scene_rows scene) g → x < columns → y < scene.rows
+        → g.cells (x + 1) (y + 1) ≡ face_of x (column_at (seen_row scene y) x) }
+    ensures below { (scene : AScene) (g : Grid) (x : ℕ) → Shows (scene_rows scene) g → x < columns
+        → scene.rows < height_of scene → g.cells (x + 1) (scene.rows + 1) ≡ letter_face (text_of scene.below) x }
 {}
 
 /// Where no row is known, every grid shows the known rows.

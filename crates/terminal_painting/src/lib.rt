@@ -1,23 +1,22 @@
 //! What is sent to a terminal so that it shows a screen.
 //!
 //! A terminal is a grid of cells that does operations (`specs/Grid.antt`), and each operation has one spelling
-//! (`specs/Spelling.antt`). A `Frame` is what is to be shown: rows of a screen that are in sight, and a line of text
-//! below them. A `Painter` knows what the terminal shows and sends what changes it to the next frame
+//! (`specs/Spelling.antt`). A `Scene` is what is to be shown: rows of a screen that are in sight, and a line of text
+//! below them. A `Painter` knows what the terminal shows and sends what changes it to the next scene
 //! (`specs/Painting.antt`). Nothing here takes memory.
 #![tactic(auto)]
 
 mod changes;
 mod face;
-mod frame;
 mod laws;
 mod operation;
 mod painter;
 mod pen;
+mod scene;
 mod sending;
 
 pub use changes::{Changes, row_changes};
 pub use face::Face;
-pub use frame::{Frame, Row, row_of_cells};
 pub use laws::{
     cells_are_shown, nothing_is_shown, one_telling, rest_is_kept, rows_are_shown,
     same_rows_change_nothing, spelled_is_told,
@@ -26,3 +25,4 @@ pub use operation::Operation;
 pub use output_bytes::OutputFault;
 pub use painter::{Painter, ring};
 pub use pen::{BLACK, Pen, Rule, WHITE, Weight};
+pub use scene::{Row, Scene, row_of_cells};

@@ -1,10 +1,9 @@
-//! What is sent to a terminal so that it shows a frame.
+//! What is sent to a terminal so that it shows a scene.
 ghost use Rattle.std.specs.Prelude.{◌≡◌, ◌<◌, ◌≤◌, ◌==◌, [], length, replicate, slice_index_or};
 ghost use Rattle.std.specs.Prelude.{OnOk, OnErr, IfOk, IfSome};
-ghost use Rattle.std.specs.Io.KnownBytes.{Appends};
-ghost use Rattle.output_bytes.specs.Sent.{AppendsFront};
+ghost use Rattle.output_bytes.specs.Sent.{AppendsFront, Sends};
 ghost use Rattle.viewer_tracks.specs.declared.display.TheConstants.{COLUMNS as columns, ROWS as rows};
-ghost use Rattle.terminal_painting.specs.Frame.{frame_row, frame_rows, height_of, IsInSight};
+ghost use Rattle.terminal_painting.specs.Scene.{scene_row, scene_rows, height_of, IsInSight};
 ghost use Rattle.terminal_painting.specs.Painting.{IsShown, Leads, Paints, PaintsFront};
 ghost use Rattle.terminal_painting.specs.Painting.{beginning, begun_rows, ending, rows_changes};
 ghost use Rattle.terminal_painting.specs.Pen.{blank};
@@ -12,9 +11,9 @@ ghost use Rattle.terminal_painting.specs.Spelling.{spelled, spelled_all};
 
 use crate::changes::{MOST, row_changes};
 use crate::face::{Face, WIDTH};
-use crate::frame::{Frame, Row};
 use crate::operation::Operation;
 use crate::pen::{Pen, WHITE};
+use crate::scene::{Row, Scene};
 use crate::sending::send;
 use arrayvec::ArrayVec;
 use output_bytes::{OutputFault, flush};
@@ -29,7 +28,7 @@ const MOST_ROWS: usize = 33;
 type Rows = ArrayVec<Row, MOST_ROWS>;
 
 /// What a terminal shows, as far as it is known. A clause sees it as the list of the rows that are known, from the top,
-/// each the list of what its cells show: of the frame that was painted last, or none.
+/// each the list of what its cells show: of the scene that was painted last, or none.
 #[derive(Drop)]
 pub struct Painter {
     known: Rows,
@@ -52,29 +51,29 @@ impl Painter {
         Painter { known: Rows::new() }
     }
 
-    /// The next frame is painted whole: something else may have been written to the terminal.
+    /// The next scene is painted whole: something else may have been written to the terminal.
     pub fn forget(&mut self)
         ensures { self.new ≡ [] }
     {
         self.known = Rows::new();
     }
 
-    /// Has the terminal show a frame, with the cursor at a caret in sight.
+    /// Has the terminal show a scene, with the cursor at a caret in sight.
     ///
-    /// Only what changed since the last frame is sent, and all of it where none is known. It returns `OutputFault`
+    /// Only what changed since the last scene is sent, and all of it where none is known. It returns `OutputFault`
     /// where a write or the flush fails: then a front of the painting may have been taken, and nothing is known of the
     /// terminal.
-    pub fn paint<W: Write>(&mut self, writer: &mut W, frame: &Frame<'_>) -> Result<(), OutputFault>
-        requires { IsInSight frame.now }
-        ensures shown { OnOk result (Paints (W.contents writer.old) (W.contents writer.new) self.old frame.now) }
-        ensures known { OnOk result (self.new ≡ frame_rows frame.now) }
-        ensures front { OnErr result (PaintsFront (W.contents writer.old) (W.contents writer.new) self.old frame.now) }
+    pub fn paint<W: Write>(&mut self, writer: &mut W, scene: &Scene<'_>) -> Result<(), OutputFault>
+        requires { IsInSight scene.now }
+        ensures shown { OnOk result (Paints (W.contents writer.old) (W.contents writer.new) self.old scene.now) }
+        ensures known { OnOk result (self.new ≡ scene_rows scene.now) }
+        ensures front { OnErr result (PaintsFront (W.contents writer.old) (W.contents writer.new) self.old scene.now) }
         ensures unknown { OnErr result (self.new ≡ []) }
     {
-        let caret = frame.caret();
+        let caret = scene.caret();
         let known = mem::replace(&mut self.known, Rows::new());
-        let olds = begin(writer, known, frame.height())?;
-        let rows = paint_rows(writer, olds.as_slice(), frame)?;
+        let olds = begin(writer, known, scene.height())?;
+        let rows = paint_rows(writer, olds.as_slice(), scene)?;
         finish(writer, caret)?;
         self.known = rows;
         Ok(())
@@ -83,9 +82,7 @@ impl Painter {
 
 /// Rings the terminal's bell.
 pub fn ring<W: Write>(writer: &mut W) -> Result<(), OutputFault>
-    ensures sent { OnOk result (Appends (W.contents writer.old) (W.contents writer.new) (spelled Operation.Ring)) }
-    ensures front { OnErr result
-        (AppendsFront (W.contents writer.old) (W.contents writer.new) (spelled Operation.Ring)) }
+    ensures { Sends result (W.contents writer.old) (W.contents writer.new) (spelled Operation.Ring) }
 {
     send_last(writer, &[Operation::Ring])
 }
@@ -129,25 +126,25 @@ fn blank_rows(height: u8) -> Rows
     rows
 }
 
-/// Paints the rows of a frame where these are shown, and returns them.
+/// Paints the rows of a scene where these are shown, and returns them.
 fn paint_rows<W: Write>(
     writer: &mut W,
     olds: &[Row],
-    frame: &Frame<'_>,
+    scene: &Scene<'_>,
 ) -> Result<Rows, OutputFault>
-    requires in_sight { IsInSight frame.now }
-    requires known { length olds.now ≡ height_of frame.now }
-    ensures rows { IfOk result (λ rows. rows.items ≡ frame_rows frame.now) }
+    requires in_sight { IsInSight scene.now }
+    requires known { length olds.now ≡ height_of scene.now }
+    ensures rows { IfOk result (λ rows. rows.items ≡ scene_rows scene.now) }
     ensures led { OnOk result (Leads
-        (rows_changes (height_of frame.now) (λ y. slice_index_or olds.now y []) (frame_row frame.now))
-        (W.contents writer.old) (W.contents writer.new) (IsShown (height_of frame.now) olds.now)
-        (IsShown (height_of frame.now) (frame_rows frame.now))) }
+        (rows_changes (height_of scene.now) (λ y. slice_index_or olds.now y []) (scene_row scene.now))
+        (W.contents writer.old) (W.contents writer.new) (IsShown (height_of scene.now) olds.now)
+        (IsShown (height_of scene.now) (scene_rows scene.now))) }
     ensures front { OnErr result (AppendsFront (W.contents writer.old) (W.contents writer.new) (spelled_all
-        (rows_changes (height_of frame.now) (λ y. slice_index_or olds.now y []) (frame_row frame.now)))) }
+        (rows_changes (height_of scene.now) (λ y. slice_index_or olds.now y []) (scene_row scene.now)))) }
 {
     let mut rows = Rows::new();
-    for y in 0..frame.height() {
-        let row = frame.row(y);
+    for y in 0..scene.height() {
+        let row = scene.row(y);
         let changes = row_changes(y + 1, &olds[usize::from(y)], &row);
         send(writer, changes.as_slice())?;
         rows.push(row);
@@ -158,9 +155,7 @@ fn paint_rows<W: Write>(
 /// Ends a painting: the cursor goes to the caret, or is hidden.
 fn finish<W: Write>(writer: &mut W, caret: Option<(u8, u8)>) -> Result<(), OutputFault>
     requires { IfSome caret (λ place. (place.0 < columns) × (place.1 < rows)) }
-    ensures sent { OnOk result (Appends (W.contents writer.old) (W.contents writer.new) (spelled_all (ending caret))) }
-    ensures front { OnErr result
-        (AppendsFront (W.contents writer.old) (W.contents writer.new) (spelled_all (ending caret))) }
+    ensures { Sends result (W.contents writer.old) (W.contents writer.new) (spelled_all (ending caret)) }
 {
     let Some((x, y)) = caret else {
         return send_last(writer, &[Operation::Hide, Operation::Release]);
@@ -175,9 +170,7 @@ fn finish<W: Write>(writer: &mut W, caret: Option<(u8, u8)>) -> Result<(), Outpu
 /// Writes the bytes of the operations and flushes the writer.
 fn send_last<W: Write>(writer: &mut W, operations: &[Operation]) -> Result<(), OutputFault>
     requires { length operations.now ≤ MOST }
-    ensures sent { OnOk result (Appends (W.contents writer.old) (W.contents writer.new) (spelled_all operations.now)) }
-    ensures front { OnErr result
-        (AppendsFront (W.contents writer.old) (W.contents writer.new) (spelled_all operations.now)) }
+    ensures { Sends result (W.contents writer.old) (W.contents writer.new) (spelled_all operations.now) }
 {
     send(writer, operations)?;
     flush(writer)

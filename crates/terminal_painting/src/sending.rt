@@ -1,7 +1,6 @@
 //! Sending operations.
-ghost use Rattle.std.specs.Prelude.{◌≡◌, ◌≤◌, length, OnOk, OnErr};
-ghost use Rattle.std.specs.Io.KnownBytes.{Appends};
-ghost use Rattle.output_bytes.specs.Sent.{AppendsFront};
+ghost use Rattle.std.specs.Prelude.{◌≡◌, ◌≤◌, length};
+ghost use Rattle.output_bytes.specs.Sent.{Sends};
 ghost use Rattle.terminal_painting.specs.Spelling.{spelled_all};
 
 use crate::changes::MOST;
@@ -21,9 +20,7 @@ type Bytes = ArrayVec<u8, ROOM>;
 /// Writes the bytes of the operations.
 pub(crate) fn send<W: Write>(writer: &mut W, operations: &[Operation]) -> Result<(), OutputFault>
     requires { length operations.now ≤ MOST }
-    ensures sent { OnOk result (Appends (W.contents writer.old) (W.contents writer.new) (spelled_all operations.now)) }
-    ensures front { OnErr result
-        (AppendsFront (W.contents writer.old) (W.contents writer.new) (spelled_all operations.now)) }
+    ensures { Sends result (W.contents writer.old) (W.contents writer.new) (spelled_all operations.now) }
 {
     if operations.is_empty() {
         return Ok(());

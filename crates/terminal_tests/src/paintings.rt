@@ -3,7 +3,7 @@
 use screen_pictures::{Cell, Mark};
 use std::alloc::Global;
 use std::test::Fail;
-use terminal_painting::{Frame, OutputFault, Painter};
+use terminal_painting::{OutputFault, Painter, Scene};
 
 /// The cell of a text where there is no character.
 pub(crate) fn blank() -> Cell {
@@ -29,13 +29,13 @@ fn sent(
     below: &[u8],
 ) -> Result<Vec<u8>, OutputFault> {
     let mut bytes = Vec::new(alloc);
-    let frame = Frame {
+    let scene = Scene {
         screen: &screen(cells.0, cells.1),
         first: 0,
         rows: 1,
         below: Some(below),
     };
-    painter.paint(&mut bytes, &frame)?;
+    painter.paint(&mut bytes, &scene)?;
     Ok(bytes)
 }
 

@@ -48,14 +48,6 @@ impl Buffer {
         self.ring.pieces()
     }
 
-    /// A cursor before the character at `pos`, or at the end.
-    pub fn cursor(&self, pos: u32) -> Cursor<'_>
-        requires { pos ≤ length (flat self.now) }
-        ensures { IsCursorAt pos self.now result }
-    {
-        self.ring.cursor(pos)
-    }
-
     /// Adds its characters to another buffer, at the end, and keeps them. If memory is refused the other buffer stays.
     pub fn copy_to(&self, alloc: Global, other: &mut Buffer) -> Result<(), NoMemory>
         requires fits { length (flat other.old) + length (flat self.now) < 2 ^ 32 }
@@ -63,6 +55,14 @@ impl Buffer {
     {
         let copy = self.ring.copy(alloc, 0, self.ring.len())?;
         other.append(alloc, copy)
+    }
+
+    /// A cursor before the character at `pos`, or at the end.
+    pub fn cursor(&self, pos: u32) -> Cursor<'_>
+        requires { pos ≤ length (flat self.now) }
+        ensures { IsCursorAt pos self.now result }
+    {
+        self.ring.cursor(pos)
     }
 
     /// Lets all characters go. It takes no memory.

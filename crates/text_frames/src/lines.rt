@@ -100,23 +100,24 @@ pub(crate) fn ends_between<S: CharSource>(
     Ok(ends)
 }
 
-/// Where the row of the position starts, in a frame that begins at `org`. None where that is `most` characters or more
-/// before the position; no more of them are read. `Fault`: the source failed in this call.
+/// Where the row starts in which the reader stands, in a frame that begins at `org`. None where that is `most`
+/// characters or more before the reader; no more of them are read. `Fault`: the source failed in this call.
 pub(crate) fn row_start<S: CharSource>(
-    text: &Text,
+    reader: &mut BackReader<'_>,
     org: u32,
     most: u8,
-    pos: u32,
     source: &mut S,
 ) -> Result<Option<u32>, Fault>
-    requires { CanWalk (S.characters source.old) (flat text.now) org pos }
+    requires order { org ≤ reader.old.position }
+    requires offsets { AreWithin (length (S.characters source.old)) reader.old.text }
     ensures start { IfOk result (λ start. S.honest source.old → MatchOption start
-        (row_start (bytes (S.characters source.old) (flat text.now)) org pos + most ≤ pos)
-        (λ start. start ≡ row_start (bytes (S.characters source.old) (flat text.now)) org pos)) }
-    ensures range { IfOk result (λ start. IfSome start (λ start. start ≤ pos)) }
+        (row_start (bytes (S.characters source.old) reader.old.text) org reader.old.position + most
+        ≤ reader.old.position)
+        (λ start. start ≡ row_start (bytes (S.characters source.old) reader.old.text) org reader.old.position)) }
+    ensures range { IfOk result (λ start. IfSome start (λ start. start ≤ reader.old.position)) }
     ensures source { ReadsOrFails S.CharSource result source.old source.new }
 {
-    let mut reader = BackReader::open(text, pos);
+    let pos = reader.pos();
     let low = org.max(pos.saturating_sub(most as u32));
     for at in (low..pos).rev() {
         let byte = reader.previous_byte(source)?;

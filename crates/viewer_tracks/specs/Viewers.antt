@@ -1,10 +1,9 @@
 -- A track: its viewers from the bottom up, each with its height in rows.
 --
--- Every viewer has a row at least, and all together have no more rows than the display. What they leave, up to the
--- top of the display, is
--- the filler, which may have no row. So a track cuts the display into entries that lie on one another: entry i is the
--- viewer i, and entry
--- `length t` the filler. An entry begins at the row `bottom_of` and ends before the row `top_of`.
+-- Every viewer has a row at least, and all together have no more rows than the display. What they leave, up to the top of
+-- the display, is the filler, which may have no row. So a track cuts the display into entries that lie on one another:
+-- entry i is the viewer i, and entry `length t` the filler. An entry begins at the row `bottom_of` and ends before the
+-- row `top_of`.
 use Rattle.std.specs.Prelude.{ℕ, ◌+◌, ◌<◌, ◌≤◌, if◌then◌else◌, nat_lt, nat_le, ◌==◌, Option, option_map, List, length}
 use Rattle.std.specs.Prelude.{take, map, All, sum_by, count_by, slice_get}
 use Rattle.std.specs.List.{position_or_len, range_with_len}

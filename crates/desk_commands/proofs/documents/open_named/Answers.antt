@@ -1,11 +1,11 @@
 use Rattle.std.specs.Prelude.{⊤}
 use Rattle.std.proofs.Common.{rules, ◌≡◌, ℕ, List, Ok, false, sym, ap, subst, ◌∙◌}
 use Rattle.std.proofs.lemmas.Result.{IfOk-weaker}
-use Rattle.piece_ring.specs.Offsets.{AreWithin}
+use Rattle.piece_ring.specs.Text.{AreWithin}
 use Rattle.desktop_definitions.specs.Change.{more_written}
 use Rattle.desktop_definitions.specs.Opening.{menu_line, opening, dropped}
 use Rattle.desktop_definitions.specs.Seen.{seen}
-use Rattle.desktop_definitions.specs.Step.{fits}
+use Rattle.desktop_definitions.specs.Step.{fits, outcome_of}
 use Rattle.desktop_laws.specs.KeyLaws.{row_as}
 use Rattle.desktop_laws.specs.OpeningOnLaws.{file_within, copy_row, copy_full}
 use Rattle.desktop_definitions.specs.Unread.{grown}
@@ -69,7 +69,7 @@ returns g c = record {
       let after = kept c.open_viewer.new.desk in
       let line = c.as_slice.ensures.value ∙ c.menu_line-menu.ensures ∙ ap menu_line c.as_bytes.ensures.value in
       IfOk-weaker c.open_viewer.result _ _ (λ reply is all long.
-      ap (λ (bytes : List ℕ). (seen (grown all bytes reply) after, reply)) (sym line) ∙ is all long
+      ap (λ (bytes : List ℕ). outcome_of (seen (grown all bytes reply) after) reply) (sym line) ∙ is all long
       ∙ (λ k. settled (seen all d) (Ok (sym (copy_row all d c.args.name.now c.as_slice.result.now line
       (c.args.x, c.args.y) c.in_ok-main.main c.in_ok-main.ensures) k))))
       c.open_viewer.ensures.unread;

@@ -9,7 +9,7 @@ use Rattle.desktop_laws.specs.KeyLaws.{refusal_answered, row_as}
 use Rattle.desktop_laws.specs.OpeningOnLaws.{tool_missing, tool_row}
 use Rattle.desktop_definitions.specs.Opening.{menu_line}
 use Rattle.desktop_definitions.specs.Unread.{grown}
-use Rattle.desktop_definitions.specs.Step.{settled}
+use Rattle.desktop_definitions.specs.Step.{settled, outcome_of}
 use Rattle.desk_core.specs.Kept.{kept}
 use Rattle.desk_core.proofs.UnreadLemmas.{refusal_is}
 use Rattle.desk_commands.proofs.OpeningLemmas.{no_name, same_name}
@@ -58,7 +58,7 @@ returns g c = record {
       let name = c.in-Some.name in
       let tool = same_name name (codes "System.Tool") (sym c.in-Some.is ∙ c.new.ensures) in
       IfOk-weaker c.open_named.result _ _ (λ reply is all long.
-      ap (λ (n : List ℕ). (seen (grown all (menu_line n) reply) after, reply)) (sym tool) ∙ is all long
+      ap (λ (n : List ℕ). outcome_of (seen (grown all (menu_line n) reply) after) reply) (sym tool) ∙ is all long
       ∙ sym (ap (settled (seen all d)) (tool_row all d name c.args.x c.args.y tool
       (sym c.contains_key.ensures ∙ c.if-not-contains_key.false))))
       c.open_named.ensures.unread;

@@ -2,7 +2,8 @@ use Rattle.std.proofs.Common.{rules, ◌≡◌, ◌+◌, ◌∙◌, length, ap, 
 use Rattle.piece_ring.specs.Look.{default_look}
 use Rattle.piece_ring.specs.Flat.{flat}
 use Rattle.piece_ring.specs.Lengths.{length-run}
-use Rattle.piece_ring.specs.Offsets.{AreWithin, run-AreWithin}
+use Rattle.piece_ring.specs.Offsets.{run-AreWithin}
+use Rattle.piece_ring.specs.Text.{AreWithin}
 use Rattle.desktop_laws.specs.RowLaws.{text_held}
 use Rattle.desktop_laws.specs.LogLaws.{log_kept, line_put, line_logged}
 use Rattle.desk_core.specs.Kept.{kept}

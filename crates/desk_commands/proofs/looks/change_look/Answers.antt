@@ -14,18 +14,18 @@ returns-in_default g c = record {
 pub returns-in_default-selection : goal.returns-in_default-selection
 returns-in_default-selection g c = record {
   answered =
-      none_selected_answered _ _ _ c.requires.over _ (c.in-Some.selector, c.in-Some.look) c.in-Some.is
+      none_selected_answered _ _ _ c.requires.over _ c.in-Some.change c.in-Some.is
       (sym c.selection.ensures.is ∙ c.in_default-selection.is);
   uses = search (rules, g.met.S.CharSource.ground_self, g.met.S.CharSource.ground_through);
 }
 
 pub set_looks-requires-clause-look : goal.set_looks-requires-clause-look
-set_looks-requires-clause-look g c = c.requires.sets (c.in-Some.selector, c.in-Some.look) c.in-Some.is
+set_looks-requires-clause-look g c = c.requires.sets c.in-Some.change c.in-Some.is
 
 pub returns : goal.returns
 returns g c = record {
   answered =
-      selection_set_answered _ _ _ c.requires.over _ (c.in-Some.selector, c.in-Some.look) _ _ c.in-Some.is
+      selection_set_answered _ _ _ c.requires.over _ c.in-Some.change _ _ c.in-Some.is
       (sym c.in-Some-selection.ensures.is)
       (c.in_ok-set_looks.ensures.changed _ (over_built _ (kept c.args.desk.now) c.requires.over));
   uses = search (rules, g.met.S.CharSource.ground_self, g.met.S.CharSource.ground_through);

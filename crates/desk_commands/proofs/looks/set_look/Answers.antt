@@ -23,6 +23,6 @@ returns g c = record {
       let old = s.characters c.args.source.now in
       let d = kept c.args.desk.now in
       look_set_answered (s.honest c.args.source.now) old d c.requires.over c.args.new
-      (c.in-Some.selector, c.in-Some.look) c.relooked-desk.result c.requires.sets c.in-Some.is c.relooked-desk.ensures;
+      c.in-Some.change c.relooked-desk.result c.requires.sets c.in-Some.is c.relooked-desk.ensures;
   uses = search (rules, g.met.S.CharSource.ground_self, g.met.S.CharSource.ground_through);
 }

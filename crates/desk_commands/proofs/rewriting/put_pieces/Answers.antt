@@ -2,7 +2,7 @@ use Rattle.std.proofs.Common.{◌≡◌, ◌∙◌, List, ℕ, ◌++◌, length,
 use Rattle.char_file.proofs.Reading.{read_on}
 use Rattle.piece_ring.specs.Flat.{flat, run, characters_of}
 use Rattle.piece_ring.specs.Lengths.{length-run}
-use Rattle.piece_ring.specs.Offsets.{AreWithin}
+use Rattle.piece_ring.specs.Text.{AreWithin}
 use Rattle.readers_scanners.specs.Reading.{bytes}
 use Rattle.desk_commands.proofs.RewritingLemmas.{piece_inside, rest_inside, piece_long, text_on, bytes_on}
 use Rattle.desk_commands.proofs.rewriting.put_pieces.Goals as goal

@@ -1,7 +1,7 @@
 use Rattle.std.proofs.Common.{◌≡◌, ◌+◌, ◌++◌, length}
 use Rattle.char_file.specs.Source.{OnlyReads}
 use Rattle.piece_ring.specs.Flat.{flat}
-use Rattle.piece_ring.specs.Offsets.{AreWithin}
+use Rattle.piece_ring.specs.Text.{AreWithin}
 use Rattle.readers_scanners.specs.Reading.{bytes}
 use Rattle.desktop_laws.specs.Rewriting.{laid}
 use Rattle.desk_commands.proofs.rewriting.put_pieces.Given as goal

@@ -2,13 +2,13 @@ use Rattle.std.proofs.Common.{rules, ◌+◌, ◌<◌, ◌≤◌, ◌∙◌, Lis
 use Rattle.std.proofs.lemmas.Bool.{eqb-true, eqb-false}
 use Rattle.piece_ring.specs.declared.piece.Piece.{Piece}
 use Rattle.piece_ring.specs.Flat.{flat}
-use Rattle.piece_ring.specs.Offsets.{AreWithin}
+use Rattle.piece_ring.specs.Text.{AreWithin}
 use Rattle.desktop_definitions.specs.Limits.{no_selection, not_found}
-use Rattle.desktop_definitions.specs.Viewers.{viewer_or_none}
+use Rattle.desktop_definitions.specs.Viewers.{viewer_or_none, kept_main}
 use Rattle.desktop_definitions.specs.Effects.{searched}
 use Rattle.desktop_laws.specs.RowLaws.{known_no_selection, over_built}
 use Rattle.desktop_definitions.specs.Sound.{IsBuilt}
-use Rattle.desktop_laws.specs.RowPartLaws.{kept_main, text_within}
+use Rattle.desktop_laws.specs.RowPartLaws.{text_within}
 use Rattle.desktop_laws.specs.RowLaws.{known_not_found}
 use Rattle.desktop_laws.specs.SearchLaws.{searched_none, searched_lost, search_answered}
 use Rattle.desktop_laws.specs.SearchLaws.{start_within, found_as}

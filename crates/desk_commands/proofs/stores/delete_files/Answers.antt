@@ -1,7 +1,8 @@
 use Rattle.std.proofs.Common.{rules, ◌∙◌, ℕ, [], ap, sym, arith}
 use Rattle.arrayvec.specs.ArrayVec.{ArrayVec}
 use Rattle.desktop_definitions.specs.Seen.{seen}
-use Rattle.desktop_laws.specs.RowLaws.{has_space, space_written}
+use Rattle.desktop_laws.specs.RowLaws.{space_written}
+use Rattle.desktop_laws.specs.DeskWords.{has_space}
 use Rattle.desktop_laws.specs.LogLaws.{line_bytes_map}
 use Rattle.desktop_laws.specs.StoreLaws.{files_small, deleting_refused, deleting_full, deleting_stands}
 use Rattle.desktop_laws.specs.StoreLaws.{deleting_short, deleting_answered}

@@ -1,10 +1,11 @@
 use Rattle.std.specs.Prelude.{⊤}
 use Rattle.std.proofs.Common.{rules, ◌≡◌, ◌∙◌, ◌+◌, length, [], ap, sym, arith}
 use Rattle.piece_ring.specs.Flat.{flat}
-use Rattle.desktop_definitions.specs.Viewers.{main_of}
+use Rattle.desktop_definitions.specs.Viewers.{main_of, kept_main}
 use Rattle.desktop_definitions.specs.Seen.{seen}
-use Rattle.desktop_laws.specs.RowLaws.{has_space, space_written}
-use Rattle.desktop_laws.specs.RowPartLaws.{kept_main, kept_main_long}
+use Rattle.desktop_laws.specs.RowLaws.{space_written}
+use Rattle.desktop_laws.specs.DeskWords.{has_space}
+use Rattle.desktop_laws.specs.RowPartLaws.{kept_main_long}
 use Rattle.desktop_laws.specs.KeyLaws.{main_small}
 use Rattle.desktop_laws.specs.StoreLaws.{files_small, storing_refused, storing_full}
 use Rattle.desk_core.specs.Kept.{kept}

@@ -1,6 +1,7 @@
 use Rattle.std.proofs.Common.{◌-◌, ◌∙◌, ap, sym}
 use Rattle.desktop_definitions.specs.Seen.{seen}
-use Rattle.desktop_laws.specs.RowLaws.{has_space, known_no_selection}
+use Rattle.desktop_laws.specs.RowLaws.{known_no_selection}
+use Rattle.desktop_laws.specs.DeskWords.{has_space}
 use Rattle.desktop_laws.specs.KeyLaws.{copy_none, copy_full, copy_answered}
 use Rattle.desk_core.specs.Kept.{kept}
 use Rattle.desk_core.proofs.StretchLemmas.{refused_effect}

@@ -1,7 +1,8 @@
 use Rattle.std.proofs.Common.{rules, ◌≡◌, ◌∙◌, ◌+◌, [], List, ℕ, length, ap, sym, subst, length-append, arith}
 use Rattle.piece_ring.specs.Flat.{flat}
 use Rattle.piece_ring.specs.Lengths.{length-run}
-use Rattle.piece_ring.specs.Offsets.{AreWithin, run-AreWithin}
+use Rattle.piece_ring.specs.Offsets.{run-AreWithin}
+use Rattle.piece_ring.specs.Text.{AreWithin}
 use Rattle.desktop_definitions.specs.declared.reply.Reply.TheVariants.{Done, No}
 use Rattle.desktop_definitions.specs.Limits.{full}
 use Rattle.desktop_definitions.specs.Change.{more_written}

@@ -1,8 +1,8 @@
-use Rattle.desk_session.proofs.Surviving.{frames_survive, turns_survive, ends_survive}
+use Rattle.desk_session.proofs.Surviving.{scenes_survive, turns_survive, ends_survive}
 use Rattle.desk_session.proofs.laws.sittings_survive.Goals as goal
 
-pub returns-clause-frames : goal.returns-clause-frames
-returns-clause-frames g c = frames_survive g.D.Disk
+pub returns-clause-scenes : goal.returns-clause-scenes
+returns-clause-scenes g c = scenes_survive g.D.Disk
 
 pub returns-clause-turns : goal.returns-clause-turns
 returns-clause-turns g c = turns_survive g.D.Disk c.presses_are_steps.ensures

@@ -12,4 +12,4 @@ returns-clause-looks g c = looked_at g.D.Disk c.screen.result _ _ c.screen.ensur
 
 pub returns-clause-unshown : goal.returns-clause-unshown
 returns-clause-unshown g c = cut_behind _ _ _ _ _ _ _ _ _ c.follow.result c.look.ensures
-    c.in_ok-screen.ensures.shown c.in_ok-paint.ensures.painted c.follow.ensures.front c.follow.ensures.end
+    c.in_ok-screen.ensures.shown c.in_ok-paint.ensures.painted c.follow.ensures.sent.front c.follow.ensures.end

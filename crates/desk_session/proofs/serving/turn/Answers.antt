@@ -7,59 +7,59 @@ use Rattle.desk_session.proofs.serving.turn.Goals as goal
 pub returns-in_err-show : goal.returns-in_err-show
 returns-in_err-show g c =
     let p = err_from_is_err_and c.from_residual.result c.from_residual.ensures.1 in
-    let frame = c.in_err-show.ensures in
-    unshown_ends g.D.Disk c.from_residual.result c.in_err-show.field-0.0 (p.1 ∙ ap (λ e. Err e) p.2) frame.looks
-    frame.unshown refl frame.usable frame.counts frame.device
+    let scene = c.in_err-show.ensures in
+    unshown_ends g.D.Disk c.from_residual.result c.in_err-show.field-0.0 (p.1 ∙ ap (λ e. Err e) p.2) scene.looks
+    scene.unshown refl scene.usable scene.counts scene.device
 
 pub returns-in_err-hearing : goal.returns-in_err-hearing
 returns-in_err-hearing g c =
     let p = err_from_is_err_and c.from_residual-in_err-hearing.result c.from_residual-in_err-hearing.ensures.1 in
-    let frame = c.in_ok-show.ensures in
+    let scene = c.in_ok-show.ensures in
     deaf_ends g.D.Disk c.from_residual-in_err-hearing.result c.in_err-hearing.field-0.0 (p.1 ∙ ap (λ e. Err e) p.2)
-    frame.looks frame.shown c.in_err-hearing.ensures.ended frame.usable frame.counts frame.device
+    scene.looks scene.shown c.in_err-hearing.ensures.ended scene.usable scene.counts scene.device
 
 pub returns-in_err-do_presses : goal.returns-in_err-do_presses
 returns-in_err-do_presses g c =
     let p = err_from_is_err_and c.from_residual-in_err-do_presses.result c.from_residual-in_err-do_presses.ensures.1 in
-    let frame = c.in_ok-show.ensures in
+    let scene = c.in_ok-show.ensures in
     let fails = c.in_err-do_presses.ensures in
-    broken_ends g.D.Disk c.show.new.store c.show.new.sitting c.as_slice.result.now frame.looks frame.sitting
-    frame.shown
+    broken_ends g.D.Disk c.show.new.store c.show.new.sitting c.as_slice.result.now scene.looks scene.sitting
+    scene.shown
     (heard_so (g.K.Keyboard.heard c.args.keyboard.now) c.in_ok-hearing.ensures.told c.as_slice.ensures.heard)
     c.from_residual-in_err-do_presses.result c.in_err-do_presses.field-0.0 (p.1 ∙ ap (λ e. Err e) p.2) fails.broke
-    frame.counts fails.faults (same_device g.D.Disk _ _ _ frame.device c.do_presses.ensures.device)
+    scene.counts fails.faults (same_device g.D.Disk _ _ _ scene.device c.do_presses.ensures.device)
 
 pub returns-then-sitting : goal.returns-then-sitting
 returns-then-sitting g c =
-    let frame = c.in_ok-show.ensures in
+    let scene = c.in_ok-show.ensures in
     let done = c.in_ok-do_presses.ensures in
     record {
       goes_on = tt;
       stays = tt;
       stops = λ honest durable. left_stops g.D.Disk
-          (turned g.D.Disk c.show.new.store c.show.new.sitting c.as_slice.result.now frame.looks frame.sitting
-          frame.shown (c.bring.ensures.silent
+          (turned g.D.Disk c.show.new.store c.show.new.sitting c.as_slice.result.now scene.looks scene.sitting
+          scene.shown (c.bring.ensures.silent
           ∙ heard_so (g.K.Keyboard.heard c.args.keyboard.now) c.in_ok-hearing.ensures.told c.as_slice.ensures.heard)
           c.do_presses.new.sitting done.parser done.done c.bring.ensures.brought honest durable) c.if-sitting.true;
       usable = tt;
       still_usable = λ _ _. done.usable;
-      counts = calm_presses tt _ _ _ frame.counts done.faults;
-      device = same_device g.D.Disk _ _ _ frame.device c.do_presses.ensures.device;
+      counts = calm_presses tt _ _ _ scene.counts done.faults;
+      device = same_device g.D.Disk _ _ _ scene.device c.do_presses.ensures.device;
     }
 
 pub returns-else-sitting : goal.returns-else-sitting
 returns-else-sitting g c =
-    let frame = c.in_ok-show.ensures in
+    let scene = c.in_ok-show.ensures in
     let done = c.in_ok-do_presses.ensures in
     record {
-      goes_on = turned g.D.Disk c.show.new.store c.show.new.sitting c.as_slice.result.now frame.looks frame.sitting
-          frame.shown (c.bring.ensures.silent
+      goes_on = turned g.D.Disk c.show.new.store c.show.new.sitting c.as_slice.result.now scene.looks scene.sitting
+          scene.shown (c.bring.ensures.silent
           ∙ heard_so (g.K.Keyboard.heard c.args.keyboard.now) c.in_ok-hearing.ensures.told c.as_slice.ensures.heard)
           c.do_presses.new.sitting done.parser done.done c.bring.ensures.brought;
       stays = c.if-sitting.false;
       stops = tt;
       usable = done.usable;
       still_usable = tt;
-      counts = calm_presses tt _ _ _ frame.counts done.faults;
-      device = same_device g.D.Disk _ _ _ frame.device c.do_presses.ensures.device;
+      counts = calm_presses tt _ _ _ scene.counts done.faults;
+      device = same_device g.D.Disk _ _ _ scene.device c.do_presses.ensures.device;
     }

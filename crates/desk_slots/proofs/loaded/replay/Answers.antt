@@ -78,7 +78,7 @@ loop-k-preserved g c =
           (subst (λ r. Begins (r (body c.args.slot k)) c.in-Some.event) same found.1)
           (ap (λ x. x.0) (c.in_ok-step-in-Some.ensures.done (c.read_event.ensures.kept.still mid))
           ∙ ap (λ (r : Content).
-          (step_in (version_number c.args.version) (seen_live r c.loop-k.desktop) c.in-Some.event).0)
+          (step_in (version_number c.args.version) (seen_live r c.loop-k.desktop) c.in-Some.event).desktop)
           read);
       live = c.in_ok-step-in-Some.ensures.live;
       told = c.in_ok-step-in-Some.ensures.told;

@@ -5,7 +5,7 @@ use Rattle.desktop_definitions.specs.declared.reply.Reply.TheVariants.{Done}
 use Rattle.piece_ring.specs.Look.{default_look}
 use Rattle.desktop_definitions.specs.Limits.{full, too_many_files}
 use Rattle.desktop_definitions.specs.Seen.{seen}
-use Rattle.desktop_definitions.specs.Step.{step, step_in, raw}
+use Rattle.desktop_definitions.specs.Step.{step, step_in, raw, outcome_of}
 use Rattle.desktop_definitions.specs.Sound.{IsOver}
 use Rattle.desktop_definitions.specs.Change.{plain}
 use Rattle.desktop_laws.specs.StepLaws.{file_no_room, file_full}
@@ -61,7 +61,8 @@ returns g c =
     record {
       answered = subst (λ (b : List ℕ). IsAnswered (g.S.CharSource.honest c.args.source.now) old new d after
           (step (seen old d) (File name b)) Done) value (done _ old new c.requires c.in_ok-append.ensures.added);
-      unread = λ h all long. subst (λ (b : List ℕ). (seen (all ++ b) after, Done) ≡ step (seen all d) (File name b)) value
+      unread = λ h all long. subst
+          (λ (b : List ℕ). outcome_of (seen (all ++ b) after) Done ≡ step (seen all d) (File name b)) value
           ((done ⊤ all (all ++ bytes) (over_all c.requires all long) refl).exact tt);
       uses = search (rules, g.met.S.CharSource.ground_self, g.met.S.CharSource.ground_through);
     }

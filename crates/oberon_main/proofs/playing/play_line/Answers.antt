@@ -14,7 +14,7 @@ returns-in_err-send-clause-played g c =
       unanswered = λ honest bytes holds. subst (AppendsFront _ _)
           (c.as_bytes.ensures ∙ c.in_ok-answer.ensures.worked_out.bytes honest
           ∙ ap (λ r. answer (session_of c.args.store.now) r)
-          (c.ask.ensures bytes holds)) c.in_err-send.ensures.front;
+          (c.ask.ensures bytes holds)) c.in_err-send.ensures.sent.front;
       usable = tt;
       premise = c.in_ok-answer.ensures.worked_out.premise;
     })

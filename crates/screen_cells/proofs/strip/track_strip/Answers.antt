@@ -1,6 +1,6 @@
 use Rattle.std.proofs.Common.{ap, sym, ◌∙◌, ◌==◌, map, rules}
 use Rattle.std.proofs.lemmas.Result.{IfOk-weaker}
-use Rattle.screen_pictures.specs.Picture.{Viewer, seen_cell, shown_cell, viewer_cell}
+use Rattle.screen_pictures.specs.Picture.{Painted, seen_cell, shown_cell, viewer_cell}
 use Rattle.screen_cells.specs.Lines.{IsNumbered}
 use Rattle.screen_cells.specs.Shown.{as_read}
 use Rattle.screen_cells.proofs.Strips.{found_first, found_none, all_got}
@@ -30,7 +30,7 @@ returns-then-index-shown-clause-strip g c =
     fact _ column ∙ sym (
     ap (seen_cell columns viewers c.args.track column c.args.y) (sym c.in-Some.ensures.seen)
     ∙ ap (shown_cell columns c.args.track id column c.args.y)
-    (found_none (λ (v : Viewer). v.id == id) (as_read (g.S.CharSource.characters c.args.source.now))
+    (found_none (λ (v : Painted). v.id == id) (as_read (g.S.CharSource.characters c.args.source.now))
     c.args.shown.now c.index_of-index.result c.index_of-index.ensures c.if-index-shown.true)))
     c.filler_strip-then-index-shown.ensures.strip
 
@@ -48,7 +48,7 @@ returns-clause-strip g c =
     ∙ sym (
     ap (seen_cell columns viewers c.args.track column c.args.y) (sym c.in-Some.ensures.seen)
     ∙ ap (shown_cell columns c.args.track id column c.args.y)
-    (found_first (λ (v : Viewer). v.id == id) (as_read characters) c.args.shown.now walk.index walk.shown
+    (found_first (λ (v : Painted). v.id == id) (as_read characters) c.args.shown.now walk.index walk.shown
     (c.walk_of-walk.ensures.index ∙ c.index_of-index.ensures) c.walk_of-walk.ensures.walk.there)))
     c.viewer_strip-strip.ensures.strip
 

@@ -2,12 +2,11 @@ use Rattle.std.proofs.Common.{List, Option, ℕ, [], ◌∷◌}
 use Rattle.std.specs.Prelude.{codes}
 use Rattle.std.specs.List.{concat}
 use Rattle.std.specs.Io.KnownBytes.{Appends}
-use Rattle.std.proofs.KnownBytes.{Appends-kept}
+use Rattle.std.proofs.KnownBytes.{Appends-trans}
 use Rattle.output_bytes.specs.Sent.{AppendsFront}
-use Rattle.output_bytes.proofs.Taking.{on_err, on_ok}
+use Rattle.output_bytes.proofs.Taking.{first_front, front_sent, second_front, whole_sent}
 use Rattle.screen_pictures.specs.declared.cell.Cell.{Cell}
 use Rattle.screen_drawing.specs.Drawn.{background, drawn, drawn_rows, heading}
-use Rattle.screen_drawing.proofs.Parts.{both_taken, first_front, second_front, whole_front}
 use Rattle.screen_drawing.proofs.drawing.draw.Goals as goal
 
 -- what follows the heading, and what follows the background
@@ -32,38 +31,36 @@ all_drawn : (screen : List (List Cell)) (old one two three new : Option (List �
     → Appends old new (drawn screen)
 unfolding drawn
 all_drawn screen old one two three new first second third last =
-    both_taken old one new heading (after_heading screen) first
-    (both_taken one two new background (after_background screen) second
-    (both_taken two three new (drawn_rows screen) (codes "</svg>\n") third last))
+    Appends-trans old one new heading (after_heading screen) first
+    (Appends-trans one two new background (after_background screen) second
+    (Appends-trans two three new (drawn_rows screen) (codes "</svg>\n") third last))
 
-pub returns-in_err-draw_heading-clause-front : goal.returns-in_err-draw_heading-clause-front
+pub returns-in_err-draw_heading : goal.returns-in_err-draw_heading
 unfolding drawn
-returns-in_err-draw_heading-clause-front g c = on_err c.from_residual.result
-    (first_front _ _ heading (after_heading c.args.screen.now) c.in_err-draw_heading.ensures)
+returns-in_err-draw_heading g c = front_sent c.from_residual.result _ _ _ _ c.from_residual.ensures.1
+    (first_front _ _ heading (after_heading c.args.screen.now) c.in_err-draw_heading.ensures.front)
 
-pub returns-in_err-draw_background-clause-front : goal.returns-in_err-draw_background-clause-front
+pub returns-in_err-draw_background : goal.returns-in_err-draw_background
 unfolding drawn
-returns-in_err-draw_background-clause-front g c = on_err c.from_residual-in_err-draw_background.result
-    (second_front _ _ _ heading (after_heading c.args.screen.now) c.in_ok-draw_heading.ensures
-    (first_front _ _ background (after_background c.args.screen.now) c.in_err-draw_background.ensures))
+returns-in_err-draw_background g c =
+    front_sent c.from_residual-in_err-draw_background.result _ _ _ _ c.from_residual-in_err-draw_background.ensures.1
+    (second_front _ _ _ heading (after_heading c.args.screen.now) c.in_ok-draw_heading.ensures.sent
+    (first_front _ _ background (after_background c.args.screen.now) c.in_err-draw_background.ensures.front))
 
-pub returns-in_err-draw_rows-clause-front : goal.returns-in_err-draw_rows-clause-front
-returns-in_err-draw_rows-clause-front g c = on_err c.from_residual-in_err-draw_rows.result
-    (begun_front c.args.screen.now _ _ _ _ c.in_ok-draw_heading.ensures c.in_ok-draw_background.ensures
-    (first_front _ _ (drawn_rows c.args.screen.now) (codes "</svg>\n") c.in_err-draw_rows.ensures))
+pub returns-in_err-draw_rows : goal.returns-in_err-draw_rows
+returns-in_err-draw_rows g c =
+    front_sent c.from_residual-in_err-draw_rows.result _ _ _ _ c.from_residual-in_err-draw_rows.ensures.1
+    (begun_front c.args.screen.now _ _ _ _ c.in_ok-draw_heading.ensures.sent c.in_ok-draw_background.ensures.sent
+    (first_front _ _ (drawn_rows c.args.screen.now) (codes "</svg>\n") c.in_err-draw_rows.ensures.front))
 
-pub returns-in_err-send-clause-front : goal.returns-in_err-send-clause-front
-returns-in_err-send-clause-front g c = on_err c.from_residual-in_err-send.result
-    (begun_front c.args.screen.now _ _ _ _ c.in_ok-draw_heading.ensures c.in_ok-draw_background.ensures
-    (second_front _ _ _ (drawn_rows c.args.screen.now) (codes "</svg>\n") c.in_ok-draw_rows.ensures
+pub returns-in_err-send : goal.returns-in_err-send
+returns-in_err-send g c =
+    front_sent c.from_residual-in_err-send.result _ _ _ _ c.from_residual-in_err-send.ensures.1
+    (begun_front c.args.screen.now _ _ _ _ c.in_ok-draw_heading.ensures.sent c.in_ok-draw_background.ensures.sent
+    (second_front _ _ _ (drawn_rows c.args.screen.now) (codes "</svg>\n") c.in_ok-draw_rows.ensures.sent
     c.in_err-send.ensures.front))
 
-pub returns-clause-drawn : goal.returns-clause-drawn
-returns-clause-drawn g c = on_ok c.flush.result (Appends-kept _ _ _ (drawn c.args.screen.now)
-    (all_drawn c.args.screen.now _ _ _ _ _ c.in_ok-draw_heading.ensures c.in_ok-draw_background.ensures
-    c.in_ok-draw_rows.ensures c.in_ok-send.ensures.sent) c.flush.ensures)
-
-pub returns-clause-front : goal.returns-clause-front
-returns-clause-front g c = on_err c.flush.result (whole_front _ _ _ (drawn c.args.screen.now)
-    (all_drawn c.args.screen.now _ _ _ _ _ c.in_ok-draw_heading.ensures c.in_ok-draw_background.ensures
-    c.in_ok-draw_rows.ensures c.in_ok-send.ensures.sent) c.flush.ensures)
+pub returns : goal.returns
+returns g c = whole_sent c.flush.result _ _ _ (drawn c.args.screen.now)
+    (all_drawn c.args.screen.now _ _ _ _ _ c.in_ok-draw_heading.ensures.sent c.in_ok-draw_background.ensures.sent
+    c.in_ok-draw_rows.ensures.sent c.in_ok-send.ensures.sent) c.flush.ensures

@@ -1,10 +1,10 @@
-use Rattle.screen_drawing.proofs.Parts.{first_front, front_drawn, then_drawn}
+use Rattle.output_bytes.proofs.Taking.{first_front, front_sent, then_sent}
 use Rattle.screen_drawing.proofs.drawing.draw_stretch.Goals as goal
 
 pub returns-in_err-draw_paper : goal.returns-in_err-draw_paper
 returns-in_err-draw_paper g c =
-    front_drawn c.from_residual.result _ _ _ _ c.from_residual.ensures.1
-    (first_front _ _ _ _ c.in_err-draw_paper.ensures)
+    front_sent c.from_residual.result _ _ _ _ c.from_residual.ensures.1
+    (first_front _ _ _ _ c.in_err-draw_paper.ensures.front)
 
 pub returns : goal.returns
-returns g c = then_drawn c.draw_text.result _ _ _ _ _ c.in_ok-draw_paper.ensures c.draw_text.ensures
+returns g c = then_sent c.draw_text.result _ _ _ _ _ c.in_ok-draw_paper.ensures.sent c.draw_text.ensures

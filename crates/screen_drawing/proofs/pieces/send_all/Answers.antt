@@ -1,8 +1,9 @@
-use Rattle.screen_drawing.proofs.Parts.{front_drawn, next_front, next_piece, next_taken}
+use Rattle.output_bytes.proofs.Taking.{front_sent}
+use Rattle.screen_drawing.proofs.Parts.{next_front, next_piece, next_taken}
 use Rattle.screen_drawing.proofs.pieces.send_all.Goals as goal
 
 pub returns-in_err-send : goal.returns-in_err-send
-returns-in_err-send g c = front_drawn c.from_residual.result _ _ _ _ c.from_residual.ensures.1 (next_front _ _ _ _ _ _ _
+returns-in_err-send g c = front_sent c.from_residual.result _ _ _ _ c.from_residual.ensures.1 (next_front _ _ _ _ _ _ _
     (next_piece c.args.pieces.now c.loop-piece.piece-index _ c.loop-piece-test.true) c.loop-piece.invariant
     c.in_err-send.ensures.front)
 

@@ -22,10 +22,8 @@ loop-first-preserved c =
     let first = c.in-Some.first.now in
     let n = c.count_in_look.result in
     let all = flat_map stretch_line (stretches c.args.text.now) in
-    let grown = c.in_ok-push_stretch.ensures ∙ ap (λ (s : Text _). c.loop-first.bytes.items ++ stretch_line (
-      first.1,
-      bytes_in s,
-    )) c.split_at.ensures.front in
+    let grown = c.in_ok-push_stretch.ensures ∙ ap (λ (s : Text _). c.loop-first.bytes.items
+    ++ stretch_line (record { look = first.1; bytes = bytes_in s })) c.split_at.ensures.front in
     subst (λ (r : Text _). c.push_stretch.new.text.items ++ flat_map stretch_line (stretches r) ≡ all)
     (sym c.split_at.ensures.back)
     (line_more c.loop-first.bytes.items c.push_stretch.new.text.items rest first n all

@@ -6,7 +6,7 @@ use Rattle.desktop_definitions.specs.Step.{steps}
 use Rattle.desk_journal.specs.Device.{IsOnlyRead, disk_after}
 use Rattle.desk_journal.proofs.Passing.{at_start, shows_means}
 use Rattle.desk_journal.specs.Opening.{IsOpened}
-use Rattle.store_runs.specs.Run.{MeansSome, events_in, all_counted}
+use Rattle.store_runs.specs.Run.{MeansSome, all_counted, counts_of, events_in}
 use Rattle.store_runs.proofs.Reopening.{same_device, went_on, counts_next, desktop_next}
 use Rattle.store_runs.proofs.Reopening.{after_some, call_more, then_read, call_stops, result_stops}
 use Rattle.store_runs.proofs.run.serve_and_reopen.Goals as goal
@@ -47,8 +47,7 @@ loop-call-preserved g c =
       durable = on.durable;
       device = same_device g.D.Disk _ _ _ i.device on.device;
       calm = on.calm ∙ i.calm;
-      counts = counts_next calls k call room here (first.layout, first.epoch, first.events)
-          (old.layout, old.epoch, old.events) (new.layout, new.epoch, new.events) i.counts on.counts;
+      counts = counts_next calls k call room here (counts_of first) (counts_of old) (counts_of new) i.counts on.counts;
       so_far = λ h. desktop_next calls k call room here first.desktop old.desktop new.desktop (i.so_far h)
           (on.desktop (i.device.still h));
       images = λ h. call_more (g.D.Disk.size first.disk) first.desktop calls g.D.Disk k call _
@@ -89,8 +88,8 @@ returns-clause-ok g c = IfOk-weaker c.open.result _ _ (λ reopened found.
           ∙ ap (λ cs. steps first.desktop (events_in cs)) all;
       counts = λ h.
           let same = c.reopening_law.ensures store reopened (i.device.still h) i.durable opened in
-          (λ j. (same.1 j, same.2 j, same.3 j)) ∙ i.counts
-          ∙ ap (λ cs. all_counted cs (first.layout, first.epoch, first.events)) all;
+          (λ j. record { layout = same.1 j; epoch = same.2 j; events = same.3 j }) ∙ i.counts
+          ∙ ap (λ cs. all_counted cs (counts_of first)) all;
       durable = found.durable;
       settled = λ h. opened.settled (i.device.still h);
       usable = found.usable;

@@ -2,7 +2,7 @@ use Rattle.std.proofs.Common.{◌≡◌, ◌≤◌, length, take, false}
 use Rattle.sector_disk.specs.Trail.{LeavesOnly}
 use Rattle.desktop_definitions.specs.Step.{steps}
 use Rattle.desk_journal.specs.Device.{IsSameDevice}
-use Rattle.store_runs.specs.Run.{MeansSome, events_in, all_counted}
+use Rattle.store_runs.specs.Run.{MeansSome, all_counted, counts_of, events_in}
 use Rattle.desk_journal.specs.View.{IsDurable}
 use Rattle.store_runs.proofs.run.serve_and_reopen.Given as goal
 
@@ -14,8 +14,7 @@ invariant-loop-call g l = record {
   durable : IsDurable g.D.Disk l.store;
   device : IsSameDevice g.D.Disk l.fn.store.disk l.store.disk;
   calm : g.D.Disk.failures l.store.disk ≡ g.D.Disk.failures l.fn.store.disk;
-  counts : (l.store.layout, l.store.epoch, l.store.events)
-      ≡ all_counted (take l.call-index l.calls) (l.fn.store.layout, l.fn.store.epoch, l.fn.store.events);
+  counts : counts_of l.store ≡ all_counted (take l.call-index l.calls) (counts_of l.fn.store);
   so_far : g.D.Disk.honest l.fn.store.disk
       → l.store.desktop ≡ steps l.fn.store.desktop (events_in (take l.call-index l.calls));
   images : g.D.Disk.honest l.fn.store.disk → LeavesOnly (g.D.Disk.trail l.fn.store.disk) (g.D.Disk.trail l.store.disk)

@@ -1,14 +1,14 @@
 use Rattle.std.proofs.Common.{◌≡◌, get_or, []}
 use Rattle.screen_pictures.specs.Screen.{values}
-use Rattle.terminal_painting.specs.Frame.{frame_row, height_of}
+use Rattle.terminal_painting.specs.Scene.{scene_row, height_of}
 use Rattle.terminal_painting.specs.Painting.{IsShown, Leads, rows_changes}
 use Rattle.terminal_painting.proofs.Leading.{IsBetween}
 use Rattle.terminal_painting.proofs.painter.paint_rows.Given as goal
 
 abbrev pub invariant-loop-y : goal.invariant-loop-y
 invariant-loop-y g l = record {
-  rows : l.rows.items ≡ values l.y (frame_row l.frame);
-  led : Leads (rows_changes l.y (λ k. get_or l.olds k []) (frame_row l.frame)) (g.W.Write.contents l.fn.writer)
-      (g.W.Write.contents l.writer) (IsShown (height_of l.frame) l.olds)
-      (IsBetween (height_of l.frame) l.y (frame_row l.frame) (λ k. get_or l.olds k []));
+  rows : l.rows.items ≡ values l.y (scene_row l.scene);
+  led : Leads (rows_changes l.y (λ k. get_or l.olds k []) (scene_row l.scene)) (g.W.Write.contents l.fn.writer)
+      (g.W.Write.contents l.writer) (IsShown (height_of l.scene) l.olds)
+      (IsBetween (height_of l.scene) l.y (scene_row l.scene) (λ k. get_or l.olds k []));
 }

@@ -1,5 +1,4 @@
 use Rattle.std.proofs.Common.{◌≡◌, ◌≤◌}
-use Rattle.piece_ring.specs.Flat.{flat}
 use Rattle.readers_scanners.specs.Reading.{bytes}
 use Rattle.readers_scanners.specs.Walking.{IsAt}
 use Rattle.text_frames.specs.Lines.{line_start}
@@ -9,9 +8,10 @@ abbrev pub invariant-loop-at : goal.invariant-loop-at
 invariant-loop-at g l =
     let s = g.S.CharSource in
     record {
-      way : IsAt s.characters s.failures s.honest s.same_ground l.fn.source l.source (flat l.text) l.reader l.at;
-      range : l.at ≤ l.pos;
+      way : IsAt s.characters s.failures s.honest s.same_ground l.fn.source l.source l.fn.reader.text l.reader l.at;
+      range : l.at ≤ l.fn.reader.position;
       floor : l.low ≤ l.at;
-      exact : s.honest l.fn.source → line_start (bytes (s.characters l.fn.source) (flat l.text)) l.pos
-          ≡ line_start (bytes (s.characters l.fn.source) (flat l.text)) l.at;
+      exact : s.honest l.fn.source
+          → line_start (bytes (s.characters l.fn.source) l.fn.reader.text) l.fn.reader.position
+          ≡ line_start (bytes (s.characters l.fn.source) l.fn.reader.text) l.at;
     }

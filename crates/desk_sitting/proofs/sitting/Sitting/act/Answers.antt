@@ -4,13 +4,13 @@ use Rattle.terminal_presses.specs.declared.action.Action.{Action}
 use Rattle.terminal_presses.specs.declared.action.Action.TheVariants as action
 use Rattle.terminal_presses.specs.declared.press.Arrow.{Arrow}
 use Rattle.desk_sitting.specs.declared.sitting.Sitting.{Sitting}
-use Rattle.desk_sitting.specs.Doing.{desk_of}
-use Rattle.desk_sitting.specs.Sittings.{Desk, acted, acted_alone}
+use Rattle.desk_sitting.specs.Doing.{seat_of}
+use Rattle.desk_sitting.specs.Sittings.{Seat, acted, acted_alone}
 use Rattle.desk_sitting.proofs.Taking.{takes_alone}
 use Rattle.desk_sitting.proofs.sitting.Sitting.act.Goals as goal
 
 -- what posts nothing changes the sitting alone
-alone_is : (a : Action) (d : Desk) → ((event : Event) → a ≢ action.Post event)
+alone_is : (a : Action) (d : Seat) → ((event : Event) → a ≢ action.Post event)
     → ((arrow : Arrow) → a ≢ action.Step arrow) → record d { sitting = acted_alone a d.sitting } ≡ acted a d
 unfolding acted
 alone_is action.Nothing d posts steps = refl
@@ -31,5 +31,5 @@ pub returns-in_default : goal.returns-in_default
 returns-in_default g c =
     let store = c.args.store.now in
     takes_alone g.D.Disk tt _ _ store c.requires
-    (ap (λ (s : Sitting). desk_of s store) c.act_alone.ensures
-    ∙ alone_is c.args.action (desk_of c.args.self.now store) c.in_default.not-Post c.in_default.not-Step)
+    (ap (λ (s : Sitting). seat_of s store) c.act_alone.ensures
+    ∙ alone_is c.args.action (seat_of c.args.self.now store) c.in_default.not-Post c.in_default.not-Step)

@@ -15,9 +15,9 @@ returns c = λ version characters over told.
     ∙ sym c.stale_of.ensures in
     let from = from_seen characters d event ∙ ap (λ e. stale_from e event) (sym c.self.view_is)
     ∙ sym c.stale_from.ensures in
-    c.forget.ensures (text_of (seen characters d)) (text_of (step_in version (seen characters d) event).0)
+    c.forget.ensures (text_of (seen characters d)) (text_of (step_in version (seen characters d) event).desktop)
     (λ n apart. others_stay version (seen characters d) event n (over.whole.sound characters)
     (ap (λ stale. is_stale stale n) named ∙ apart))
-    (λ n. subst (λ k. take k (text_of (step_in version (seen characters d) event).0 n)
+    (λ n. subst (λ k. take k (text_of (step_in version (seen characters d) event).desktop n)
     ≡ take k (text_of (seen characters d) n)) from
     (fronts_stay version (seen characters d) event n (over.whole.sound characters))) told

@@ -3,7 +3,7 @@ use Rattle.std.proofs.lemmas.List.FromFn.{fill_by_all}
 use Rattle.screen_pictures.specs.Screen.{column_at, values}
 use Rattle.terminal_painting.specs.Pen.{blank, face_of}
 use Rattle.terminal_painting.specs.declared.pen.TheConstants.{WHITE}
-use Rattle.terminal_painting.proofs.frame.row_of_cells.Goals as goal
+use Rattle.terminal_painting.proofs.scene.row_of_cells.Goals as goal
 
 pub returns : goal.returns
 unfolding values

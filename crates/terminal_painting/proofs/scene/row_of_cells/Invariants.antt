@@ -2,7 +2,7 @@ use Rattle.std.proofs.Common.{◌≡◌, ◌<◌, ℕ, get_or, length}
 use Rattle.screen_pictures.specs.Screen.{column_at}
 use Rattle.terminal_painting.specs.Pen.{blank, face_of}
 use Rattle.terminal_painting.specs.declared.pen.TheConstants.{WHITE}
-use Rattle.terminal_painting.proofs.frame.row_of_cells.Given as goal
+use Rattle.terminal_painting.proofs.scene.row_of_cells.Given as goal
 
 abbrev pub invariant-loop-x : goal.invariant-loop-x
 invariant-loop-x l = record {

@@ -21,7 +21,7 @@ impl Views {
 
 /// A store, closed and synced, and the line that is to be stopped.
 #[derive(Drop)]
-pub struct Scene {
+pub struct Trial {
     pub name: &'static str,
     pub disk: MemoryDisk,
     pub line: Vec<u8>,
@@ -30,7 +30,7 @@ pub struct Scene {
     pub views: Views,
 }
 
-impl Scene {
+impl Trial {
     /// The line over the store.
     pub fn new(
         alloc: Global,
@@ -38,10 +38,10 @@ impl Scene {
         disk: &MemoryDisk,
         line: &[u8],
         is_long: bool,
-    ) -> Result<Scene, AllocError> {
+    ) -> Result<Trial, AllocError> {
         let before = shown(alloc, disk.crash(alloc, &[])?);
         let after = shown(alloc, after(alloc, disk, line)?);
-        Ok(Scene {
+        Ok(Trial {
             name,
             disk: disk.crash(alloc, &[])?,
             line: line.to_vec(alloc)?,

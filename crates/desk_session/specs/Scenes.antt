@@ -5,26 +5,26 @@ use Rattle.output_bytes.specs.Sent.{AppendsFront}
 use Rattle.viewer_tracks.specs.declared.display.TheConstants.{ROWS}
 use Rattle.screen_pictures.specs.declared.cell.Cell.{Cell}
 use Rattle.terminal_painting.specs.declared.face.Face.{Face}
-use Rattle.terminal_painting.specs.declared.frame.Frame.{Frame}
+use Rattle.terminal_painting.specs.declared.scene.Scene.{Scene}
 use Rattle.terminal_painting.specs.declared.operation.Operation.TheVariants.{Ring}
-use Rattle.terminal_painting.specs.Frame.{frame_rows, line_height, text_of}
+use Rattle.terminal_painting.specs.Scene.{scene_rows, line_height, text_of}
 use Rattle.terminal_painting.specs.Painting.{Paints, PaintsFront}
 use Rattle.terminal_painting.specs.Spelling.{spelled}
 use Rattle.desk_sitting.specs.declared.sitting.Sitting.{Sitting}
 use Rattle.desk_sitting.specs.Sayings.{line_of}
 use Rattle.desk_sitting.specs.Sittings.{looked}
-use Rattle.desk_session.specs.declared.ending.Ending.{Ending}
-use Rattle.desk_session.specs.declared.ending.Ending.TheVariants.{Left, Closed, Input, Output, Fault, Memory}
+use Rattle.desk_session.specs.declared.ending.SittingEnd.{SittingEnd}
+use Rattle.desk_session.specs.declared.ending.SittingEnd.TheVariants.{Left, Closed, Input, Output, Fault, Memory}
 
 -- the rows of the screen that are in sight, and the line below
-pub record IsFrameOf (s : Sitting) (screen : List (List Cell)) (frame : Frame) : Type 0 where
-  pub cells : frame.screen.now ≡ screen
-  pub first : frame.first + s.sight.top + 1 ≡ ROWS
-  pub rows : frame.rows ≡ s.sight.rows
-  pub has_line : line_height frame.below ≡ 1
-  pub line : text_of frame.below ≡ line_of s.hand.asked s.hand.armed s.saying
+pub record IsSceneOf (s : Sitting) (screen : List (List Cell)) (scene : Scene) : Type 0 where
+  pub cells : scene.screen.now ≡ screen
+  pub first : scene.first + s.sight.top + 1 ≡ ROWS
+  pub rows : scene.rows ≡ s.sight.rows
+  pub has_line : line_height scene.below ≡ 1
+  pub line : text_of scene.below ≡ line_of s.hand.asked s.hand.armed s.saying
 
--- what is known of the terminal before the frame is painted
+-- what is known of the terminal before the scene is painted
 abbrev pub known_by : Bool → List (List Face) → List (List Face)
 known_by forgets known = if forgets then [] else known
 
@@ -32,49 +32,49 @@ known_by forgets known = if forgets then [] else known
 abbrev pub size_request : List ℕ
 size_request = 27 ∷ 91 ∷ 49 ∷ 56 ∷ 116 ∷ []
 
--- what the terminal is sent after the frame, which changes nothing of what it shows
+-- what the terminal is sent after the scene, which changes nothing of what it shows
 abbrev pub bell : Bool → List ℕ
 bell rings = if rings then spelled Ring else []
 
 abbrev pub request : Bool → List ℕ
 request asks = if asks then size_request else []
 
-abbrev pub after_frame : Bool → Bool → List ℕ
-after_frame rings asks = bell rings ++ request asks
+abbrev pub after_scene : Bool → Bool → List ℕ
+after_scene rings asks = bell rings ++ request asks
 
--- A writer took what has the terminal show the frame.
+-- A writer took what has the terminal show the scene.
 pub record IsPainted (s : Sitting) (screen : List (List Cell)) (known known' : List (List Face))
     (held held' : Option (List ℕ)) : Type 0 where
-  pub frame : Frame
-  pub is : IsFrameOf s screen frame
-  pub paints : Paints held held' known frame
-  pub rows : known' ≡ frame_rows frame
+  pub scene : Scene
+  pub is : IsSceneOf s screen scene
+  pub paints : Paints held held' known scene
+  pub rows : known' ≡ scene_rows scene
 
 -- It took a front of that.
 pub record IsHalfPainted (s : Sitting) (screen : List (List Cell)) (known : List (List Face))
     (held held' : Option (List ℕ)) : Type 0 where
-  pub frame : Frame
-  pub is : IsFrameOf s screen frame
-  pub front : PaintsFront held held' known frame
+  pub scene : Scene
+  pub is : IsSceneOf s screen scene
+  pub front : PaintsFront held held' known scene
 
--- A writer took the frame, and what is sent after it.
+-- A writer took the scene, and what is sent after it.
 pub record IsShown (s : Sitting) (screen : List (List Cell)) (known known' : List (List Face))
     (held held' : Option (List ℕ)) : Type 0 where
   pub between : Option (List ℕ)
   pub painted : IsPainted (looked screen s) screen (known_by s.forgets known) known' held between
-  pub after : Appends between held' (after_frame s.rings s.asks)
+  pub after : Appends between held' (after_scene s.rings s.asks)
 
 -- It took a front of that.
 pub data IsCutShort (s : Sitting) (screen : List (List Cell)) (known : List (List Face))
     (held held' : Option (List ℕ)) : Type 0 where
-  in_frame : IsHalfPainted (looked screen s) screen (known_by s.forgets known) held held'
+  in_scene : IsHalfPainted (looked screen s) screen (known_by s.forgets known) held held'
       → IsCutShort s screen known held held'
   behind_it : {known' : List (List Face)} {between : Option (List ℕ)}
       → IsPainted (looked screen s) screen (known_by s.forgets known) known' held between
-      → AppendsFront between held' (after_frame s.rings s.asks) → IsCutShort s screen known held held'
+      → AppendsFront between held' (after_scene s.rings s.asks) → IsCutShort s screen known held held'
 
--- Why the frame isn't shown. Where the screen can't be worked out, nothing is sent.
-abbrev pub IsUnshown : Ending → Sitting → List (List Cell) → List (List Face) → Option (List ℕ) → Option (List ℕ)
+-- Why the scene isn't shown. Where the screen can't be worked out, nothing is sent.
+abbrev pub IsUnshown : SittingEnd → Sitting → List (List Cell) → List (List Face) → Option (List ℕ) → Option (List ℕ)
     → Type 0
 IsUnshown Left s screen known held held' = ⊥
 IsUnshown Closed s screen known held held' = ⊥

@@ -1,8 +1,8 @@
 use Rattle.std.proofs.Common.{◌≡◌, ◌<◌, ℕ, get_or, length}
-use Rattle.terminal_painting.specs.Frame.{letter_face}
+use Rattle.terminal_painting.specs.Scene.{letter_face}
 use Rattle.terminal_painting.specs.Pen.{blank}
 use Rattle.terminal_painting.specs.declared.pen.TheConstants.{WHITE}
-use Rattle.terminal_painting.proofs.frame.row_of_text.Given as goal
+use Rattle.terminal_painting.proofs.scene.row_of_text.Given as goal
 
 abbrev pub invariant-loop-x : goal.invariant-loop-x
 invariant-loop-x l = record {

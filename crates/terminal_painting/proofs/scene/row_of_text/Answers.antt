@@ -1,10 +1,10 @@
 use Rattle.std.proofs.Common.{ℕ, rules}
 use Rattle.std.proofs.lemmas.List.FromFn.{fill_by_all}
 use Rattle.screen_pictures.specs.Screen.{values}
-use Rattle.terminal_painting.specs.Frame.{letter_face}
+use Rattle.terminal_painting.specs.Scene.{letter_face}
 use Rattle.terminal_painting.specs.Pen.{blank}
 use Rattle.terminal_painting.specs.declared.pen.TheConstants.{WHITE}
-use Rattle.terminal_painting.proofs.frame.row_of_text.Goals as goal
+use Rattle.terminal_painting.proofs.scene.row_of_text.Goals as goal
 
 pub returns : goal.returns
 unfolding values

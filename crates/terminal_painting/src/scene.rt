@@ -3,9 +3,9 @@ ghost use Rattle.std.specs.Prelude.{◌≡◌, ◌+◌, ◌-◌, ◌<◌, ◌≤
 ghost use Rattle.viewer_tracks.specs.declared.display.TheConstants.{COLUMNS as columns, ROWS as rows};
 ghost use Rattle.screen_pictures.specs.declared.cell.Mark.{Mark as AMark};
 ghost use Rattle.screen_pictures.specs.Screen.{column_at};
-ghost use Rattle.terminal_painting.specs.Frame.{IsCaret, frame_row, height_of, IsInSight};
-ghost use Rattle.terminal_painting.specs.Frame.{row_of_cells, row_of_text, text_of};
-ghost use Rattle.terminal_painting.specs.Frame.{letter_face};
+ghost use Rattle.terminal_painting.specs.Scene.{IsCaret, scene_row, height_of, IsInSight};
+ghost use Rattle.terminal_painting.specs.Scene.{row_of_cells, row_of_text, text_of};
+ghost use Rattle.terminal_painting.specs.Scene.{letter_face};
 
 use crate::face::{Face, WIDTH, sent_byte};
 use crate::pen::{Pen, WHITE};
@@ -20,7 +20,7 @@ pub type Row = [Face; WIDTH];
 /// What a terminal is to show, from the top: the rows of a screen that are in sight, and below them a line of text
 /// where there is room for it.
 #[derive(Clone, Copy)]
-pub struct Frame<'a> {
+pub struct Scene<'a> {
     /// The rows of the screen, from the bottom up.
     pub screen: &'a [[Cell; WIDTH]; HEIGHT],
     /// The number of rows of the screen above those in sight.
@@ -31,7 +31,7 @@ pub struct Frame<'a> {
     pub below: Option<&'a [u8]>,
 }
 
-impl Frame<'_> {
+impl Scene<'_> {
     /// The number of rows that it takes.
     pub fn height(&self) -> u8
         requires { IsInSight self.now }
@@ -45,11 +45,11 @@ impl Frame<'_> {
     }
 
     /// What is to be shown in the row `y` from the top.
-    #[tactic(auto, unfolding(crate::specs::Frame::frame_row))]
+    #[tactic(auto, unfolding(crate::specs::Scene::scene_row))]
     pub(crate) fn row(&self, y: u8) -> Row
         requires in_sight { IsInSight self.now }
         requires within { y < height_of self.now }
-        ensures value { result ≡ frame_row self.now y }
+        ensures value { result ≡ scene_row self.now y }
     {
         if y < self.rows {
             return row_of_cells(&self.screen[usize::from(ROWS - 1 - self.first - y)]);

@@ -8,13 +8,13 @@ use Rattle.screen_pictures.specs.declared.cell.Cell.{Cell}
 use Rattle.screen_pictures.specs.Bytes.{space}
 use Rattle.screen_pictures.specs.Screen.{column_at, row_at, values}
 use Rattle.terminal_painting.specs.declared.face.Face.{Face}
-use Rattle.terminal_painting.specs.declared.frame.Frame.{Frame}
+use Rattle.terminal_painting.specs.declared.scene.Scene.{Scene}
 use Rattle.terminal_painting.specs.declared.pen.TheConstants.{WHITE}
 use Rattle.terminal_painting.specs.Pen.{face_of, plain, sent_byte}
 
 -- the rows in sight are rows of the screen
-abbrev pub IsInSight : Frame → Type 0
-IsInSight frame = frame.first + frame.rows ≤ ROWS
+abbrev pub IsInSight : Scene → Type 0
+IsInSight scene = scene.first + scene.rows ≤ ROWS
 
 -- the text of the line below, and how many rows it takes
 abbrev pub text_of : Option (Bor (List ℕ)) → List ℕ
@@ -25,12 +25,12 @@ abbrev pub line_height : Option (Bor (List ℕ)) → ℕ
 line_height None = 0
 line_height (Some text) = 1
 
-abbrev pub height_of : Frame → ℕ
-height_of frame = frame.rows + line_height frame.below
+abbrev pub height_of : Scene → ℕ
+height_of scene = scene.rows + line_height scene.below
 
 -- the row of the screen that is in sight in this row from the top
-abbrev pub seen_row : Frame → ℕ → List Cell
-seen_row frame y = row_at frame.screen.now (ROWS - 1 - frame.first - y)
+abbrev pub seen_row : Scene → ℕ → List Cell
+seen_row scene y = row_at scene.screen.now (ROWS - 1 - scene.first - y)
 
 -- what a terminal shows for a text at a column
 abbrev pub letter_face : List ℕ → ℕ → Face
@@ -44,17 +44,17 @@ abbrev pub row_of_text : List ℕ → List Face
 row_of_text text = values COLUMNS (letter_face text)
 
 -- its rows, from the top
-unfoldable pub frame_row : Frame → ℕ → List Face
-frame_row frame y =
-    if nat_lt y frame.rows then row_of_cells (seen_row frame y) else row_of_text (text_of frame.below)
+unfoldable pub scene_row : Scene → ℕ → List Face
+scene_row scene y =
+    if nat_lt y scene.rows then row_of_cells (seen_row scene y) else row_of_text (text_of scene.below)
 
-unfoldable pub frame_rows : Frame → List (List Face)
-frame_rows frame = values (height_of frame) (frame_row frame)
+unfoldable pub scene_rows : Scene → List (List Face)
+scene_rows scene = values (height_of scene) (scene_row scene)
 
 -- a cell in sight at which a caret stands, or none where there is none
-abbrev pub HasCaret : Frame → ℕ → ℕ → Type 0
-HasCaret frame x y = (column_at (seen_row frame y) x).mark ≡ Caret
+abbrev pub HasCaret : Scene → ℕ → ℕ → Type 0
+HasCaret scene x y = (column_at (seen_row scene y) x).mark ≡ Caret
 
-abbrev pub IsCaret : Frame → Option (ℕ × ℕ) → Type 0
-IsCaret frame None = (x y : ℕ) → x < COLUMNS → y < frame.rows → HasCaret frame x y → ⊥
-IsCaret frame (Some place) = (place.0 < COLUMNS) × (place.1 < frame.rows) × HasCaret frame place.0 place.1
+abbrev pub IsCaret : Scene → Option (ℕ × ℕ) → Type 0
+IsCaret scene None = (x y : ℕ) → x < COLUMNS → y < scene.rows → HasCaret scene x y → ⊥
+IsCaret scene (Some place) = (place.0 < COLUMNS) × (place.1 < scene.rows) × HasCaret scene place.0 place.1
