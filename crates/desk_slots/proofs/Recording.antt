@@ -8,7 +8,7 @@ use Rattle.sector_disk.proofs.Touching.{spared, weakened, chained, at_last, stil
 use Rattle.event_bytes.specs.declared.event.Event.{Event}
 use Rattle.event_bytes.specs.Spelling.{Begins}
 use Rattle.desktop_definitions.specs.Desktop.{Desktop}
-use Rattle.desktop_definitions.specs.Step.{step, step_in, steps, steps_in}
+use Rattle.desktop_definitions.specs.Step.{step, step_in, steps, steps_in, Outcome}
 use Rattle.store_layout.specs.declared.layout.TheConstants.{JOURNAL_EVENTS, LABEL, LAYOUT, SLOTS}
 use Rattle.store_layout.specs.Bits.{true_or_false}
 use Rattle.store_layout.specs.Layout.{is_open, slot_gate, slot_head, gate, body, image_at, area_at, head}
@@ -253,12 +253,12 @@ module _ {D : Type 0} (d : Ghosts D) {old mid : D} (run : IsConfined d.size d.ho
       read_then after = chained read_only (subst (λ n. LeavesOnly (d.trail mid) (d.trail new)
           (MeansEither n desktop (step desktop event).desktop)) run.as_large
           (subst (λ x. LeavesOnly (d.trail mid) (d.trail new) (MeansEither (d.size mid) desktop x))
-          (ap (λ x. x.0) (in_newest desktop event)) after))
+          (ap (λ (o : Outcome). o.desktop) (in_newest desktop event)) after))
 
       pub kept_after : {desktop' : Desktop} → desktop' ≡ (step desktop event).desktop
           → IsKept (d.size mid) (d.trail new) live LAYOUT number (k + 1) (step_in LAYOUT desktop event).desktop
           → IsKept (d.size old) (d.trail new) live LAYOUT number (k + 1) desktop'
       kept_after is after = subst (λ x. IsKept (d.size old) (d.trail new) live LAYOUT number (k + 1) x)
-          (ap (λ x. x.0) (in_newest desktop event) ∙ sym is)
+          (ap (λ (o : Outcome). o.desktop) (in_newest desktop event) ∙ sym is)
           (subst (λ n. IsKept n (d.trail new) live LAYOUT number (k + 1) (step_in LAYOUT desktop event).desktop)
           run.as_large after)

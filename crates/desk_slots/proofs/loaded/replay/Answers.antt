@@ -3,7 +3,7 @@ use Rattle.std.proofs.lemmas.Result.{err_from_is_err_and}
 use Rattle.event_bytes.specs.declared.event.Event.{Event}
 use Rattle.event_bytes.specs.Spelling.{Begins}
 use Rattle.sector_disk.specs.Trail.{Content, now}
-use Rattle.desktop_definitions.specs.Step.{step_in}
+use Rattle.desktop_definitions.specs.Step.{step_in, Outcome}
 use Rattle.command_table.specs.Versions.{version_number}
 use Rattle.sector_disk.proofs.Touching.{still_all}
 use Rattle.sector_disk.proofs.Confinement as confined
@@ -76,7 +76,7 @@ loop-k-preserved g c =
           c.in-Some.event (i.read honest) (omega (arith, c.loop-k-test.true))
           (subst (λ r. is_open (r (gate c.args.slot k)) ≡ true) same found.0)
           (subst (λ r. Begins (r (body c.args.slot k)) c.in-Some.event) same found.1)
-          (ap (λ x. x.0) (c.in_ok-step-in-Some.ensures.done (c.read_event.ensures.kept.still mid))
+          (ap (λ (o : Outcome). o.desktop) (c.in_ok-step-in-Some.ensures.done (c.read_event.ensures.kept.still mid))
           ∙ ap (λ (r : Content).
           (step_in (version_number c.args.version) (seen_live r c.loop-k.desktop) c.in-Some.event).desktop)
           read);

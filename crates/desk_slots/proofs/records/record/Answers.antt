@@ -7,6 +7,7 @@ use Rattle.store_layout.specs.Meaning.{full_sectors}
 use Rattle.desk_slots.proofs.Recording.{in_newest, kept_then, unrecorded, read_only, read_then, kept_after, head_stays}
 use Rattle.desk_slots.proofs.Staying.{shown_stays, answer_stays, live_stays, apart_record}
 use Rattle.desk_slots.proofs.records.record.Goals as goal
+use Rattle.desktop_definitions.specs.Step.{Outcome}
 
 pub returns-in_err-reply-clause-any_moment : goal.returns-in_err-reply-clause-any_moment
 returns-in_err-reply-clause-any_moment g c = λ honest number kept.
@@ -36,8 +37,8 @@ returns-clause-added g c = λ honest number kept.
     (shown_stays _ _ c.step.new.self (c.add_record.ensures.kept.moments (s.still honest))
     (apart_record c.step.new.self.pages c.step.new.self.area c.args.slot c.args.k live.based c.requires.at.two
     c.requires.at.index)
-    ∙ ap (λ x. x.0) (c.in_ok-reply.ensures.done honest)
-    ∙ ap (λ x. x.0) (in_newest _ c.args.event.now))
+    ∙ ap (λ (o : Outcome). o.desktop) (c.in_ok-reply.ensures.done honest)
+    ∙ ap (λ (o : Outcome). o.desktop) (in_newest _ c.args.event.now))
     (c.in_ok-add_record.ensures.added (s.still honest) _ number _ (kept_then g.D.Disk s honest kept))
 
 pub returns-clause-stepped : goal.returns-clause-stepped

@@ -3,6 +3,7 @@ use Rattle.sector_disk.specs.Trail.{now}
 use Rattle.command_table.specs.Versions.{version_number}
 use Rattle.desktop_definitions.specs.Desktop.{Desktop}
 use Rattle.desktop_definitions.specs.Viewers.{text_of}
+use Rattle.desktop_definitions.specs.Step.{Outcome}
 use Rattle.screen_cells.specs.Lines.{AreLinesOf}
 use Rattle.desk_slots.specs.Live.{characters_of}
 use Rattle.desk_slots.proofs.Settled.{over_all}
@@ -15,7 +16,7 @@ returns-clause-told g c = record {
       let before = c.step_over.ensures.reads.confined.already honest in
       let content = (now (g.D.Disk.trail c.args.disk.now)).reads in
       subst (λ (d : Desktop). AreLinesOf (text_of d) c.forget_stale.new.lines)
-      (sym (ap (λ x. x.0) (c.in_ok-step_over.ensures.done before)))
+      (sym (ap (λ (o : Outcome). o.desktop) (c.in_ok-step_over.ensures.done before)))
       (c.forget_stale.ensures (version_number c.args.version) (characters_of content c.args.self.now)
       (c.requires.live.over content) (c.requires.told.lines before));
 }
