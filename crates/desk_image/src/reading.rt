@@ -503,9 +503,8 @@ fn many_stack<S: ByteSource>(
     version: Version,
     depth: u8,
 ) -> Read<Levels>
-    ensures { ReadsItems S.ByteSource (λ stack. stack_of stack.items) result
-        (level_at (version_number version)) (FitsLevel (version_number version)) overlaid depth 0
-        source.old source.new }
+    ensures { ReadsItems S.ByteSource (λ stack. stack_of stack.items) result (level_at (version_number version))
+        (FitsLevel (version_number version)) overlaid depth 0 source.old source.new }
 {
     let mut stack = Vec::new(alloc);
     let mut least = 0;
@@ -572,8 +571,8 @@ fn raw_closed_from<S: ByteSource>(source: &mut S, version: Version) -> Read<Clos
 /// The viewer that was closed last.
 #[tactic(auto, unfolding(crate::specs::Reading::closed_at))]
 fn one_closed_from<S: ByteSource>(source: &mut S, version: Version) -> Read<ClosedViewer>
-    ensures { ReadsFit S.ByteSource (λ closed. closed) result (closed_at (version_number version)) (FitsClosed (version_number version))
-        source.old source.new }
+    ensures { ReadsFit S.ByteSource (λ closed. closed) result (closed_at (version_number version))
+        (FitsClosed (version_number version)) source.old source.new }
 {
     let closed = raw_closed_from(source, version)?;
     if 0 < closed.top && closed.top <= ROWS {

@@ -29,7 +29,8 @@ returns-clause-told g c =
           ∙ drawn_read _ _ c.args.id c.args.from.0 c.args.from.1 c.args.to.0 c.args.to.1
           c.in_ok-first.first c.in_ok-last.last c.len-len.result (first.exact h)
           (last.exact (first.reads.still h)
-          ∙ ap (λ (l : List ℕ). text_position (seen l (kept c.args.desk.now)) c.args.id c.args.to.0 c.args.to.1) (first.reads.same h))
+          ∙ ap (λ (l : List ℕ). text_position (seen l (kept c.args.desk.now)) c.args.id c.args.to.0 c.args.to.1)
+          (first.reads.same h))
           (c.len-len.ensures ∙ ap (λ (t : List Piece). length (flat t)) c.main_text.ensures);
       reads = read_on _ _ _ _ g.met.S.CharSource.ground_through _ _ _ first.reads last.reads;
       cause = last.cause ∙ first.cause;

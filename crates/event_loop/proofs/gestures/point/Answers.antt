@@ -40,7 +40,8 @@ pub returns-in-Filler : goal.returns-in-Filler
 unfolding pointed
 returns-in-Filler g c =
     does_there g.S.CharSource (version_number c.args.version)
-    (sym c.are_on_display.ensures ∙ c.if-not-are_on_display.false) c.in-Filler.ensures.region (λ x. done_in_filler x c.args.gesture.keys c.args.gesture.from.0 c.args.gesture.from.1) (λ all. refl)
+    (sym c.are_on_display.ensures ∙ c.if-not-are_on_display.false) c.in-Filler.ensures.region
+    (λ x. done_in_filler x c.args.gesture.keys c.args.gesture.from.0 c.args.gesture.from.1) (λ all. refl)
     c.point_filler.ensures.answered (λ h. c.point_filler.ensures.unread) c.point_filler.ensures.uses
 
 pub point_menu-requires-clause-cell : goal.point_menu-requires-clause-cell
@@ -51,14 +52,16 @@ pub returns-in-Menu : goal.returns-in-Menu
 unfolding pointed gesture_brings
 returns-in-Menu g c =
     does_pointed g.S.CharSource (version_number c.args.version)
-    (sym c.are_on_display.ensures ∙ c.if-not-are_on_display.false) c.in-Menu.ensures.region (λ (x : Desktop). done_in_menu (version_number c.args.version) x c.args.gesture.keys c.in-Menu.id
+    (sym c.are_on_display.ensures ∙ c.if-not-are_on_display.false) c.in-Menu.ensures.region
+    (λ (x : Desktop). done_in_menu (version_number c.args.version) x c.args.gesture.keys c.in-Menu.id
     c.args.gesture.to.0 c.args.gesture.to.1) (λ all. refl) refl c.point_menu.ensures
 
 pub returns-in-Bar : goal.returns-in-Bar
 unfolding seen pointed gesture_brings
 returns-in-Bar g c =
     does_pointed g.S.CharSource (version_number c.args.version)
-    (sym c.are_on_display.ensures ∙ c.if-not-are_on_display.false) c.in-Bar.ensures.region (λ (x : Desktop). done_in_bar x c.args.gesture.keys c.in-Bar.id c.frame_row-row.result)
+    (sym c.are_on_display.ensures ∙ c.if-not-are_on_display.false) c.in-Bar.ensures.region
+    (λ (x : Desktop). done_in_bar x c.args.gesture.keys c.in-Bar.id c.frame_row-row.result)
     (λ all. ap (done_in_bar (seen all (kept c.args.desk.now)) c.args.gesture.keys c.in-Bar.id) c.frame_row-row.ensures) refl
     c.point_bar.ensures
 
@@ -66,5 +69,6 @@ pub returns-in-Body : goal.returns-in-Body
 unfolding gesture_brings
 returns-in-Body g c =
     does_pointed g.S.CharSource (version_number c.args.version)
-    (sym c.are_on_display.ensures ∙ c.if-not-are_on_display.false) c.in-Body.ensures.region (λ (x : Desktop). pointed (version_number c.args.version) x (Body c.in-Body.id) c.args.gesture.keys
+    (sym c.are_on_display.ensures ∙ c.if-not-are_on_display.false) c.in-Body.ensures.region
+    (λ (x : Desktop). pointed (version_number c.args.version) x (Body c.in-Body.id) c.args.gesture.keys
     c.args.gesture.from.0 c.args.gesture.from.1 c.args.gesture.to.0 c.args.gesture.to.1) (λ all. refl) refl c.point_text.ensures
