@@ -81,11 +81,18 @@ pub fn refuse<W: AnswerWriter>(writer: &mut W, error: &Error) -> u8
 fn say_refusal<W: AnswerWriter>(writer: &mut W, error: &Error) -> Result<(), OutputFault>
     ensures { Sends result (W.contents writer.old) (W.contents writer.new) (refusal_line error.now) }
 {
-    let line = match error {
+    let line = refusal_bytes(error);
+    send(writer, line.as_slice())
+}
+
+/// The line about a refusal.
+fn refusal_bytes(error: &Error) -> ShortLine
+    ensures { result.items ≡ refusal_line error.now }
+{
+    match error {
         Error::NotAStore => short_line(b"not a store"),
         Error::Damaged(sector) => numbered_line(b"damaged ", *sector),
         Error::NoMemory => short_line(b"memory"),
         _ => short_line(b"fault"),
-    };
-    send(writer, line.as_slice())
+    }
 }
