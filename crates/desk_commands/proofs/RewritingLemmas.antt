@@ -30,7 +30,7 @@ use Rattle.desk_commands.specs.Rewriting.{CanPut, Rewrites}
 
 -- ---- the characters of a piece
 
--- one more of them, which was told truly
+-- one more of them, read as it stands there
 pub piece_on : (old front made made' : List ℕ) (off n byte : ℕ) (look : Look) → made' ≡ made ++ byte ∷ []
     → byte ≡ slice_index old (off + n) → made ≡ front ++ bytes old (run off n look)
     → made' ≡ front ++ bytes old (run off (n + 1) look)

@@ -31,8 +31,8 @@ fn viewer_closed(closed: Option<ClosedViewer>) -> Option<ViewerId>
     closed.map(|closed| ViewerId(closed.viewer))
 }
 
-/// A viewer goes from the display with what is marked in it, and is the closed one with its place. The one that was
-/// closed before is gone, with the texts that nobody else shows.
+/// Takes a viewer from the display, with what is marked in it; it is the closed one then, with its place. The one that
+/// was closed before is gone, with the texts that no other viewer shows.
 pub fn close_viewer<S: CharSource>(desk: &mut Desk, id: u16, source: &mut S) -> StepResult
     requires { IsViewerOnTop (S.characters source.old) (kept desk.old) id }
     ensures { Does S.CharSource (λ d. Ok (put_away d id)) result
@@ -62,8 +62,9 @@ fn place_closed(desk: &Desk, id: u16) -> ClosedViewer
     }
 }
 
-/// The viewer that was closed last opens in its track, up to the row where it ended. One whose whole place it takes is
-/// gone, with the texts that nobody else shows. Refused where there is none.
+/// The viewer that was closed last opens in its track, up to the row where it ended. If it takes the whole
+/// place of another viewer, that one is removed, with the texts that no other viewer shows. Refused where none was
+/// closed.
 pub fn recall_viewer<S: CharSource>(desk: &mut Desk, source: &mut S) -> StepResult
     requires over { IsOver (S.characters source.old) (kept desk.old) }
     ensures { Does S.CharSource (λ d. needs d.closed no_viewer λ k. Ok (brought_back d k)) result

@@ -8,9 +8,14 @@ ghost use Rattle.desk_commands.specs.Words.{bad_value};
 use char_file::CharSource;
 use desk_core::desk::Desk;
 use desk_core::stop::StepResult;
-use desktop_definitions::{COLOURS, FONTS, GREATEST_OFFSET, LEAST_OFFSET, LookChange, Reply, codes};
+use desktop_definitions::{
+    COLOURS, FONTS, GREATEST_OFFSET, LEAST_OFFSET, LookChange, Reply, codes,
+};
 use event_bytes::Name;
 use piece_ring::{DEFAULT_LOOK, Look};
+
+/// What is to be set. None where there is no such look.
+pub type NewLook = Option<LookChange>;
 
 /// The names of the fonts, by their numbers.
 const FONT_NAMES: [&[u8]; FONTS as usize] = [
@@ -22,7 +27,7 @@ const FONT_NAMES: [&[u8]; FONTS as usize] = [
 ];
 
 /// The font of a name. None where there is no such font.
-pub fn font_set(name: &Name) -> Option<LookChange>
+pub fn font_set(name: &Name) -> NewLook
     ensures { result ≡ font_set name.now }
 {
     let name = name.as_bytes();
@@ -37,7 +42,7 @@ pub fn font_set(name: &Name) -> Option<LookChange>
 }
 
 /// The colour of a number. None where there is no such colour.
-pub fn colour_set(number: i32) -> Option<LookChange>
+pub fn colour_set(number: i32) -> NewLook
     ensures { result ≡ colour_set number }
 {
     if number < 0 || number >= i32::from(COLOURS) {
@@ -53,7 +58,7 @@ pub fn colour_set(number: i32) -> Option<LookChange>
 }
 
 /// That vertical offset. None where it is out of range.
-pub fn offset_set(number: i32) -> Option<LookChange>
+pub fn offset_set(number: i32) -> NewLook
     ensures { result ≡ offset_set number }
 {
     if number < i32::from(LEAST_OFFSET) || number > i32::from(GREATEST_OFFSET) {
@@ -69,7 +74,7 @@ pub fn offset_set(number: i32) -> Option<LookChange>
 }
 
 /// What is typed gets a look, in the fields that are set. Refused where none are.
-pub fn set_look<S: CharSource>(desk: &mut Desk, new: Option<LookChange>, source: &mut S) -> StepResult
+pub fn set_look<S: CharSource>(desk: &mut Desk, new: NewLook, source: &mut S) -> StepResult
     requires sets { SetsLook new }
     requires over { IsOver (S.characters source.old) (kept desk.old) }
     ensures { Does S.CharSource (λ d. needs new bad_value λ set. Ok (look_set d set)) result
@@ -84,7 +89,7 @@ pub fn set_look<S: CharSource>(desk: &mut Desk, new: Option<LookChange>, source:
 
 /// The newest selection gets a look, in the fields that are set, and is the newest then too. Refused where none
 /// are, and without a selection. NoMemory where an allocation is refused.
-pub fn change_look<S: CharSource>(desk: &mut Desk, new: Option<LookChange>, source: &mut S) -> StepResult
+pub fn change_look<S: CharSource>(desk: &mut Desk, new: NewLook, source: &mut S) -> StepResult
     requires sets { SetsLook new }
     requires over { IsOver (S.characters source.old) (kept desk.old) }
     ensures { Does S.CharSource (λ d. needs new bad_value (selection_set d)) result

@@ -24,7 +24,7 @@ fn caret_outside(tracks: &Tracks, track: Track, caret: Option<Caret>) -> Option<
     }
 }
 
-/// The selections go that stand in the track that a column shows.
+/// Takes away the selections in the track that a column shows.
 fn unselect(tracks: &Tracks, track: Track, selections: &mut Vec<Selection>)
     ensures { selections.new.items
         ≡ selections_outside (λ v. nat_lt 0 (times_in v (shown tracks.now track))) selections.old.items }

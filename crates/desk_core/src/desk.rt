@@ -1,8 +1,8 @@
 //! What a desktop keeps, and a method for each kind of event.
 //!
 //! The methods that do events stand in the modules beside this one, and go in this order: refusals, the limits, what
-//! may want memory, characters that are added, the change. Each promises the same: what is `settled` of its effect,
-//! where the characters were told truly, and of the desktop, the reply and the source what holds whatever was told.
+//! may want memory, characters that are added, the change. Each promises the same: over an honest source what is
+//! `settled` of its effect, and over any source what holds of the desktop, the reply and the source whatever was read.
 ghost use Rattle.std.specs.Prelude.{◌≡◌, ◌+◌, ◌<◌, ◌≤◌, ℕ, List, [], IfOk};
 ghost use Rattle.desktop_definitions.specs.Desktop.{empty_desktop, held};
 ghost use Rattle.desk_core.specs.Words.{most_held, seen, IsOver, IsKeptWhole, kept};

@@ -24,8 +24,8 @@ impl Desk {
         Ok(Reply::Done)
     }
 
-    /// A viewer is closed and opened at the cell above (`x`, `y`), with what is marked in it. A viewer whose whole
-    /// place it takes is gone, with the texts that nobody else shows.
+    /// A viewer is closed and opened at the cell above (`x`, `y`), with what is marked in it. If it takes the
+    /// whole place of another viewer, that one is removed, with the texts that no other viewer shows.
     pub fn carry<S: CharSource>(&mut self, id: u16, x: u8, y: u8, source: &mut S) -> StepResult
         requires placed { IsOnTop id (kept self.old).columns }
         requires column { x < COLUMNS }
@@ -41,8 +41,8 @@ impl Desk {
         Ok(Reply::Done)
     }
 
-    /// A viewer that stands nowhere opens in the track of column `x`, up to row `y`. One whose whole place it takes is
-    /// gone, with the texts that nobody else shows.
+    /// A viewer that stands nowhere opens in the track of column `x`, up to row `y`. If it takes the whole
+    /// place of another viewer, that one is removed, with the texts that no other viewer shows.
     pub fn open_at(&mut self, id: u16, x: u8, y: u8)
         requires fresh { ¬ IsPlaced id (kept self.old).columns }
         requires column { x < COLUMNS }

@@ -1,4 +1,4 @@
-//! What goes where a viewer goes: its entry, what is marked in it, and the texts that nobody shows any more.
+//! What goes with a viewer: its entry, its marks, and the texts that no other viewer shows.
 ghost use Rattle.std.specs.Prelude.{◌≡◌, ◌==◌, ◌||◌, ◌<◌, ◌^◌, length, Some};
 ghost use Rattle.std.specs.List.{list_any, position_or_len};
 ghost use Rattle.std.specs.Map.{remove_entry};
@@ -107,7 +107,7 @@ impl Desk {
         self.unmark_viewer(id);
     }
 
-    /// The texts go that nobody shows.
+    /// Removes the texts that no viewer shows.
     fn drop_unshown(&mut self)
         ensures { kept self.new ≡ dropped (kept self.old) }
     {
@@ -116,7 +116,7 @@ impl Desk {
             .retain(|number, _| *number == 0 || is_in_sight(viewers, *number));
     }
 
-    /// A viewer that lost its whole place goes, where there is one, and the texts that nobody shows then.
+    /// Removes a viewer that has lost its whole place, where there is one, and the texts that no viewer shows then.
     pub fn let_go(&mut self, gone: Option<ViewerId>)
         ensures { kept self.new ≡ dropped (without_viewer (kept self.old) (id_number gone)) }
     {

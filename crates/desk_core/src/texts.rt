@@ -1,7 +1,7 @@
 //! Changes of texts, which the frames that show them follow.
 //!
-//! Each method says in one word (`IsChanged`) what it makes of the desktop: what the definition says, where the
-//! characters were told truly, and what holds whatever was told.
+//! Each method says in one word (`IsChanged`) what it makes of the desktop: over an honest source what the
+//! definition says, and over any source what holds whatever was read.
 ghost use Rattle.std.specs.Prelude.{◌≡◌, ◌+◌, ◌-◌, ◌<◌, ◌≤◌, ◌^◌, ℕ, List, length, All, IsSome, IfOk, OnOk, ⊤};
 ghost use Rattle.piece_ring.specs.Text.{inserted, deleted, looks_changed};
 ghost use Rattle.desktop_definitions.specs.Looks.{IsLook, AreLooks};

@@ -38,7 +38,7 @@ pub fn position_in(id: u16, caret: Option<Caret>) -> Option<u32>
 }
 
 impl Desk {
-    /// The text in which a word stands that is called.
+    /// The text of a viewer in which a command's word stands: its menu or its main text.
     pub fn text_called(&self, id: u16, in_menu: bool) -> &Text
         requires whole { IsKeptWhole (kept self.now) }
         requires placed { IsOnTop id (kept self.now).columns }

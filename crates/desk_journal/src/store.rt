@@ -136,8 +136,8 @@ impl<D: Disk> Store<D> {
     /// gate and isn't one of this layout, where the image that begins in sector n is none, or where the body in sector
     /// n, under an open gate, begins with no event; `Fault`; `NoMemory`. Memory is taken for the image of the slot in
     /// use and the characters that it has, and for the events of its journal, and for nothing that is read before them:
-    /// a wrong label, closed slots and a bad head are told whatever memory there is. Of the characters in the area only
-    /// those are read that the events of the journal read.
+    /// a wrong label, closed slots and a bad head are told whatever memory there is. Of the characters in the area it
+    /// reads only those that the events of the journal read.
     pub fn open(alloc: Global, disk: D) -> Result<Store<D>, (Error, D)>
         ensures ok { IfOk result (λ store. IsOpened D.Disk disk store) }
         ensures no_store { IfErr result (λ e. IsNoStore D.Disk disk e.0) }

@@ -12,7 +12,7 @@ use Rattle.desktop_definitions.specs.Desktop.{DesktopOf, Desktop}
 use Rattle.desktop_definitions.specs.Viewers.{viewer_of, text_in, newest, main_of, menu_of}
 use Rattle.desktop_definitions.specs.Change.{bytes_of}
 
--- the text in which a word stands that is called
+-- the text of a viewer in which a command's word stands: its menu or its main text
 abbrev pub text_called : {X : Type 0} → DesktopOf (List X) → ℕ → Bool → List X
 text_called d v in_menu = text_in d.texts (if in_menu then (viewer_of d v).menu else (viewer_of d v).main)
 

@@ -15,7 +15,7 @@ pub record IsRest (old new : KeptDesktop) : Type 0 where
   pub viewers : texts_shown new.viewers ≡ texts_shown old.viewers
   pub written : new.written ≡ old.written
 
--- A desktop that is kept among these characters after a part of an event: where they were told truly, it is seen as
+-- A desktop that is kept among these characters after a part of an event: where the source was honest, it is seen as
 -- this outcome; it holds so many characters more and so many fewer.
 pub record IsChanged (honest : Type 0) (characters : List ℕ) (old new : KeptDesktop) (outcome : Desktop)
     (more fewer : ℕ)

@@ -302,7 +302,7 @@ module _ (d : Desktop) (has : HasLooks d) where
       texts_looks (with_new d.texts text)
       (All-values-insert_entry nat_cmp (least_unused (keys_of d.texts)) text AreLooks d.texts has.texts looks)
 
-  -- texts go that nobody shows
+  -- texts that no viewer shows are removed
   pub dropped_looks : HasLooks (dropped d)
   unfolding dropped
   dropped_looks =

@@ -121,10 +121,10 @@ module _ (H : Type 0) (old bytes new : List ℕ) (d : KeptDesktop) (name : List 
     file_exact =
         (λ k. outcome_of (file_read new k) Done)
         ∙ (λ k. outcome_of
-          (filed (seen_grown old bytes new d over grown k) name
-          ((ap (λ (l : List ℕ). seen_text l text) grown ∙ ap (contents (old ++ bytes)) is
-          ∙ new_read old bytes d.written default_look over.counted) k))
-          Done)
+        (filed (seen_grown old bytes new d over grown k) name
+        ((ap (λ (l : List ℕ). seen_text l text) grown ∙ ap (contents (old ++ bytes)) is
+        ∙ new_read old bytes d.written default_look over.counted) k))
+        Done)
         ∙ file_done (seen old d) name bytes (over.whole.sound old).shown (room_seen old)
         (fit old (plain bytes) (length_in_look default_look bytes))
 

@@ -330,7 +330,7 @@ module _ (d : Desktop) (columns : Columns) where
     stay = stay;
   }
 
--- ---- texts go that nobody shows
+-- ---- texts that no viewer shows are removed
 
 or_right : (a b : Bool) → b ≡ true → a || b ≡ true
 or_right true b is = refl

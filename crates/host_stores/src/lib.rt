@@ -1,5 +1,5 @@
-//! Stores in files and in memory, as programs have them. Who calls what speaks of a file has locked it (the crate
-//! `host_files`).
+//! Stores in files and in memory, as programs have them. The caller of a function that takes a path has locked that
+//! file (the crate `host_files`).
 #![tactic(auto)]
 
 ghost use Rattle.std.specs.Prelude.{◌≡◌, IfOk, false};

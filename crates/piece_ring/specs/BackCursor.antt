@@ -1,4 +1,4 @@
--- Where a cursor stands that goes backwards, and what stands before it.
+-- The place of a cursor that goes backwards, and what stands before it.
 use Rattle.std.specs.Prelude.{ℕ, ◌+◌, ◌<◌, ◌^◌, List, ◌++◌, take}
 use denote.RawPtr.{Ptr}
 use Rattle.piece_ring.specs.declared.piece.Piece.{Piece}

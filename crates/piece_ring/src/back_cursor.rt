@@ -50,7 +50,7 @@ impl<'a> BackCursor<'a> {
     }
 }
 
-/// Where a cursor stands that has a character of its front before it: at a seam it goes to the end of the piece before.
+/// The place of a cursor that has a character of its front before it: at a seam it goes to the end of the piece before.
 /// None at the beginning of the ring.
 fn entered(list: &PieceList, before: Seam, front: Piece) -> Option<(Seam, Piece)>
     requires { IsBackCursor list.now.chain.nodes before front }

@@ -105,7 +105,7 @@ unfolding settled
 front_settled k n d (Err code) shown is = refl
 front_settled k n d (Ok new) shown is = elim (fits (dropped new)) as
     (λ b. take k (text_of
-        (let after : Outcome = if b then outcome_of (dropped new) Done else outcome_of d (No full) in after).desktop n)
+    (let after : Outcome = if b then outcome_of (dropped new) Done else outcome_of d (No full) in after).desktop n)
     ≡ take k (text_of d n)) [
       | true ↦ ap (λ (x : Desktop). take k (text_of x n)) (all_stay new (shown_rest d new is.numbers is.viewers shown))
           ∙ is.text

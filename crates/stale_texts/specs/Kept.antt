@@ -323,14 +323,14 @@ module _ (version n : ℕ) (d : Desktop) where
   raw_leaves (File name bytes) apart = provided (has_room d.files name) too_many_files _
       (record { text = refl; numbers = refl; viewers = refl })
 
--- a text stays that a row leaves, where no text was left over before
+-- a text that an effect leaves stays as it is, where each text was shown before
 settled_leaves : (n : ℕ) (d : Desktop) (r : Result Desktop ℕ) → AllShown d → LeavesIn n d r
     → text_of (settled d r).desktop n ≡ text_of d n
 unfolding settled
 settled_leaves n d (Err code) shown is = refl
 settled_leaves n d (Ok new) shown is = elim (fits (dropped new)) as
     (λ b. text_of
-        (let after : Outcome = if b then outcome_of (dropped new) Done else outcome_of d (No full) in after).desktop n
+    (let after : Outcome = if b then outcome_of (dropped new) Done else outcome_of d (No full) in after).desktop n
     ≡ text_of d n) [
       | true ↦ ap (λ (x : Desktop). text_of x n) (all_stay new (shown_rest d new is.numbers is.viewers shown)) ∙ is.text
       | false ↦ refl

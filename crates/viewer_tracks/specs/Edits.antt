@@ -24,7 +24,7 @@ with_height h e = record e { height = h }
 abbrev pub with_viewer : ℕ → Entry → Entry
 with_viewer v e = record e { viewer = v }
 
--- the entry to which a viewer goes that opens at row y, and the row before which it ends there
+-- the entry in which a viewer opens at row y, and the row before which it ends there
 abbrev pub open_entry : List Entry → ℕ → ℕ
 open_entry t y = lowest_reaching t (min y ROWS)
 
@@ -52,7 +52,7 @@ unfoldable pub replaced : List Entry → ℕ → Option ℕ
 replaced t y =
     if takes_place t (open_entry t y) (open_top t y) then entry_viewer t (open_entry t y) else None
 
--- the row to which the border above the viewer i comes that is to be moved to row y
+-- where the border above the viewer i is after a move to row y
 abbrev pub change_top : List Entry → ℕ → ℕ → ℕ
 change_top t i y =
     let z = min y ROWS in

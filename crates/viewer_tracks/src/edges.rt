@@ -110,7 +110,7 @@ pub fn middle_of_tallest(edges: &[Edge]) -> u8
     middle
 }
 
-/// The row to which the top of a viewer comes that is to be moved to `y`.
+/// The row of a viewer's top after a move to `y`.
 #[tactic(auto, using(crate::proofs::Moving::change_tops))]
 pub fn change_top(edges: &[Edge], index: usize, y: u8) -> u8
     requires rising { Rises 0 edges.now }
