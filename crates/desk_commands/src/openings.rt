@@ -185,8 +185,9 @@ fn join(desk: &mut Desk, menu: Text, main: u16, org: u32) -> Result<u16, NoMemor
     Ok(id)
 }
 
-/// A viewer of a new menu and of the text of a number opens in the track of column `x`, up to row `y`. If it
-/// takes the whole place of another viewer, that one is removed, with the texts that no other viewer shows. NoMemory where an allocation is refused.
+/// A viewer of a new menu and of the text of a number opens in the track of column `x`, up to row `y`. If it takes the
+/// whole place of another viewer, that one is removed, with the texts that no other viewer shows. NoMemory where an
+/// allocation is refused.
 pub fn open_on(
     desk: &mut Desk,
     menu: Text,
