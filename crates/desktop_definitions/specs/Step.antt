@@ -39,8 +39,8 @@ outcome_of d r = record { desktop = d; reply = r }
 abbrev pub fits : Desktop → Bool
 fits d = nat_le d.written most_written && nat_le (held d) most_held
 
--- A refusal leaves the desktop. After all else, texts that no viewer shows are removed. The limits on characters come last, and look
--- at the desktop after the event alone.
+-- A refusal leaves the desktop. After all else, texts that no viewer shows are removed. The limits on characters come
+-- last, and look at the desktop after the event alone.
 unfoldable pub settled : Desktop → Result Desktop ℕ → Outcome
 settled d (Err code) = outcome_of d (No code)
 settled d (Ok new) = if fits (dropped new) then outcome_of (dropped new) Done else outcome_of d (No full)
