@@ -1,4 +1,5 @@
-//! The tests of what a store stands on, one module a topic: disks and what fails on them, bytes in sectors, and
+//! The tests of what a store stands on, one module a topic: disks and what fails on them, disks in
+//! files, bytes in sectors, and
 //! characters that stand on a disk.
 //!
 //! They stand in a crate of their own, since a crate with tests is proved twice. What a module tests is what no clause
@@ -7,6 +8,8 @@
 
 #[cfg(test)]
 mod disks;
+#[cfg(test)]
+mod files;
 #[cfg(test)]
 mod paging;
 #[cfg(test)]

@@ -2,6 +2,9 @@ pub mod Trail
 pub mod Confined
 pub mod Memory
 pub mod Sectors
+pub mod FileTrail
+pub mod FileSectors
+pub mod MemoryFile
 pub mod File
 pub mod Failing
 pub mod Faults

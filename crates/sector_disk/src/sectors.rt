@@ -17,7 +17,7 @@ use std::mem;
 
 /// The bytes of a sector that was never written.
 #[tactic(auto, unfolding(crate::specs::Memory::zeros))]
-fn empty_sector() -> Sector
+pub(crate) fn empty_sector() -> Sector
     ensures { result ≡ zeros }
 {
     [0; SECTOR_BYTES as usize]
