@@ -1,5 +1,6 @@
 pub mod Due
 pub mod Storing
+pub mod Brought
 pub mod Passing
 pub mod Prefixes
 mod Between

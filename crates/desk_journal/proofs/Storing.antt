@@ -1,13 +1,14 @@
 -- What a store knows of its disk between two calls, and how it is after them. `d` is what is known of a disk.
-use Rattle.std.proofs.Common.{◌≡◌, ◌+◌, ◌/◌, ◌<◌, ◌≤◌, ℕ, inl, refl, sym, ◌∙◌, ap, subst, arith, true, false}
+use Rattle.std.proofs.Common.{◌≡◌, ◌+◌, ◌/◌, ◌<◌, ◌≤◌, ℕ, inl, inr, refl, sym, ◌∙◌, ap, subst, arith, true, false}
 use Rattle.command_table.specs.declared.version.Version.{Version}
 use Rattle.command_table.specs.declared.version.Version.TheVariants.{V1, V2, V3}
 use Rattle.command_table.specs.Versions.{version_number}
 use Rattle.sector_disk.specs.declared.disk.Disk.{Ghosts}
 use Rattle.sector_disk.specs.Confined.{IsConfined}
-use Rattle.sector_disk.specs.Trail.{Content, now, LeavesOnly, Nowhere}
+use Rattle.sector_disk.specs.Trail.{Content, Trail, now, LeavesOnly, Nowhere}
 use Rattle.sector_disk.proofs.Touching.{weakened, chained, still_all}
 use Rattle.event_bytes.specs.declared.event.Event.{Event}
+use Rattle.desktop_definitions.specs.Desktop.{Desktop}
 use Rattle.desktop_definitions.specs.Step.{step}
 use Rattle.sector_disk.specs.declared.disk.TheConstants.{SECTOR_BYTES}
 use Rattle.store_layout.specs.declared.layout.TheConstants.{FIRST_LAYOUT, JOURNAL_EVENTS, LAYOUT, SLOTS}
@@ -18,7 +19,7 @@ use Rattle.store_layout.specs.Layout.{head}
 use Rattle.store_layout.specs.Meaning.{Means, MeansEither, full_sectors}
 use Rattle.desk_slots.specs.declared.live.LiveDesktop.{LiveDesktop}
 use Rattle.desk_slots.specs.declared.place.SlotPlace.{SlotPlace}
-use Rattle.desk_slots.specs.Written.{GoesOn, IsBeside}
+use Rattle.desk_slots.specs.Written.{GoesOn, IsBeside, KeepsShown, ShowsAnew}
 use Rattle.desk_journal.specs.Checkpointing.{LeavesDesktop, IsRenewed}
 use Rattle.desk_slots.specs.Device.{IsSameDevice}
 use Rattle.desk_slots.specs.Live.{seen_live, IsLive, IsNamed, IsTold, StaysLive}
@@ -33,7 +34,7 @@ known V2 = (omega arith, omega arith)
 known V3 = (omega arith, omega arith)
 
 -- what a store knows of its disk: room, and where it is honest what stands there
-abbrev Knows : {D : Type 0} → Ghosts D → D → ℕ → ℕ → ℕ → ℕ → LiveDesktop → Type 0
+abbrev pub Knows : {D : Type 0} → Ghosts D → D → ℕ → ℕ → ℕ → ℕ → LiveDesktop → Type 0
 Knows d disk slot version epoch events live = (slot < SLOTS) × (events ≤ JOURNAL_EVENTS) × (STORE_SECTORS ≤ d.size disk)
     × IsLive live × IsTold d disk live
     × (d.honest disk → IsKept (d.size disk) (d.trail disk) slot version epoch events
@@ -85,26 +86,49 @@ pub goes_by : {place : SlotPlace} {live : LiveDesktop} → place.area ≡ chosen
     → place.saved ≡ saved_sectors live.pages → GoesOn place live
 goes_by area saved = record { area_is = area; saved_is = saved }
 
+-- What the disk shows stands beside the place where the checkpoint of a desktop goes, whatever that desktop is: its
+-- characters go on where those end that the head names.
+pub beside : {size : ℕ} {disk : Trail} {slot version epoch events : ℕ} {shown : Desktop} (place : SlotPlace)
+    (live : LiveDesktop) → IsKept size disk slot version epoch events shown → IsLive live
+    → IsNamed (now disk).reads slot live → slot + place.slot ≡ 1 → epoch + 1 ≡ place.epoch → GoesOn place live
+    → IsBeside place size disk slot version epoch events shown
+beside {disk = disk} {slot = slot} place live kept is named two next goes = record {
+  two = two;
+  next = next;
+  kept = kept;
+  spares = spared (now disk).reads slot live place is named goes;
+}
+
 -- a checkpoint that is done: the disk shows the desktop by the other slot
 pub renewed_kept : {D : Type 0} (d : Ghosts D) (slot version epoch events : ℕ) (old new : D) (live live' : LiveDesktop)
     (place : SlotPlace) → Knows d old slot version epoch events live → IsSameDevice d old new → slot + place.slot ≡ 1
     → epoch + 1 ≡ place.epoch → GoesOn place live
-    → (d.honest old → (from by number count : ℕ)
-    → IsBeside place (d.size old) (d.trail old) from by number count (seen_live (now (d.trail old)).reads live)
-    → IsKept (d.size old) (d.trail new) place.slot LAYOUT place.epoch 0 (seen_live (now (d.trail new)).reads live'))
+    → ShowsAnew d place old new (seen_live (now (d.trail new)).reads live')
     → d.honest new
     → IsKept (d.size new) (d.trail new) place.slot LAYOUT place.epoch 0 (seen_live (now (d.trail new)).reads live')
 renewed_kept d slot version epoch events old new live live' place was device two next goes renewed honest =
     let before = device.already honest in
     let stood = was.5 before in
     subst (λ n. IsKept n (d.trail new) place.slot LAYOUT place.epoch 0 (seen_live (now (d.trail new)).reads live'))
-    (sym device.as_large) (renewed before slot version epoch events
-    (record {
-      two = two;
-      next = next;
-      kept = stood.0;
-      spares = spared (now (d.trail old)).reads slot live place was.3 stood.1 goes;
-    }))
+    (sym device.as_large)
+    (renewed before slot version epoch events _ (beside place live stood.0 was.3 stood.1 two next goes))
+
+-- where both are the same, either is that
+pub same_either : {size : ℕ} {desktop : Desktop} {old new : Trail} → LeavesOnly old new (MeansEither size desktop desktop)
+    → LeavesOnly old new (Means size desktop)
+same_either run = weakened run (λ c either. elim either [
+  | inl means ↦ means
+  | inr means ↦ means
+])
+
+-- at each moment of a checkpoint, done or not
+pub renewed_moments : {D : Type 0} (d : Ghosts D) (slot version epoch events : ℕ) (old new : D) (live : LiveDesktop)
+    (place : SlotPlace) → Knows d old slot version epoch events live → slot + place.slot ≡ 1
+    → epoch + 1 ≡ place.epoch → GoesOn place live → KeepsShown d place live old new → d.honest old
+    → LeavesOnly (d.trail old) (d.trail new) (Means (d.size old) (seen_live (now (d.trail old)).reads live))
+renewed_moments d slot version epoch events old new live place was two next goes moments honest =
+    let stood = was.5 honest in
+    same_either (moments honest slot version epoch events _ (beside place live stood.0 was.3 stood.1 two next goes))
 
 -- a checkpoint, and then the rest of a post
 module _ {D : Type 0} (d : Ghosts D) (event : Event) (old mid new : StoreView D) (first : LeavesDesktop d old mid)

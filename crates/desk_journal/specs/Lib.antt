@@ -5,6 +5,7 @@ pub mod Session
 pub mod Opening
 pub mod Posting
 pub mod Checkpointing
+pub mod Bringing
 pub mod Looking
 pub mod Migrating
 pub mod Prefixes

@@ -11,6 +11,6 @@
 mod store;
 
 pub use command_table::{NEWEST, Version};
-pub use desk_slots::Error;
+pub use desk_slots::{Document, Error};
 pub use store::{Info, Store};
 pub use store_layout::{JOURNAL_EVENTS, STORE_SECTORS, finding_law, footprint_law, showing_law};

@@ -12,3 +12,4 @@ pub mod Settling
 pub mod Starting
 pub mod Staying
 pub mod Streaming
+pub mod Brought

@@ -1,5 +1,5 @@
 -- The three steps of a checkpoint: the gate of the other slot is closed, the slot is filled, its gate is opened.
-use Rattle.std.proofs.Common.{◌≡◌, inl, inr, ℕ, ◌+◌, ◌*◌, ◌<◌, List, [], length, refl, sym, ◌∙◌, ap, subst}
+use Rattle.std.proofs.Common.{◌≡◌, ◌≢◌, inl, inr, ℕ, ◌+◌, ◌*◌, ◌<◌, List, [], length, refl, sym, ◌∙◌, ap, subst}
 use Rattle.std.proofs.Common.{arith, true, false}
 use Rattle.sector_disk.specs.declared.disk.TheConstants.{SECTOR_BYTES}
 use Rattle.sector_disk.specs.Trail.{Content, Moment, Trail, now, LeavesOnly, Touches, Only}
@@ -7,12 +7,13 @@ use Rattle.sector_disk.proofs.Touching.{spared, still_reads, at_last, read_is_an
 use Rattle.char_pages.specs.Pages.{saved_of}
 use Rattle.desktop_definitions.specs.Desktop.{Desktop}
 use Rattle.desktop_definitions.specs.Seen.{seen}
-use Rattle.store_layout.specs.declared.layout.TheConstants.{LAYOUT, SLOTS}
+use Rattle.store_layout.specs.declared.layout.TheConstants.{LABEL, LAYOUT, SLOTS}
 use Rattle.store_layout.specs.Bits.{true_or_false, clash}
-use Rattle.store_layout.specs.Layout.{is_open, slot_gate, slot_head, area_at, head, head_of}
-use Rattle.store_layout.specs.Meaning.{Standing, Stands, Means, desktop_of, full_sectors}
+use Rattle.store_layout.specs.Layout.{is_open, slot_gate, slot_head, gate, body, image_at, area_at, head, head_of}
+use Rattle.store_layout.specs.Meaning.{Standing, Stands, MeansEither, full_sectors}
 use Rattle.store_layout.specs.Kept.{IsSettled, IsKept, IsFront, HasFront, Spares, OpenGate, InCheckpoint, IsNewSlot}
-use Rattle.store_layout.specs.StandingLaws.{footprint, other_gate, behind_closed, new_slot, either_slot, front_stays}
+use Rattle.store_layout.specs.StandingLaws.{footprint, other_gate, behind_closed, new_slot, front_stays}
+use Rattle.store_layout.specs.StandingLaws.{carried, journal_stays}
 use Rattle.desk_slots.specs.declared.live.LiveDesktop.{LiveDesktop}
 use Rattle.desk_slots.specs.declared.place.SlotPlace.{SlotPlace}
 use Rattle.desk_slots.specs.Live.{characters_of, seen_live, IsLive, IsNamed}
@@ -28,7 +29,25 @@ gate_outside slot area saved low within = elim within [
   | inr a ↦ omega (arith, a.0, low)
 ]
 
-module _ {place : SlotPlace} {size live version number count : ℕ} {desktop : Desktop} {old first : Trail}
+-- where the gate of the other slot stays closed, whatever else becomes of it
+gate_shut : {size : ℕ} (c c' : Content) (s : Standing) (idle : ℕ) → s.slot + idle ≡ 1 → Stands size c s
+    → ((n : ℕ) → n ≢ slot_gate idle → c' n ≡ c n) → is_open (c' (slot_gate idle)) ≡ false → Stands size c' s
+gate_shut c c' s idle two was same shut = carried c c' s was
+    (same LABEL (omega arith))
+    (ap is_open (same (slot_gate s.slot) (omega arith)) ∙ was.live)
+    (same (slot_head s.slot) (omega arith))
+    (λ i is opened. let here : i ≡ idle = omega arith in
+    absurd (clash (subst (λ j. is_open (c' (slot_gate j)) ≡ true) here opened) shut))
+    (λ k within. same (image_at s.slot + k) (omega arith))
+    (λ k within. same (area_at (head c s.slot).area k) (omega arith))
+    (journal_stays s.events c c' s.slot 0 (length s.events) (omega arith)
+    (λ i low high room. same (gate s.slot i) (omega arith))
+    (λ i low high. same (body s.slot i) (omega arith))
+    was.journal)
+
+-- The disk shows one desktop, and another one comes to the place.
+module _ {place : SlotPlace} {size live version number count : ℕ} {desktop : Desktop} (after : Desktop)
+    {old first : Trail}
     (was : IsBeside place size old live version number count desktop)
     (closes : Touches (OpenGate (now old).reads place.slot) old first) where
   abbrev idle : ℕ
@@ -40,8 +59,9 @@ module _ {place : SlotPlace} {size live version number count : ℕ} {desktop : D
   sum : s.slot + idle ≡ 1
   sum = omega (arith, was.two, was.kept.slot)
 
-  as_desktop : {a b : Trail} → LeavesOnly a b (λ c. Stands size c s) → LeavesOnly a b (Means size desktop)
-  as_desktop run = weakened run (λ c stands. (s, stands, was.kept.is))
+  as_desktop : {a b : Trail} → LeavesOnly a b (λ c. Stands size c s)
+      → LeavesOnly a b (MeansEither size desktop after)
+  as_desktop run = weakened run (λ c stands. inl (s, stands, was.kept.is))
 
   closing : LeavesOnly old first (λ c. Stands size c s)
   closing = spared (λ c. Stands size c s) was.kept.settled.quiet closes (λ c same.
@@ -52,7 +72,7 @@ module _ {place : SlotPlace} {size live version number count : ℕ} {desktop : D
             (λ n counts. same n (λ both. absurd (clash both.1 shut)))
       ])
 
-  pub one_step : LeavesOnly old first (Means size desktop)
+  pub one_step : LeavesOnly old first (MeansEither size desktop after)
   one_step = as_desktop closing
 
   -- the head of the slot in use names the same sectors
@@ -74,50 +94,49 @@ module _ {place : SlotPlace} {size live version number count : ℕ} {desktop : D
         behind_closed (now first).reads c s idle place.area place.saved sum after_one.stands closed.is still_spared
         same)
 
-    pub two_steps : LeavesOnly old second (Means size desktop)
+    pub two_steps : LeavesOnly old second (MeansEither size desktop after)
     two_steps = chained one_step (as_desktop filling)
 
     module _ {new : Trail} {characters : List ℕ}
-        (filled : IsFilled (now second) idle LAYOUT place.area place.epoch characters desktop)
+        (filled : IsFilled (now second) idle LAYOUT place.area place.epoch characters after)
         (opens : Touches (Only (slot_gate idle)) second new) where
       stands_still : Stands size (now second).reads s
       stands_still = at_last filling (now second).reads (read_is_an_image (now second))
 
-      still_closed : is_open ((now second).reads (slot_gate idle)) ≡ false
-      still_closed = ap is_open (still_reads first second fills (slot_gate idle)
-          (gate_outside idle place.area place.saved (omega (arith, was.two)))) ∙ closed.is
-
       epoch_is : place.epoch ≡ s.epoch + 1
       epoch_is = omega (arith, was.next, was.kept.epoch)
 
-      fresh_too : IsNewSlot (now second).reads idle LAYOUT (s.epoch + 1) (desktop_of s)
-      fresh_too = subst (IsNewSlot (now second).reads idle LAYOUT (s.epoch + 1)) (sym was.kept.is)
-          (subst (λ n. IsNewSlot (now second).reads idle LAYOUT n desktop) epoch_is filled.new)
+      fresh_too : IsNewSlot (now second).reads idle LAYOUT (s.epoch + 1) after
+      fresh_too = subst (λ n. IsNewSlot (now second).reads idle LAYOUT n after) epoch_is filled.new
 
-      pub three_steps : LeavesOnly old new (Means size desktop)
-      three_steps = chained two_steps (subst (λ d. LeavesOnly second new (Means size d)) was.kept.is
-          (spared (Means size (desktop_of s)) filled.quiet opens (λ c same.
-          either_slot (now second).reads c s idle LAYOUT sum stands_still still_closed fresh_too same)))
+      -- what the slot shows from then on
+      abbrev anew : Standing
+      anew = record { slot = idle; version = LAYOUT; epoch = s.epoch + 1; start = after; events = [] }
 
-      pub now_new : HasGate (now new) idle true → IsKept size new place.slot LAYOUT place.epoch 0 desktop
+      stands_anew : (c : Content) → ((n : ℕ) → n ≢ slot_gate idle → c n ≡ (now second).reads n)
+          → is_open (c (slot_gate idle)) ≡ true → Stands size c anew
+      stands_anew c same opened =
+          new_slot (now second).reads c s idle LAYOUT after sum stands_still fresh_too same opened
+
+      pub three_steps : LeavesOnly old new (MeansEither size desktop after)
+      three_steps = chained two_steps (spared (MeansEither size desktop after) filled.quiet opens (λ c same.
+          elim (true_or_false (is_open (c (slot_gate idle)))) [
+            | inl opened ↦ inr (anew, stands_anew c same opened, refl)
+            | inr shut ↦ inl (s, gate_shut (now second).reads c s idle sum stands_still same shut, was.kept.is)
+          ]))
+
+      pub now_new : HasGate (now new) idle true → IsKept size new place.slot LAYOUT place.epoch 0 after
       now_new opened = record {
-        standing = record {
-          slot = idle;
-          version = LAYOUT;
-          epoch = s.epoch + 1;
-          start = desktop_of s;
-          events = [];
-        };
+        standing = anew;
         settled = record {
           quiet = opened.quiet;
-          stands = new_slot (now second).reads (now new).reads s idle LAYOUT (desktop_of s) sum stands_still fresh_too
-              (λ n other. still_reads second new opens n other) opened.is;
+          stands = stands_anew (now new).reads (λ n other. still_reads second new opens n other) opened.is;
         };
         slot = refl;
         version_is = refl;
         epoch = sym epoch_is;
         events = refl;
-        is = was.kept.is;
+        is = refl;
       }
 
 -- ---- what is written of a desktop

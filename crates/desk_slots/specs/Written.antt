@@ -8,7 +8,7 @@ use Rattle.event_bytes.specs.Spelling.{Begins}
 use Rattle.desktop_definitions.specs.Desktop.{Desktop}
 use Rattle.store_layout.specs.declared.layout.TheConstants.{JOURNAL_EVENTS, LAYOUT, SLOTS, STORE_SECTORS}
 use Rattle.store_layout.specs.Layout.{is_open, slot_gate, gate, body, head}
-use Rattle.store_layout.specs.Meaning.{Means, full_sectors}
+use Rattle.store_layout.specs.Meaning.{MeansEither, full_sectors}
 use Rattle.store_layout.specs.Kept.{NextRecord, InCheckpoint, IsNewSlot, IsKept, IsFront, Spares, chosen_area}
 use Rattle.desk_slots.specs.declared.live.LiveDesktop.{LiveDesktop}
 use Rattle.desk_slots.specs.declared.place.SlotPlace.{SlotPlace}
@@ -67,14 +67,16 @@ pub record CanRenew (size : ℕ) (place : SlotPlace) (desktop : LiveDesktop) : T
   pub live : IsLive desktop
   pub goes : GoesOn place desktop
 
--- At each moment a crash leaves the desktop that the disk shows by the slot beside the place.
+-- At each moment a crash leaves the desktop that the disk shows by the slot beside the place, whatever it is, or this
+-- one, which comes to the place.
 abbrev pub KeepsShown : {D : Type 0} → Ghosts D → SlotPlace → LiveDesktop → D → D → Type 0
-KeepsShown d place desktop old new = d.honest old → (live version number count : ℕ)
-    → IsBeside place (d.size old) (d.trail old) live version number count (seen_live (now (d.trail old)).reads desktop)
-    → LeavesOnly (d.trail old) (d.trail new) (Means (d.size old) (seen_live (now (d.trail old)).reads desktop))
+KeepsShown d place desktop old new = d.honest old → (live version number count : ℕ) (before : Desktop)
+    → IsBeside place (d.size old) (d.trail old) live version number count before
+    → LeavesOnly (d.trail old) (d.trail new)
+    (MeansEither (d.size old) before (seen_live (now (d.trail old)).reads desktop))
 
--- That desktop was shown by the slot beside the place. Now the slot at the place shows this one, in the newest version.
-abbrev pub ShowsAnew : {D : Type 0} → Ghosts D → SlotPlace → LiveDesktop → D → D → Desktop → Type 0
-ShowsAnew d place desktop old new shown = d.honest old → (live version number count : ℕ)
-    → IsBeside place (d.size old) (d.trail old) live version number count (seen_live (now (d.trail old)).reads desktop)
+-- A desktop was shown by the slot beside the place. Now the slot at the place shows this one, in the newest version.
+abbrev pub ShowsAnew : {D : Type 0} → Ghosts D → SlotPlace → D → D → Desktop → Type 0
+ShowsAnew d place old new shown = d.honest old → (live version number count : ℕ) (before : Desktop)
+    → IsBeside place (d.size old) (d.trail old) live version number count before
     → IsKept (d.size old) (d.trail new) place.slot LAYOUT place.epoch 0 shown

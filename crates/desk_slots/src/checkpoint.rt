@@ -200,7 +200,7 @@ fn change_slot<D: Disk>(disk: &mut D, desktop: &LiveDesktop, place: SlotPlace) -
     ensures kept { IsConfined D.size D.honest D.trail (InRenewal place) disk.old disk.new }
     ensures cause { CountsFault result (D.failures disk.old) (D.failures disk.new) }
     ensures any_moment { KeepsShown D.Disk place desktop.now disk.old disk.new }
-    ensures renewed { OnOk result (ShowsAnew D.Disk place desktop.now disk.old disk.new
+    ensures renewed { OnOk result (ShowsAnew D.Disk place disk.old disk.new
         (seen_live (now (D.trail disk.old)).reads desktop.now)) }
     ensures front { OnOk result (D.honest disk.old → IsFront (now (D.trail disk.new)).reads place.slot
         place.area
@@ -226,7 +226,7 @@ pub fn renew<D: Disk>(
     ensures within { StaysWithin D.Disk disk.old disk.new }
     ensures cause { CountsFault result (D.failures disk.old) (D.failures disk.new) }
     ensures any_moment { KeepsShown D.Disk place desktop.old disk.old disk.new }
-    ensures renewed { OnOk result (ShowsAnew D.Disk place desktop.old disk.old disk.new
+    ensures renewed { OnOk result (ShowsAnew D.Disk place disk.old disk.new
         (seen_live (now (D.trail disk.new)).reads desktop.new)) }
     ensures named { OnOk result (D.honest disk.old → IsNamed (now (D.trail disk.new)).reads place.slot desktop.new) }
     ensures shown { OnOk result (D.honest disk.old → seen_live (now (D.trail disk.new)).reads desktop.new

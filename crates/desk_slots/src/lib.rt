@@ -21,6 +21,7 @@ mod slots;
 
 pub use checkpoint::renew;
 pub use error::Error;
+pub use event_loop::Document;
 pub use format::lay_out;
 pub use live::LiveDesktop;
 pub use loaded::{Loaded, load};

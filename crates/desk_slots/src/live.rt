@@ -5,24 +5,25 @@ ghost use Rattle.char_pages.specs.Pages.{base_of, saved_of, saved_sectors, rest_
 ghost use Rattle.command_table.specs.Versions.{version_number, newest_version};
 ghost use Rattle.desktop_definitions.specs.Desktop.{file_of};
 ghost use Rattle.desktop_definitions.specs.Step.{outcome_of};
+ghost use Rattle.desk_bringing.specs.Bringing.{brought_in, BringsUnread};
 ghost use Rattle.desk_image.specs.Image.{image_of, image_bytes, IsSpellable};
 ghost use Rattle.desk_image.specs.Streams.{Puts};
 ghost use Rattle.store_layout.specs.Layout.{area_start};
 ghost use Rattle.store_layout.specs.Kept.{HasFront, chosen_area};
 ghost use Rattle.store_layout.specs.Meaning.{full_sectors};
 ghost use Rattle.desk_slots.specs.Errors.{OfDesktop};
-ghost use Rattle.desk_slots.specs.Live.{characters_of, seen_live, AreTrueOver, IsLive, IsOverPages, IsTold, StaysLive};
+ghost use Rattle.desk_slots.specs.Live.{characters_of, seen_live, AreTrueOver, IsLive, IsNamed, IsOverPages, IsTold, StaysLive};
 ghost use Rattle.piece_ring.specs.Text.{Text as AText};
 ghost use Rattle.screen_cells.specs.Lines.{AreLinesOf};
 ghost use Rattle.desk_slots.specs.Words.{Nowhere, now, IsConfined, FailsAs, No, IsReply, entries_of, shown_screen};
 ghost use Rattle.desk_slots.specs.Words.{step_in, Content, StepsUnread, ListsUnread};
 
 use crate::Error;
-use crate::over::{list_over, read_over, screen_over, step_over};
+use crate::over::{bring_over, list_over, read_over, screen_over, step_over};
 use char_pages::Pages;
 use desk_image::ByteSink;
 use event_bytes::{Event, Name};
-use event_loop::{Desktop, Entry, Reply, Version};
+use event_loop::{Desktop, Document, Entry, Reply, Version};
 use piece_ring::Look;
 use screen_cells::{KeptLines, Screen};
 use sector_disk::{Disk, Fault, SECTOR_BYTES};
@@ -142,6 +143,33 @@ impl LiveDesktop {
             disk,
             &mut self.pages,
         )?)
+    }
+
+    /// Each document becomes the file of its name: then Done. Or none does: then No, and the desktop stays. Nothing is
+    /// written to the disk. The lines that are kept stay, since no text is changed.
+    pub fn bring<D: Disk>(
+        &mut self,
+        alloc: Global,
+        documents: &[Document],
+        disk: &mut D,
+    ) -> Result<Reply, Error>
+        requires live { IsLive self.old }
+        requires room { STORE_SECTORS ≤ D.size disk.old }
+        requires told { IsTold D.Disk disk.old self.old }
+        ensures done { IfOk result
+            (λ reply. D.honest disk.old → outcome_of (seen_live (now (D.trail disk.new)).reads self.new) reply
+            ≡ brought_in (seen_live (now (D.trail disk.old)).reads self.old) documents.now) }
+        ensures unread { IfOk result (BringsUnread self.old.desktop self.new.desktop documents.now) }
+        ensures replies { IfOk result IsReply }
+        ensures refusal { (code : ℕ) → result ≡ Ok (No code) → self.new.desktop ≡ self.old.desktop }
+        ensures live { OnOk result (IsLive self.new) }
+        ensures told { OnOk result (IsTold D.Disk disk.new self.new) }
+        ensures named { (slot : ℕ) → D.honest disk.old → IsNamed (now (D.trail disk.old)).reads slot self.old
+            → IsNamed (now (D.trail disk.new)).reads slot self.new }
+        ensures disk { IsConfined D.size D.honest D.trail Nowhere disk.old disk.new }
+        ensures faults { FailsAs Error.Fault OfDesktop result (D.failures disk.old) (D.failures disk.new) }
+    {
+        Ok(bring_over(alloc, &mut self.desktop, documents, disk, &mut self.pages)?)
     }
 
     /// The characters of the file of that name, with their looks; None where there is none.

@@ -6,6 +6,7 @@ ghost use Rattle.desktop_definitions.specs.Seen.{seen};
 ghost use Rattle.desktop_definitions.specs.Sound.{IsOver};
 ghost use Rattle.desktop_definitions.specs.Viewers.{text_of};
 ghost use Rattle.desktop_definitions.specs.Step.{outcome_of};
+ghost use Rattle.desk_bringing.specs.Bringing.{brought_in, BringsUnread};
 ghost use Rattle.screen_cells.specs.Lines.{AreLinesOf};
 ghost use Rattle.desk_slots.specs.Live.{CanReadThrough, CanStepThrough, ReadsThrough, LooksThrough};
 ghost use Rattle.desk_slots.specs.Words.{Content, now, FailsAs, IsStop, No, IsReply, entries_of, shown_screen, step_in};
@@ -14,7 +15,7 @@ ghost use Rattle.desk_slots.specs.Words.{StepsUnread, ListsUnread, AreWithin, co
 use crate::reading::read_all;
 use char_pages::{Paged, Pages};
 use event_bytes::Event;
-use event_loop::{Desktop, Entry, Reply, Stop, Version};
+use event_loop::{Desktop, Document, Entry, Reply, Stop, Version};
 use piece_ring::Look;
 use screen_cells::{KeptLines, Screen};
 use sector_disk::Disk;
@@ -45,6 +46,29 @@ pub(crate) fn step_over<D: Disk>(
 {
     let mut source = Paged::over(disk, pages);
     desktop.step(version, alloc, event, &mut source)
+}
+
+/// Each document becomes the file of its name, or none does.
+pub(crate) fn bring_over<D: Disk>(
+    alloc: Global,
+    desktop: &mut Desktop,
+    documents: &[Document],
+    disk: &mut D,
+    pages: &mut Pages,
+) -> Result<Reply, Stop>
+    requires { CanStepThrough D.Disk disk.old pages.old desktop.old }
+    ensures done { IfOk result (λ reply. D.honest disk.old
+        → outcome_of (seen (paged_characters (now (D.trail disk.new)).reads pages.new) desktop.new) reply
+        ≡ brought_in (seen (paged_characters (now (D.trail disk.old)).reads pages.old) desktop.old) documents.now) }
+    ensures unread { IfOk result (BringsUnread desktop.old desktop.new documents.now) }
+    ensures replies { IfOk result IsReply }
+    ensures refusal { (code : ℕ) → result ≡ Ok (No code) → desktop.new ≡ desktop.old }
+    ensures over { OnOk result (IsOver (paged_characters (now (D.trail disk.new)).reads pages.new) desktop.new) }
+    ensures reads { ReadsThrough D.Disk disk.old disk.new pages.old pages.new }
+    ensures faults { FailsAs Stop.Fault IsStop result (D.failures disk.old) (D.failures disk.new) }
+{
+    let mut source = Paged::over(disk, pages);
+    desktop.bring(alloc, documents, &mut source)
 }
 
 /// All characters of a text with their looks.

@@ -5,10 +5,11 @@ ghost use Rattle.command_table.specs.Versions.{version_number, newest_version};
 ghost use Rattle.desktop_definitions.specs.declared.reply.Reply.TheVariants.{No};
 ghost use Rattle.desktop_definitions.specs.Desktop.{KeptDesktop, empty_desktop, file_of};
 ghost use Rattle.desktop_definitions.specs.Step.{step_in, outcome_of};
-ghost use Rattle.desktop_definitions.specs.Unread.{StepsUnread, ListsUnread};
+ghost use Rattle.desktop_definitions.specs.Unread.{StepsUnread, ListsUnread, grown};
 ghost use Rattle.desktop_definitions.specs.Outcome.{IsReply, IsUnchanged, IsSameSource};
 ghost use Rattle.desktop_definitions.specs.Listing.{entries_of};
 ghost use Rattle.desktop_definitions.specs.Shown.{shown_screen};
+ghost use Rattle.desk_bringing.specs.Bringing.{all_bytes, brought_in, BringsUnread};
 ghost use Rattle.desk_image.specs.Streams.{Puts, IsImageFault};
 ghost use Rattle.desk_image.specs.Image.{Spells, image_of, image_bytes, IsSpellable};
 ghost use Rattle.desk_image.specs.Passing.{OnlyGets};
@@ -20,6 +21,7 @@ use crate::events::act;
 use crate::stale::{forget, stale_from, stale_of};
 use char_file::{CharSource, Fault};
 use command_table::Version;
+use desk_bringing::{Document, bring};
 use desk_core::desk::{Desk, empty_desk};
 use desk_core::files::{entries, file_of};
 use desk_core::stop::{NoMemory, Stop};
@@ -119,6 +121,35 @@ impl Desktop {
     {
         self.desk.alloc = alloc;
         act(&mut self.desk, version, event, source)
+    }
+
+    /// Each document becomes the file of its name, in their order: then Done. No where there would be more files at the
+    /// end than there may be, or where the desktop would pass the limits on characters; that leaves the desktop and the
+    /// source. No character is read, and the source is only added to.
+    ///
+    /// NoMemory where an allocation is refused. The desktop isn't used again after it.
+    pub fn bring<S: CharSource>(
+        &mut self,
+        alloc: Global,
+        documents: &[Document],
+        source: &mut S,
+    ) -> Result<Reply, Stop>
+        requires { IsOver (S.characters source.old) self.old }
+        ensures done { IfOk result (λ reply. S.honest source.old
+            → outcome_of (seen (S.characters source.new) self.new) reply
+            ≡ brought_in (seen (S.characters source.old) self.old) documents.now) }
+        ensures unread { IfOk result (BringsUnread self.old self.new documents.now) }
+        ensures added { IfOk result (λ reply. S.characters source.new
+            ≡ grown (S.characters source.old) (all_bytes documents.now) reply) }
+        ensures over { OnOk result (IsOver (S.characters source.new) self.new) }
+        ensures replies { IfOk result IsReply }
+        ensures refusal { (code : ℕ) → result ≡ Ok (No code)
+            → IsUnchanged (S.characters source.old) (S.characters source.new) self.old self.new }
+        ensures source { IsSameSource S.failures S.honest S.same_ground source.old source.new }
+        ensures faults { FailsAs Stop.Fault IsStop result (S.failures source.old) (S.failures source.new) }
+    {
+        self.desk.alloc = alloc;
+        bring(&mut self.desk, documents, source)
     }
 
     /// The text of the file of that name. None exactly where there is no file of that name.

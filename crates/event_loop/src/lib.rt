@@ -13,6 +13,7 @@ mod gestures;
 mod stale;
 
 pub use command_table::{NEWEST, Version};
+pub use desk_bringing::Document;
 pub use desk_core::stop::{NoMemory, Stop};
 pub use desk_image::{ByteSink, ByteSource, ImageFault};
 pub use desktop::Desktop;

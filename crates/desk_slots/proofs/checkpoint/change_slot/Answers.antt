@@ -1,31 +1,37 @@
 use Rattle.std.proofs.lemmas.Result.{on_ok_weaker}
+use Rattle.sector_disk.specs.Trail.{now}
+use Rattle.desk_slots.specs.Live.{seen_live}
 use Rattle.desk_slots.proofs.Renewing.{one_step, two_steps, three_steps, now_new, filled_still, front_still}
 use Rattle.desk_slots.proofs.checkpoint.change_slot.Goals as goal
 
 pub returns-in_err-close_slot-clause-any_moment : goal.returns-in_err-close_slot-clause-any_moment
-returns-in_err-close_slot-clause-any_moment g c = λ honest live version number count was.
-    one_step was (c.close_slot.ensures.kept.moments honest)
+returns-in_err-close_slot-clause-any_moment g c = λ honest live version number count before was.
+    let shown = seen_live (now (g.D.Disk.trail c.args.disk.now)).reads c.args.desktop.now in
+    one_step shown was (c.close_slot.ensures.kept.moments honest)
 
 pub returns-in_err-write_slot-clause-any_moment : goal.returns-in_err-write_slot-clause-any_moment
-returns-in_err-write_slot-clause-any_moment g c = λ honest live version number count was.
-    two_steps was (c.close_slot.ensures.kept.moments honest) (c.in_ok-close_slot.ensures.closed honest)
+returns-in_err-write_slot-clause-any_moment g c = λ honest live version number count before was.
+    let shown = seen_live (now (g.D.Disk.trail c.args.disk.now)).reads c.args.desktop.now in
+    two_steps shown was (c.close_slot.ensures.kept.moments honest) (c.in_ok-close_slot.ensures.closed honest)
     (c.write_slot.ensures.kept.moments (c.close_slot.ensures.kept.still honest))
 
 pub returns-clause-any_moment : goal.returns-clause-any_moment
-returns-clause-any_moment g c = λ honest live version number count was.
+returns-clause-any_moment g c = λ honest live version number count before was.
+    let shown = seen_live (now (g.D.Disk.trail c.args.disk.now)).reads c.args.desktop.now in
     let first = c.close_slot.ensures.kept.moments honest in
     let second = c.close_slot.ensures.kept.still honest in
-    three_steps was first (c.in_ok-close_slot.ensures.closed honest) (c.write_slot.ensures.kept.moments second)
+    three_steps shown was first (c.in_ok-close_slot.ensures.closed honest) (c.write_slot.ensures.kept.moments second)
     (filled_still _ _ _ c.args.place.epoch c.args.place c.args.desktop.now c.requires.live first
     (c.in_ok-write_slot.ensures.filled second))
     (c.open_slot.ensures.kept.moments (c.write_slot.ensures.kept.still second))
 
 pub returns-clause-renewed : goal.returns-clause-renewed
-returns-clause-renewed g c = on_ok_weaker c.open_slot.result (λ opened honest live version number count was.
+returns-clause-renewed g c = on_ok_weaker c.open_slot.result (λ opened honest live version number count before was.
+    let shown = seen_live (now (g.D.Disk.trail c.args.disk.now)).reads c.args.desktop.now in
     let first = c.close_slot.ensures.kept.moments honest in
     let second = c.close_slot.ensures.kept.still honest in
     let third = c.write_slot.ensures.kept.still second in
-    now_new was first (c.in_ok-close_slot.ensures.closed honest) (c.write_slot.ensures.kept.moments second)
+    now_new shown was first (c.in_ok-close_slot.ensures.closed honest) (c.write_slot.ensures.kept.moments second)
     (filled_still _ _ _ c.args.place.epoch c.args.place c.args.desktop.now c.requires.live first
     (c.in_ok-write_slot.ensures.filled second))
     (c.open_slot.ensures.kept.moments third) (opened third)) c.open_slot.ensures.opened

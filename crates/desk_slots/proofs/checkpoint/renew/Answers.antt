@@ -14,13 +14,13 @@ settle-requires-clause-place g c = λ some.
     omega (arith, there, c.requires.live.based)
 
 pub returns-clause-renewed : goal.returns-clause-renewed
-returns-clause-renewed g c = λ honest live version number count was.
+returns-clause-renewed g c = λ honest live version number count before was.
     let d = g.D.Disk in
     let after = c.change_slot.new.disk in
     subst (λ x. IsKept (d.size c.args.disk.now) (d.trail after) c.args.place.slot LAYOUT c.args.place.epoch 0 x)
     (sym (shown_settled _ _ c.args.place c.args.desktop.now c.settle.new.self c.requires.live c.requires.goes
     (c.change_slot.ensures.kept.moments honest) (c.in_ok-change_slot.ensures.front honest) c.settle.ensures.desktop
-    c.settle.ensures.same)) (c.in_ok-change_slot.ensures.renewed honest live version number count was)
+    c.settle.ensures.same)) (c.in_ok-change_slot.ensures.renewed honest live version number count before was)
 
 pub returns-clause-named : goal.returns-clause-named
 returns-clause-named g c = λ honest.

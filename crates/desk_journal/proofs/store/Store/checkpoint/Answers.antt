@@ -1,10 +1,11 @@
 use Rattle.std.proofs.Common.{◌+◌, ◌-◌, subst, refl, arith, false}
-use Rattle.sector_disk.specs.Trail.{now}
+use Rattle.sector_disk.specs.Trail.{now, LeavesOnly}
+use Rattle.store_layout.specs.Meaning.{Means}
 use Rattle.store_layout.specs.declared.layout.TheConstants.{LAYOUT}
 use Rattle.command_table.specs.Versions.{version_number}
 use Rattle.desk_slots.specs.Live.{seen_live}
 use Rattle.desk_slots.proofs.Settling.{kept_shows}
-use Rattle.desk_journal.proofs.Storing.{goes_by, renewed_kept}
+use Rattle.desk_journal.proofs.Storing.{goes_by, renewed_kept, renewed_moments}
 use Rattle.desk_journal.specs.Checkpointing.{IsRenewed}
 use Rattle.desk_journal.specs.View.{StoreView}
 use Rattle.desk_journal.proofs.store.Store.checkpoint.Goals as goal
@@ -57,3 +58,27 @@ returns-clause-ok g c =
           (omega (arith, was.0)) refl (goes_by c.next_area.ensures.area c.saved.ensures) r.renewed honest);
       usable = refl;
     })
+
+pub returns-in_err-renew-clause-any_moment : goal.returns-in_err-renew-clause-any_moment
+returns-in_err-renew-clause-any_moment g c = λ usable honest.
+    let s = c.self.inside in
+    let was = c.self.invariant c.if-self.false in
+    let d = g.D.Disk in
+    let after = d.trail c.renew.new.disk in
+    subst (λ old. d.honest old.disk → LeavesOnly (d.trail old.disk) after (Means (d.size old.disk) old.desktop))
+    c.self.view_is
+    (λ first. renewed_moments d s.slot (version_number s.version) s.epoch s.events s.disk c.renew.new.disk s.desktop
+    _ was (omega (arith, was.0)) refl (goes_by c.next_area.ensures.area c.saved.ensures) c.renew.ensures.any_moment
+    first) honest
+
+pub returns-clause-any_moment : goal.returns-clause-any_moment
+returns-clause-any_moment g c = λ usable honest.
+    let s = c.self.inside in
+    let was = c.self.invariant c.if-self.false in
+    let d = g.D.Disk in
+    let after = d.trail c.renew.new.disk in
+    subst (λ old. d.honest old.disk → LeavesOnly (d.trail old.disk) after (Means (d.size old.disk) old.desktop))
+    c.self.view_is
+    (λ first. renewed_moments d s.slot (version_number s.version) s.epoch s.events s.disk c.renew.new.disk s.desktop
+    _ was (omega (arith, was.0)) refl (goes_by c.next_area.ensures.area c.saved.ensures) c.renew.ensures.any_moment
+    first) honest

@@ -1,0 +1,4 @@
+pub mod Bringing
+pub mod Gathered
+pub mod BringingLaws
+pub mod Gathering
