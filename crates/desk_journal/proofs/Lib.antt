@@ -4,3 +4,6 @@ pub mod Brought
 pub mod Passing
 pub mod Prefixes
 mod Between
+pub mod Undoing
+pub mod BackAgain
+pub mod Behind

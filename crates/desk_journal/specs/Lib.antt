@@ -9,3 +9,4 @@ pub mod Bringing
 pub mod Looking
 pub mod Migrating
 pub mod Prefixes
+pub mod Undoing

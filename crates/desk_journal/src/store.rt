@@ -2,7 +2,8 @@
 //!
 //! A clause sees a store as a `StoreView`. What each call promises is said in words, one for an outcome, of
 //! `specs/Opening.antt`, `specs/Posting.antt`, `specs/Checkpointing.antt` and `specs/Looking.antt`.
-ghost use Rattle.std.specs.Prelude.{◌≡◌, ◌<◌, ◌≤◌, ◌↔◌, true, false, Ok, Err, None, IfOk, IfErr, OnOk, IsErrOf};
+ghost use Rattle.std.specs.Prelude.{◌≡◌, ◌<◌, ◌≤◌, ◌↔◌, true, false, Ok, Err, None, IfOk, IfErr, IfSome, IfNone, OnOk};
+ghost use Rattle.std.specs.Prelude.{IsErr, IsErrOf};
 ghost use Rattle.std.specs.Prelude.{option_map, IsTrue};
 ghost use Rattle.desktop_definitions.specs.Desktop.{empty_desktop, file_of};
 ghost use Rattle.desk_slots.specs.Device.{IsOnlyRead, StaysWithin, disk_after, outcome};
@@ -17,12 +18,15 @@ ghost use Rattle.desk_journal.specs.Posting.{LeavesEither, IsAcknowledged, IsSta
 ghost use Rattle.desk_journal.specs.Posting.{Behaves, HasRoom, Needs, TurnsAway};
 ghost use Rattle.desk_journal.specs.Migrating.{ChecksFirst};
 ghost use Rattle.command_table.specs.Versions.{version_number};
+ghost use Rattle.desk_journal.specs.Undoing.{IsAdded, IsEmpty, IsLeft, IsTakenBack, LeavesUndone, OfUndo};
 ghost use Rattle.desk_journal.specs.View.{IsDurable};
 ghost use Rattle.desk_slots.specs.Words.{Leaves, Nowhere, now, IsConfined, FailsAs, entries_of};
 ghost use Rattle.desk_slots.specs.Words.{ListsUnread, shown_screen};
 
 use command_table::{NEWEST, Version};
-use desk_slots::{Document, Error, LiveDesktop, SlotPlace, lay_out, load, record, renew};
+use desk_slots::{
+    Before, Document, Error, LiveDesktop, SlotPlace, lay_out, load, load_before, record, renew, take_back,
+};
 use desktop_definitions::{Entry, Reply};
 use event_bytes::{Event, Name};
 use piece_ring::Look;
@@ -30,7 +34,7 @@ use screen_cells::Screen;
 use sector_disk::{Disk, Fault};
 use std::alloc::Global;
 use std::marker::Model;
-use store_layout::{JOURNAL_EVENTS, LAST_EPOCH, LAYOUT, STORE_SECTORS};
+use store_layout::{JOURNAL_EVENTS, LAST_EPOCH, LAYOUT, STORE_SECTORS, standing_law};
 
 /// What a store says of itself: the version of the slot in use and its epoch, the number of events in its journal, and
 /// how many characters count as written.
@@ -178,6 +182,7 @@ impl<D: Disk> Store<D> {
         ensures behaves { Behaves D.Disk OfPost result self.old self.new }
         ensures first { self.old.must_reopen ≡ false → Needs self.old
             → ChecksFirst D.Disk event.now result self.old self.new }
+        ensures added { OnOk result (IsAdded D.Disk event.now self.old self.new) }
     {
         if self.needs() {
             self.checkpoint()?;
@@ -201,7 +206,9 @@ impl<D: Disk> Store<D> {
         ensures memory { IsErrOf result Error.NoMemory → IsStarved D.Disk self.old self.new }
         ensures fault { IsErrOf result Error.Fault → IsBroken self.new }
         ensures behaves { Behaves D.Disk OfLook result self.old self.new }
+        ensures added { OnOk result (IsAdded D.Disk event.now self.old self.new) }
     {
+        standing_law();
         if self.must_reopen {
             return Err(Error::MustReopen);
         }
@@ -217,6 +224,41 @@ impl<D: Disk> Store<D> {
         self.events += 1;
         self.must_reopen = false;
         Ok(reply)
+    }
+
+    /// Takes the last event back: the disk shows the events before it, and the store their desktop, which is read from
+    /// the disk beside the one in memory before anything is written. It hands back the event. None where the journal
+    /// has no event.
+    ///
+    /// Errors: `MustReopen` after an earlier `NoMemory` or `Fault` of a call that writes; `NoMemory`, and the store
+    /// is in use and shows what it showed; `Fault`, and the same holds, unless it came in the write, after which the
+    /// store must be opened again. Over a disk that isn't honest, those of `open` too.
+    pub fn undo(&mut self, alloc: Global) -> Result<Option<Event>, Error>
+        ensures any_moment { LeavesUndone D.Disk self.old self.new }
+        ensures some { IfOk result (λ undone. IfSome undone (λ event. IsTakenBack D.Disk event self.old self.new)) }
+        ensures none { IfOk result (λ undone. IfNone undone (IsEmpty D.Disk self.old self.new)) }
+        ensures left { IsErr result → self.old.must_reopen ≡ false → self.new.must_reopen ≡ false
+            → IsLeft D.Disk self.old self.new }
+        ensures memory { IsErrOf result Error.NoMemory → self.new.must_reopen ≡ false }
+        ensures stops { D.honest self.old.disk → IfErr result OfLook }
+        ensures behaves { Behaves D.Disk OfUndo result self.old self.new }
+    {
+        standing_law();
+        if self.must_reopen {
+            return Err(Error::MustReopen);
+        }
+        if self.events == 0 {
+            return Ok(None);
+        }
+        let last = self.events - 1;
+        let before = load_before(alloc, &mut self.disk, self.slot, last)?;
+        let Before { desktop, event } = before;
+        self.must_reopen = true;
+        take_back(&mut self.disk, self.slot, last)?;
+        self.desktop = desktop;
+        self.events = last;
+        self.must_reopen = false;
+        Ok(Some(event))
     }
 
     /// Puts the desktop whole into the slot that isn't in use, in the newest version, and makes that the slot in use,

@@ -6,10 +6,12 @@ pub mod Loading
 pub mod NewSlot
 pub mod OneMore
 pub mod Recording
+pub mod TakingBack
 pub mod Renewing
 pub mod Settled
 pub mod Settling
 pub mod Starting
 pub mod Staying
 pub mod Streaming
+pub mod Beside
 pub mod Brought

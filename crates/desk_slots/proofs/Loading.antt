@@ -1,8 +1,8 @@
 -- Reading a slot: its journal, event by event, and what the disk shows then.
-use Rattle.std.proofs.Common.{◌≡◌, ◌⊎◌, inl, inr, ℕ, ◌+◌, ◌<◌, []}
+use Rattle.std.proofs.Common.{◌≡◌, ◌⊎◌, inl, inr, ℕ, zero, suc, ◌+◌, ◌<◌, ◌≤◌, List, [], length, take, drop}
 use Rattle.std.proofs.Common.{◌∷◌, ◌++◌, length-append, append_assoc}
 use Rattle.std.proofs.Common.{refl, sym, ◌∙◌, ap, subst, arith, true, false}
-use Rattle.std.proofs.lemmas.List.{append-nil}
+use Rattle.std.proofs.lemmas.List.{append-nil, take-append-le, take_all}
 use Rattle.std.proofs.lemmas.Bool.{cases_lt, cases_eq}
 use Rattle.std.specs.Prelude.{None}
 use Rattle.command_table.specs.Versions.{version_of}
@@ -11,19 +11,21 @@ use Rattle.sector_disk.proofs.Touching.{still_all, still_settled}
 use Rattle.event_bytes.specs.declared.event.Event.{Event}
 use Rattle.event_bytes.specs.Spelling.{Begins}
 use Rattle.desktop_definitions.specs.Desktop.{Desktop}
-use Rattle.desktop_definitions.specs.Step.{step_in}
+use Rattle.desktop_definitions.specs.Step.{step_in, steps_in}
 use Rattle.store_layout.specs.declared.head.Head.{Head}
 use Rattle.store_layout.specs.declared.layout.TheConstants.{FIRST_LAYOUT, JOURNAL_EVENTS, LAYOUT}
 use Rattle.store_layout.specs.Layout.{is_open, slot_gate, slot_head, gate, body, image_at, head}
 use Rattle.store_layout.specs.Layout.{IsGoodHead}
-use Rattle.store_layout.specs.Meaning.{IsJournal, HasImage, Standing, Stands, Shows, full_sectors}
+use Rattle.store_layout.specs.Bits.{clash}
+use Rattle.store_layout.specs.Meaning.{IsJournal, HasImage, Standing, Stands, Shows, full_sectors, desktop_of, cut_to}
+use Rattle.store_layout.specs.StandingLaws.{one_in_use, stands_in_use, journal_leads}
 use Rattle.store_layout.specs.Footprint.{IsLedTo}
-use Rattle.store_layout.specs.Finding.{IsNoEvent, AreShut, HasBadHead, IsDamage, IsDamagedAt}
+use Rattle.store_layout.specs.Finding.{IsNoEvent, AreShut, HasBadHead, IsDamage, IsDamagedAt, StandingLaw}
 use Rattle.store_layout.specs.Kept.{IsKept}
 use Rattle.char_pages.specs.Pages.{saved_sectors, renewed_of}
 use Rattle.desk_slots.specs.declared.live.LiveDesktop.{LiveDesktop}
 use Rattle.desk_slots.specs.Live.{IsNamed}
-use Rattle.desk_slots.specs.Load.{IsLocated, IsReadTo, IsReadWhole}
+use Rattle.desk_slots.specs.Load.{IsLocated, IsReadTo, IsReadUpTo, IsReadWhole}
 use Rattle.desk_slots.proofs.Recording.{steps_in_on}
 
 -- ---- the journal
@@ -85,6 +87,17 @@ not_read c slot version k from to was room opened none = record {
       was.each;
   none = none;
 }
+
+-- the journal behind its first events
+journal_rest : (events : List Event) (c : Content) (slot k end n : ℕ) → end ≡ k + n → n ≤ length events
+    → IsJournal c slot k events → IsJournal c slot end (drop n events)
+journal_rest [] c slot k end zero is low journal =
+    let here : k ≡ end = omega (arith, is) in subst (λ j. IsJournal c slot j []) here journal
+journal_rest [] c slot k end (suc n) is low journal = absurd (omega (arith, low))
+journal_rest (event ∷ events) c slot k end zero is low journal =
+    let here : k ≡ end = omega (arith, is) in subst (λ j. IsJournal c slot j (event ∷ events)) here journal
+journal_rest (event ∷ events) c slot k end (suc n) is low journal =
+    journal_rest events c slot (k + 1) end n (omega (arith, is)) (omega (arith, low)) journal.3
 
 -- ---- the whole
 
@@ -196,6 +209,71 @@ module _ {size slot : ℕ} {h : Head} {old mid : Trail} (found : IsLocated size 
         events = whole.long;
         is = sym whole.is;
       }
+
+    -- the first events of its journal were read, by the version of its head, so many if there are
+    module _ {version most count : ℕ} {desktop : Desktop} (by_head : h.version ≡ version)
+        (up : IsReadUpTo (now late).reads slot version most count start desktop) (few : count ≤ most)
+        (law : StandingLaw) (s : Standing) (was : Stands size (now old).reads s) (enough : most ≤ length s.events) where
+      pub slot_here : slot ≡ s.slot
+      slot_here = one_in_use (now old).reads slot s.slot found.used (stands_in_use (now old).reads s was)
+
+      up_here : IsReadUpTo (now old).reads slot version most count start desktop
+      up_here = subst (λ c. IsReadUpTo c slot version most count start desktop) same up
+
+      all : count ≡ most
+      all = elim (cases_lt count most) [
+        | inl less ↦ absurd (clash
+            (journal_leads s.events (now old).reads s.slot 0 count was.journal (omega arith)
+            (omega (arith, less, enough)))
+            (subst (λ n. is_open ((now old).reads (gate n count)) ≡ false) slot_here (up_here.ended less)))
+        | inr ge ↦ omega (arith, ge, few)
+      ]
+
+      rest : IsJournal (now old).reads slot count (drop count s.events)
+      rest = subst (λ n. IsJournal (now old).reads n count (drop count s.events)) (sym slot_here)
+          (journal_rest s.events (now old).reads s.slot 0 count count (omega arith) (omega (arith, all, enough))
+          was.journal)
+
+      abbrev read_there : Standing
+      read_there = record {
+        slot = slot;
+        version = version;
+        epoch = h.epoch;
+        start = start;
+        events = up_here.read.events ++ drop count s.events;
+      }
+
+      epoch_there : (head (now old).reads slot).epoch ≡ h.epoch
+      epoch_there = ap (λ x. x.epoch) found.is
+
+      stands_there : Stands size (now old).reads read_there
+      stands_there = record {
+        large = found.large;
+        label = found.label;
+        two = found.used.two;
+        live = found.used.opened;
+        good = found.heads slot found.used.two found.used.opened;
+        version = ap (λ x. x.version) found.is ∙ by_head;
+        epoch = epoch_there;
+        other = λ idle sum opened. (
+          found.heads idle (omega (arith, sum)) opened,
+          subst (λ n. (head (now old).reads idle).epoch < n + idle) epoch_there (found.used.other idle sum opened),
+        );
+        image = image;
+        journal = up_here.read.goes_on (drop count s.events) rest;
+      }
+
+      one : read_there ≡ s
+      one = law size (now old).reads read_there s stands_there was
+
+      first_events : up_here.read.events ≡ take most s.events
+      first_events =
+          sym (take-append-le most up_here.read.events (drop count s.events) (omega (arith, up_here.read.count, all))
+          ∙ take_all most up_here.read.events (omega (arith, up_here.read.count, all)))
+          ∙ ap (λ x. take most x.events) one
+
+      pub cut_shown : desktop ≡ desktop_of (cut_to most s)
+      cut_shown = up_here.read.is ∙ (λ i. steps_in (one i).version (one i).start (first_events i))
 
 -- a good head has a version that there is
 pub known_version : {h : Head} → IsGoodHead h → version_of h.version ≡ None → ⊥

@@ -4,7 +4,7 @@ use Rattle.std.proofs.Common.{length-append, refl, sym, ◌∙◌, ap, subst, ar
 use Rattle.sector_disk.specs.declared.disk.Disk.{Ghosts}
 use Rattle.sector_disk.specs.Confined.{IsConfined}
 use Rattle.sector_disk.specs.Trail.{Content, Trail, now, LeavesOnly, Touches, Only, Nowhere}
-use Rattle.sector_disk.proofs.Touching.{spared, weakened, chained, at_last, still_reads}
+use Rattle.sector_disk.proofs.Touching.{spared, weakened, chained, at_last, still_reads, still_all, still_settled}
 use Rattle.event_bytes.specs.declared.event.Event.{Event}
 use Rattle.event_bytes.specs.Spelling.{Begins}
 use Rattle.desktop_definitions.specs.Desktop.{Desktop}
@@ -16,7 +16,7 @@ use Rattle.store_layout.specs.Meaning.{IsJournal, Standing, desktop_of, Stands, 
 use Rattle.store_layout.specs.Meaning.{and_then}
 use Rattle.store_layout.specs.Kept.{IsSettled, IsKept, NextRecord, IsStaged}
 use Rattle.store_layout.specs.StandingLaws.{IsApart, carried_on, footprint, older_stays}
-use Rattle.desk_slots.specs.Written.{HasRecord, InRecord}
+use Rattle.desk_slots.specs.Written.{HasRecord, InRecord, IsUpTo}
 use Rattle.desk_slots.proofs.Settling.{kept_on, means_on}
 
 -- one event more
@@ -114,7 +114,7 @@ staging size old new s k long room was run = spared (λ c. Stands size c s) was.
 -- ---- the gate
 
 -- all of a standing but the end of its journal stays where only gate k differs
-only_gate : {size : ℕ} (c c' : Content) (s : Standing) (k : ℕ) → k < JOURNAL_EVENTS → Stands size c s
+pub only_gate : {size : ℕ} (c c' : Content) (s : Standing) (k : ℕ) → k < JOURNAL_EVENTS → Stands size c s
     → ((n : ℕ) → n ≢ gate s.slot k → c' n ≡ c n) → (events : List Event) → IsJournal c' s.slot 0 events
     → Stands size c' (record s { events = events })
 only_gate c c' s k room was same events journal = carried_on c c' s events was
@@ -221,6 +221,44 @@ module _ {size : ℕ} {d : Trail} {live version number count : ℕ} {desktop : D
           (subst (λ v. IsKept size new s.slot v s.epoch (count + 1) (step_in v desktop event).desktop) kept.version_is
           (sealed size first new s event count desktop (sym kept.events) room kept.is staged seals_here
           (subst (λ n. is_open ((now new).reads (gate n count)) ≡ true) (sym kept.slot) opened) silent)))
+
+      pub recorded_there : is_open ((now new).reads (gate live count)) ≡ true → ((n : ℕ) → (now new).pending n ≡ false)
+          → IsSettled size new (and_then s event)
+      recorded_there opened silent = record {
+        quiet = silent;
+        stands = is_added (now first).reads (now new).reads s event count (sym kept.events) room
+            staged.settled.stands staged.begins staged.closed (still_reads first new seals_here)
+            (subst (λ n. is_open ((now new).reads (gate n count)) ≡ true) (sym kept.slot) opened);
+      }
+
+-- what a disk shows is kept on it
+abbrev pub kept_of : {size slot k : ℕ} {disk : Trail} {s : Standing} → IsUpTo size disk slot k s
+    → IsKept size disk slot s.version s.epoch k (desktop_of s)
+kept_of {s = s} at = record {
+  standing = s;
+  settled = at.settled;
+  slot = at.slot_is;
+  version_is = refl;
+  epoch = refl;
+  events = at.count;
+  is = refl;
+}
+
+-- after reads too
+pub still_up : {D : Type 0} (d : Ghosts D) {disk disk' : D} {slot k : ℕ} {s : Standing}
+    → IsUpTo (d.size disk) (d.trail disk) slot k s → IsConfined d.size d.honest d.trail Nowhere disk disk'
+    → d.honest disk → IsUpTo (d.size disk') (d.trail disk') slot k s
+still_up d {disk = disk} {disk' = disk'} {s = s} at run honest = record {
+  settled = record {
+    quiet = λ n. still_settled (d.trail disk) (d.trail disk') (run.moments honest) n (λ none. none)
+        (at.settled.quiet n);
+    stands = subst (λ n. Stands n (now (d.trail disk')).reads s) (sym run.as_large)
+        (subst (λ c. Stands (d.size disk) c s) (sym (still_all (d.trail disk) (d.trail disk') (run.moments honest)))
+        at.settled.stands);
+  };
+  slot_is = at.slot_is;
+  count = at.count;
+}
 
 -- the head of the slot is as it was
 pub head_stays : (old new : Trail) (slot k : ℕ) → slot < SLOTS → k < JOURNAL_EVENTS → Touches (InRecord slot k) old new

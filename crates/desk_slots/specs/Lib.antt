@@ -5,3 +5,4 @@ pub mod Stops
 pub mod Live
 pub mod Written
 pub mod Words
+pub mod Beside

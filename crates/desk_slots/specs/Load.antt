@@ -1,6 +1,6 @@
 -- What opening a store has found and read: the slot in use, what it starts from, and how far its journal goes.
 use Rattle.std.specs.Prelude.{◌≡◌, ◌<◌, ◌≤◌, ◌++◌, ℕ, List, length, take, drop}
-use Rattle.std.specs.Prelude.{nat_lt, if◌then◌else◌, Option, Some, None, true}
+use Rattle.std.specs.Prelude.{nat_lt, if◌then◌else◌, Option, Some, None, true, false}
 use Rattle.sector_disk.specs.Trail.{Content}
 use Rattle.event_bytes.specs.declared.event.Event.{Event}
 use Rattle.event_bytes.specs.Spelling.{Begins}
@@ -13,10 +13,12 @@ use Rattle.desk_image.specs.declared.fault.ImageFault.TheVariants.{NoMemory as R
 use Rattle.desk_image.specs.Image.{Spells}
 use Rattle.store_layout.specs.declared.head.Head.{Head}
 use Rattle.store_layout.specs.declared.layout.TheConstants.{LABEL, STORE_SECTORS}
-use Rattle.store_layout.specs.Layout.{is_label, body, image_at, head}
+use Rattle.store_layout.specs.Layout.{is_label, is_open, gate, body, image_at, head}
+use Rattle.desk_slots.specs.Live.{IsNamed, seen_live}
+use Rattle.desk_slots.specs.declared.live.LiveDesktop.{LiveDesktop}
 use Rattle.desk_slots.specs.declared.error.Error.{Error}
 use Rattle.desk_slots.specs.declared.error.Error.TheVariants.{NoMemory, Fault, Damaged}
-use Rattle.store_layout.specs.Meaning.{IsJournal, left_over}
+use Rattle.store_layout.specs.Meaning.{IsJournal, Standing, Stands, desktop_of, cut_to, without_last, and_then, left_over}
 use Rattle.store_layout.specs.Finding.{AreHeadsGood}
 use Rattle.store_layout.specs.Footprint.{IsLedTo, IsInUse}
 
@@ -29,6 +31,11 @@ pub record IsReadTo (c : Content) (slot version k : ℕ) (from to : Desktop) : T
   pub each : (j : ℕ) → j < k → (event : Event) × Begins (c (body slot j)) event
   pub goes_on : (rest : List Event) → IsJournal c slot k rest → IsJournal c slot 0 (events ++ rest)
   pub is : to ≡ steps_in version from events
+
+-- so many of the first events have been read, and there are no more of them, or it was to be no more
+pub record IsReadUpTo (c : Content) (slot version most count : ℕ) (from to : Desktop) : Type 0 where
+  pub read : IsReadTo c slot version count from to
+  pub ended : count < most → is_open (c (gate slot count)) ≡ false
 
 -- the whole journal has been read: it has so many events, and by this version they lead from the one desktop to the
 -- other
@@ -79,3 +86,16 @@ IsChosen (Some first) None chosen = chosen ≡ Some (0, first)
 IsChosen None (Some second) chosen = chosen ≡ Some (1, second)
 IsChosen (Some first) (Some second) chosen =
     chosen ≡ (if nat_lt first.epoch second.epoch then Some (1, second) else Some (0, first))
+
+-- What was loaded shows over the second content what the first one shows by its first events, so many. The head of the
+-- slot in use names what it has in the area.
+abbrev pub IsCutTo : ℕ → Content → ℕ → Content → LiveDesktop → Type 0
+IsCutTo size c most c' live = (s : Standing) → Stands size c s → most ≤ length s.events
+    → (seen_live c' live ≡ desktop_of (cut_to most s)) × IsNamed c' s.slot live
+
+-- This desktop is what the standing shows without its last event, and this is that event. The head of the slot in use
+-- names what it has in the area.
+pub record IsBefore (c : Content) (slot : ℕ) (s : Standing) (live : LiveDesktop) (event : Event) : Type 0 where
+  pub shown : seen_live c live ≡ desktop_of (without_last s)
+  pub named : IsNamed c slot live
+  pub last : s ≡ and_then (without_last s) event

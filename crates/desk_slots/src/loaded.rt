@@ -1,28 +1,31 @@
 //! Opening a disk: the slot in use, the desktop that it starts from, and the events of its journal.
-ghost use Rattle.std.specs.Prelude.{◌≡◌, ◌<◌, ◌≤◌, ◌∷◌, [], ℕ, true, false, OnOk, IfOk, IfSome, IfNone, IsErrOf};
+ghost use Rattle.std.specs.Prelude.{◌≡◌, ◌<◌, ◌≤◌, ◌∷◌, [], ℕ, true, false, OnOk, IfOk, IfErr, IfSome, IfNone, IsErrOf};
 ghost use Rattle.event_bytes.specs.declared.event.Event.{Event};
 ghost use Rattle.event_bytes.specs.Spelling.{Begins};
 ghost use Rattle.char_pages.specs.Pages.{saved_of, renewed_of};
 ghost use Rattle.command_table.specs.Versions.{version_number};
-ghost use Rattle.store_layout.specs.Layout.{is_open, gate, body, IsGoodHead};
+ghost use Rattle.store_layout.specs.Layout.{is_open, gate, body, IsGoodHead, head as head_at};
+ghost use Rattle.desk_slots.specs.Beside.{IsBesideRead, IsLoaded};
 ghost use Rattle.store_layout.specs.Finding.{IsForeign, IsDamagedAt, IsNoEvent};
-ghost use Rattle.store_layout.specs.Meaning.{Shows};
+ghost use Rattle.store_layout.specs.Meaning.{Shows, Standing, and_then, without_last};
 ghost use Rattle.store_layout.specs.Kept.{IsKept};
-ghost use Rattle.desk_slots.specs.Errors.{OfOpen, OfReplay};
+ghost use Rattle.desk_slots.specs.Errors.{OfDesktop, OfOpen, OfReplay};
 ghost use Rattle.desk_slots.specs.Live.{seen_live, IsLive, IsNamed, IsTold};
-ghost use Rattle.desk_slots.specs.Load.{HasSlotInUse, IsReadWhole};
+ghost use Rattle.desk_slots.specs.Load.{HasSlotInUse, IsBefore, IsCutTo, IsReadUpTo, IsReadWhole};
 ghost use Rattle.desk_slots.specs.Words.{Nowhere, now, IsConfined, FailsAs, OneOf};
+ghost use Rattle.desk_slots.specs.Written.{IsInJournal, IsLastAt};
 
 use crate::Error;
 use crate::characters::load_slot;
 use crate::live::LiveDesktop;
-use crate::slots::locate;
-use event_bytes::Event;
+use crate::slots::{locate, read_slot};
+use event_bytes::{Event, at_most_one_begins};
 use event_loop::{NEWEST, Version};
 use sector_disk::{Disk, SECTOR_BYTES};
 use std::alloc::Global;
 use store_layout::{
-    Head, JOURNAL_EVENTS, SLOTS, STORE_SECTORS, body, event_of, gate, is_open_gate,
+    Head, JOURNAL_EVENTS, SLOTS, STORE_SECTORS, body, event_of, finding_law, gate, is_open_gate,
+    standing_law,
 };
 
 /// What was loaded of a disk.
@@ -81,6 +84,46 @@ fn version_of(head: &Head) -> Version
     }
 }
 
+/// Does the first of the journal's events, at most so many, with the commands of that version, and returns how many
+/// were done.
+fn replay_to<D: Disk>(
+    alloc: Global,
+    disk: &mut D,
+    slot: u32,
+    version: Version,
+    desktop: &mut LiveDesktop,
+    most: u32,
+) -> Result<u32, Error>
+    requires room { STORE_SECTORS ≤ D.size disk.old }
+    requires two { slot < SLOTS }
+    requires live { IsLive desktop.old }
+    requires told { IsTold D.Disk disk.old desktop.old }
+    requires limit { most ≤ JOURNAL_EVENTS }
+    ensures kept { IsConfined D.size D.honest D.trail Nowhere disk.old disk.new }
+    ensures faults { FailsAs Error.Fault OfReplay result (D.failures disk.old) (D.failures disk.new) }
+    ensures few { IfOk result (λ count. count ≤ most) }
+    ensures read { IfOk result (λ count. D.honest disk.old → IsReadUpTo (now (D.trail disk.old)).reads slot
+        (version_number version) most count (seen_live (now (D.trail disk.old)).reads desktop.old)
+        (seen_live (now (D.trail disk.new)).reads desktop.new)) }
+    ensures live { OnOk result (IsLive desktop.new) }
+    ensures told { OnOk result (IsTold D.Disk disk.new desktop.new) }
+    ensures area { OnOk result (desktop.new.area ≡ desktop.old.area) }
+    ensures counted { OnOk result (renewed_of desktop.new.pages ≡ false
+        → saved_of desktop.new.pages ≡ saved_of desktop.old.pages) }
+    ensures damaged { (n : ℕ) → IsErrOf result (Error.Damaged n) → D.honest disk.old
+        → (k : ℕ) × (n ≡ body slot k) × IsNoEvent (now (D.trail disk.old)).reads slot k }
+{
+    for k in 0..most {
+        match read_event(disk, slot, k)? {
+            Some(event) => {
+                let _ = desktop.step(version, alloc, &event, disk)?;
+            }
+            None => return Ok(k),
+        }
+    }
+    Ok(most)
+}
+
 /// Does the journal's events, with the commands of that version, and returns how many there are.
 fn replay<D: Disk>(
     alloc: Global,
@@ -107,15 +150,7 @@ fn replay<D: Disk>(
     ensures damaged { (n : ℕ) → IsErrOf result (Error.Damaged n) → D.honest disk.old
         → (k : ℕ) × (n ≡ body slot k) × IsNoEvent (now (D.trail disk.old)).reads slot k }
 {
-    for k in 0..JOURNAL_EVENTS {
-        match read_event(disk, slot, k)? {
-            Some(event) => {
-                let _ = desktop.step(version, alloc, &event, disk)?;
-            }
-            None => return Ok(k),
-        }
-    }
-    Ok(JOURNAL_EVENTS)
+    replay_to(alloc, disk, slot, version, desktop, JOURNAL_EVENTS)
 }
 
 /// Reads what the disk shows.
@@ -153,4 +188,125 @@ pub fn load<D: Disk>(alloc: Global, disk: &mut D) -> Result<Loaded, Error>
         epoch: head.epoch,
         events,
     })
+}
+
+/// Reads the desktop that the disk shows without the events behind the first of its journal, so many.
+pub fn load_front<D: Disk>(alloc: Global, disk: &mut D, most: u32) -> Result<LiveDesktop, Error>
+    requires { most ≤ JOURNAL_EVENTS }
+    ensures kept { IsConfined D.size D.honest D.trail Nowhere disk.old disk.new }
+    ensures faults { FailsAs Error.Fault OfOpen result (D.failures disk.old) (D.failures disk.new) }
+    ensures live { IfOk result IsLive }
+    ensures told { IfOk result (IsTold D.Disk disk.new) }
+    ensures shown { IfOk result (λ x. D.honest disk.old → IsCutTo (D.size disk.old) (now (D.trail disk.old)).reads most
+        (now (D.trail disk.new)).reads x) }
+    ensures foreign { IsErrOf result Error.NotAStore → D.honest disk.old
+        → IsForeign (D.size disk.old) (now (D.trail disk.old)).reads }
+    ensures damaged { (n : ℕ) → IsErrOf result (Error.Damaged n) → D.honest disk.old
+        → IsDamagedAt (D.size disk.old) (now (D.trail disk.old)).reads n }
+{
+    let (slot, head) = locate(disk)?;
+    let version = version_of(&head);
+    let mut desktop = load_slot(alloc, disk, slot, version, &head)?;
+    let _ = replay_to(alloc, disk, slot, version, &mut desktop, most)?;
+    standing_law();
+    Ok(desktop)
+}
+
+/// The event under gate k, the last one.
+fn event_at<D: Disk>(disk: &mut D, slot: u32, k: u32) -> Result<Event, Error>
+    requires { IsInJournal (D.size disk.old) slot k }
+    ensures kept { IsConfined D.size D.honest D.trail Nowhere disk.old disk.new }
+    ensures faults { FailsAs Error.Fault OfReplay result (D.failures disk.old) (D.failures disk.new) }
+    ensures last { IfOk result (λ event. D.honest disk.old → (s : Standing)
+        → IsLastAt (D.size disk.old) (D.trail disk.old) slot k s → s ≡ and_then (without_last s) event) }
+    ensures damaged { (n : ℕ) → IsErrOf result (Error.Damaged n) → D.honest disk.old → (s : Standing)
+        → IsLastAt (D.size disk.old) (D.trail disk.old) slot k s → ⊥ }
+{
+    at_most_one_begins();
+    match read_event(disk, slot, k)? {
+        Some(event) => Ok(event),
+        None => Err(Error::Damaged(gate(slot, k))),
+    }
+}
+
+/// What a store was before the last event of its journal.
+#[derive(Drop)]
+pub struct Before {
+    /// The desktop without the event.
+    pub desktop: LiveDesktop,
+    pub event: Event,
+}
+
+/// Reads what the disk shows without event k of the slot in use, the last one, and that event.
+pub fn load_before<D: Disk>(alloc: Global, disk: &mut D, slot: u32, k: u32) -> Result<Before, Error>
+    requires { IsInJournal (D.size disk.old) slot k }
+    ensures kept { IsConfined D.size D.honest D.trail Nowhere disk.old disk.new }
+    ensures faults { FailsAs Error.Fault OfOpen result (D.failures disk.old) (D.failures disk.new) }
+    ensures live { IfOk result (λ x. IsLive x.desktop) }
+    ensures told { IfOk result (λ x. IsTold D.Disk disk.new x.desktop) }
+    ensures shown { IfOk result (λ x. D.honest disk.old → (s : Standing)
+        → IsLastAt (D.size disk.old) (D.trail disk.old) slot k s
+        → IsBefore (now (D.trail disk.new)).reads slot s x.desktop x.event) }
+    ensures stops { D.honest disk.old → (s : Standing) → IsLastAt (D.size disk.old) (D.trail disk.old) slot k s
+        → IfErr result OfDesktop }
+{
+    finding_law();
+    let desktop = load_front(alloc, disk, k)?;
+    let event = event_at(disk, slot, k)?;
+    Ok(Before { desktop, event })
+}
+
+/// Reads the desktop and the journal of a slot of this head.
+fn load_of<D: Disk>(alloc: Global, disk: &mut D, slot: u32, head: &Head) -> Result<Loaded, Error>
+    requires room { STORE_SECTORS ≤ D.size disk.old }
+    requires two { slot < SLOTS }
+    requires good { IsGoodHead head.now }
+    ensures kept { IsConfined D.size D.honest D.trail Nowhere disk.old disk.new }
+    ensures faults { FailsAs Error.Fault OfReplay result (D.failures disk.old) (D.failures disk.new) }
+    ensures few { IfOk result (λ x. x.events ≤ JOURNAL_EVENTS) }
+    ensures live { IfOk result (λ x. IsLive x.desktop) }
+    ensures told { IfOk result (λ x. IsTold D.Disk disk.new x.desktop) }
+    ensures shown { IfOk result (λ x. D.honest disk.old → head_at (now (D.trail disk.old)).reads slot ≡ head.now
+        → IsLoaded (now (D.trail disk.old)).reads slot head.now.version x.events (now (D.trail disk.new)).reads
+        x.desktop) }
+{
+    let version = version_of(head);
+    let mut desktop = load_slot(alloc, disk, slot, version, head)?;
+    let count = replay(alloc, disk, slot, version, &mut desktop)?;
+    Ok(Loaded {
+        desktop,
+        slot,
+        version,
+        epoch: head.epoch,
+        events: count,
+    })
+}
+
+/// Reads what the slot beside this one shows, if it is open under the epoch before.
+pub fn load_beside<D: Disk>(
+    alloc: Global,
+    disk: &mut D,
+    slot: u32,
+    epoch: u32,
+) -> Result<Option<Loaded>, Error>
+    requires room { STORE_SECTORS ≤ D.size disk.old }
+    requires two { slot < SLOTS }
+    requires later { 1 ≤ epoch }
+    ensures kept { IsConfined D.size D.honest D.trail Nowhere disk.old disk.new }
+    ensures few { IfOk result (λ found. IfSome found (λ x. x.events ≤ JOURNAL_EVENTS)) }
+    ensures live { IfOk result (λ found. IfSome found (λ x. IsLive x.desktop)) }
+    ensures told { IfOk result (λ found. IfSome found (λ x. IsTold D.Disk disk.new x.desktop)) }
+    ensures shown { IfOk result (λ found. IfSome found (λ x. D.honest disk.old
+        → IsBesideRead (now (D.trail disk.old)).reads slot epoch x.events (now (D.trail disk.new)).reads x.desktop)) }
+{
+    match read_slot(disk, 1 - slot)? {
+        None => Ok(None),
+        Some(head) => {
+            if head.epoch != epoch - 1 {
+                return Ok(None);
+            }
+            let loaded = load_of(alloc, disk, 1 - slot, &head)?;
+            Ok(Some(loaded))
+        }
+    }
 }

@@ -3,14 +3,14 @@ ghost use Rattle.std.specs.Prelude.{◌≡◌, ◌+◌, ◌<◌, ◌≤◌, true
 ghost use Rattle.desktop_definitions.specs.Desktop.{Desktop};
 ghost use Rattle.desktop_definitions.specs.Step.{outcome_of};
 ghost use Rattle.store_layout.specs.Layout.{is_open, gate, body};
-ghost use Rattle.store_layout.specs.Meaning.{Means, MeansEither};
-ghost use Rattle.store_layout.specs.Kept.{NextRecord, IsKept};
+ghost use Rattle.store_layout.specs.Meaning.{Means, MeansEither, Standing, StandsEither, and_then, without_last};
+ghost use Rattle.store_layout.specs.Kept.{NextRecord, IsKept, IsSettled};
 ghost use Rattle.desk_slots.specs.Device.{IsSameDevice, StaysWithin};
 ghost use Rattle.desk_slots.specs.Errors.{OfDesktop};
 ghost use Rattle.desk_slots.specs.Live.{seen_live, IsLive, IsNamed, IsTold};
 ghost use Rattle.desk_slots.specs.Words.{LeavesOnly, Only, CountsFault, now, IsConfined, FailsAs, No, IsReply, step};
 ghost use Rattle.desk_slots.specs.Words.{step_in, StepsUnread};
-ghost use Rattle.desk_slots.specs.Written.{HasRecord, InRecord, IsInJournal};
+ghost use Rattle.desk_slots.specs.Written.{HasRecord, InRecord, IsInJournal, IsLastAt, IsUpTo};
 
 use crate::Error;
 use crate::live::LiveDesktop;
@@ -76,6 +76,9 @@ fn add_record<D: Disk>(disk: &mut D, slot: u32, k: u32, event: &Event) -> Result
         → IsKept (D.size disk.old) (D.trail disk.old) slot version number k desktop
         → IsKept (D.size disk.old) (D.trail disk.new) slot version number (k + 1)
         (step_in version desktop event.now).desktop) }
+    ensures behind { OnOk result (D.honest disk.old → (s : Standing)
+        → IsUpTo (D.size disk.old) (D.trail disk.old) slot k s
+        → IsSettled (D.size disk.old) (D.trail disk.new) (and_then s event.now)) }
 {
     stage(disk, slot, k, event)?;
     seal(disk, slot, k)?;
@@ -111,6 +114,9 @@ pub fn record<D: Disk>(
         (seen_live (now (D.trail disk.old)).reads desktop.old)
         → IsKept (D.size disk.old) (D.trail disk.new) slot LAYOUT number (k + 1)
         (seen_live (now (D.trail disk.new)).reads desktop.new)) }
+    ensures behind { OnOk result (D.honest disk.old → (s : Standing)
+        → IsUpTo (D.size disk.old) (D.trail disk.old) slot k s
+        → IsSettled (D.size disk.old) (D.trail disk.new) (and_then s event.now)) }
     ensures stepped { IfOk result
         (λ reply. D.honest disk.old → outcome_of (seen_live (now (D.trail disk.new)).reads desktop.new) reply
         ≡ step (seen_live (now (D.trail disk.old)).reads desktop.old) event.now) }
@@ -129,4 +135,35 @@ pub fn record<D: Disk>(
     let reply = desktop.step(NEWEST, alloc, event, disk)?;
     add_record(disk, slot, k, event)?;
     Ok(reply)
+}
+
+/// Closes gate k.
+fn shut<D: Disk>(disk: &mut D, slot: u32, k: u32) -> Result<(), Fault>
+    requires { IsInJournal (D.size disk.old) slot k }
+    ensures kept { IsConfined D.size D.honest D.trail (Only (gate slot k)) disk.old disk.new }
+    ensures cause { CountsFault result (D.failures disk.old) (D.failures disk.new) }
+    ensures closed { OnOk result (D.honest disk.old → is_open ((now (D.trail disk.new)).reads (gate slot k)) ≡ false) }
+    ensures quiet { OnOk result (D.honest disk.old → (n : ℕ) → (now (D.trail disk.new)).pending n ≡ false) }
+{
+    disk.write(gate(slot, k), &closed_gate())?;
+    disk.sync()?; // the closed gate, before the event counts as taken back
+    Ok(())
+}
+
+/// Takes event k, the last one, out of the journal. Until the sync the gate may hold anything: open, the disk shows the
+/// events with it; closed, without it.
+pub fn take_back<D: Disk>(disk: &mut D, slot: u32, k: u32) -> Result<(), Fault>
+    requires { IsInJournal (D.size disk.old) slot k }
+    ensures kept { IsConfined D.size D.honest D.trail (Only (gate slot k)) disk.old disk.new }
+    ensures device { IsSameDevice D.Disk disk.old disk.new }
+    ensures within { StaysWithin D.Disk disk.old disk.new }
+    ensures cause { CountsFault result (D.failures disk.old) (D.failures disk.new) }
+    ensures any_moment { D.honest disk.old → (s : Standing) → IsLastAt (D.size disk.old) (D.trail disk.old) slot k s
+        → LeavesOnly (D.trail disk.old) (D.trail disk.new) (StandsEither (D.size disk.old) s) }
+    ensures taken { OnOk result (D.honest disk.old → (s : Standing)
+        → IsLastAt (D.size disk.old) (D.trail disk.old) slot k s
+        → IsSettled (D.size disk.old) (D.trail disk.new) (without_last s)) }
+{
+    shut(disk, slot, k)?;
+    Ok(())
 }

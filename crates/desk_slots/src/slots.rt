@@ -31,7 +31,7 @@ fn check_label<D: Disk>(disk: &mut D) -> Result<(), Error>
 }
 
 /// The head of a slot that is open; None where it is closed.
-fn read_slot<D: Disk>(disk: &mut D, slot: u32) -> Result<Option<Head>, Error>
+pub fn read_slot<D: Disk>(disk: &mut D, slot: u32) -> Result<Option<Head>, Error>
     requires room { STORE_SECTORS ≤ D.size disk.old }
     requires two { slot < SLOTS }
     ensures kept { IsConfined D.size D.honest D.trail Nowhere disk.old disk.new }

@@ -35,7 +35,7 @@ one_start law h image area start start' one two =
     ∙ two.is
 
 module _ (begins : BeginLaw) (unique : UniqueLaw) (size : ℕ) (c : Content) where
-  one_standing : (s s' : Standing) → Stands size c s → Stands size c s' → s ≡ s'
+  pub one_standing : (s s' : Standing) → Stands size c s → Stands size c s' → s ≡ s'
   one_standing s s' one two = λ i. record {
     slot = slots i;
     version = (sym one.version ∙ ap (λ n. (head c n).version) slots ∙ two.version) i;

@@ -6,7 +6,7 @@ use Rattle.event_bytes.specs.Spelling.{Begins}
 use Rattle.desktop_definitions.specs.Desktop.{Desktop}
 use Rattle.store_layout.specs.declared.layout.TheConstants.{JOURNAL_EVENTS, LABEL, SLOTS, STORE_SECTORS}
 use Rattle.store_layout.specs.Layout.{is_label, is_open, slot_gate, slot_head, body, image_at, head, IsGoodHead}
-use Rattle.store_layout.specs.Meaning.{HasImage, Means, Shows}
+use Rattle.store_layout.specs.Meaning.{HasImage, Means, Shows, Standing, Stands}
 use Rattle.store_layout.specs.Footprint.{IsLedTo, IsInUse}
 
 -- no store: too small a disk, or another label
@@ -82,3 +82,7 @@ abbrev pub ShowingLaw : Type 0
 ShowingLaw = (size : ℕ) (c : Content) (version number count version' number' count' : ℕ) (d d' : Desktop)
     → Shows size version number count d c → Shows size version' number' count' d' c
     → (d' ≡ d) × (version' ≡ version) × (number' ≡ number) × (count' ≡ count)
+
+-- a content shows one standing: one slot, one version, one epoch, one start, and one list of events
+abbrev pub StandingLaw : Type 0
+StandingLaw = (size : ℕ) (c : Content) (s s' : Standing) → Stands size c s → Stands size c s' → s ≡ s'

@@ -1,5 +1,5 @@
 -- What the content of a disk means: the desktop of its live slot's image, after the events of that slot's journal.
-use Rattle.std.specs.Prelude.{◌≡◌, ◌⊎◌, ◌<◌, ◌≤◌, ◌+◌, ◌*◌, ◌/◌, ◌%◌, ℕ, true, false}
+use Rattle.std.specs.Prelude.{◌≡◌, ◌⊎◌, ◌<◌, ◌≤◌, ◌+◌, ◌-◌, ◌*◌, ◌/◌, ◌%◌, ℕ, true, false}
 use Rattle.std.specs.Prelude.{List, [], ◌∷◌, ◌++◌, length, take, drop}
 use Rattle.sector_disk.specs.Trail.{Content}
 use Rattle.sector_disk.specs.Stored.{stored}
@@ -114,3 +114,21 @@ and_then s event = record {
   start = s.start;
   events = s.events ++ event ∷ [];
 }
+
+-- its first k events alone
+abbrev pub cut_to : ℕ → Standing → Standing
+cut_to k s = record {
+  slot = s.slot;
+  version = s.version;
+  epoch = s.epoch;
+  start = s.start;
+  events = take k s.events;
+}
+
+-- all events but the last
+abbrev pub without_last : Standing → Standing
+without_last s = cut_to (length s.events - 1) s
+
+-- the content shows the standing, or the same without its last event
+abbrev pub StandsEither : ℕ → Standing → Content → Type 0
+StandsEither size s c = Stands size c (without_last s) ⊎ Stands size c s

@@ -1,6 +1,6 @@
 //! What holds of contents and their meaning, whatever made them.
 ghost use Rattle.store_layout.specs.Footprint.{FootprintLaw};
-ghost use Rattle.store_layout.specs.Finding.{FindingLaw, ShowingLaw};
+ghost use Rattle.store_layout.specs.Finding.{FindingLaw, ShowingLaw, StandingLaw};
 
 use desk_image::one_desktop;
 use event_bytes::at_most_one_begins;
@@ -24,6 +24,15 @@ pub fn finding_law()
 /// A content shows one desktop at most, by one version, one epoch and one number of events.
 pub fn showing_law()
     ensures { ShowingLaw }
+{
+    at_most_one_begins();
+    one_desktop();
+}
+
+/// A content shows one standing at most: one slot, by one version and epoch, from one desktop and with one list of
+/// events.
+pub fn standing_law()
+    ensures { StandingLaw }
 {
     at_most_one_begins();
     one_desktop();

@@ -12,7 +12,7 @@ mod layout;
 mod sectors;
 
 pub use head::Head;
-pub use laws::{finding_law, footprint_law, showing_law};
+pub use laws::{finding_law, footprint_law, showing_law, standing_law};
 pub use layout::{
     AREA_SECTORS, AREAS, FIRST_LAYOUT, IMAGE_SECTORS, JOURNAL_EVENTS, LABEL, LAST_EPOCH, LAYOUT,
     SLOTS, STORE_SECTORS, area_at, area_start, body, gate, image_at, slot_gate, slot_head,

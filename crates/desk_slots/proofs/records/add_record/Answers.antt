@@ -1,4 +1,4 @@
-use Rattle.desk_slots.proofs.Recording.{one_call, both_calls, recorded}
+use Rattle.desk_slots.proofs.Recording.{one_call, both_calls, recorded, recorded_there, kept_of}
 use Rattle.desk_slots.proofs.records.add_record.Goals as goal
 
 pub returns-in_err-stage-clause-any_moment : goal.returns-in_err-stage-clause-any_moment
@@ -19,4 +19,10 @@ pub returns-clause-added : goal.returns-clause-added
 returns-clause-added g c = λ h version number desktop kept.
     let second = c.stage.ensures.kept.still h in
     recorded kept c.requires.index (c.stage.ensures.kept.moments h) (c.in_ok-stage.ensures.staged h)
+    (c.seal.ensures.kept.moments second) (c.in_ok-seal.ensures.opened second) (c.in_ok-seal.ensures.quiet second)
+
+pub returns-clause-behind : goal.returns-clause-behind
+returns-clause-behind g c = λ h s at.
+    let second = c.stage.ensures.kept.still h in
+    recorded_there (kept_of at) c.requires.index (c.stage.ensures.kept.moments h) (c.in_ok-stage.ensures.staged h)
     (c.seal.ensures.kept.moments second) (c.in_ok-seal.ensures.opened second) (c.in_ok-seal.ensures.quiet second)

@@ -1,10 +1,11 @@
-use Rattle.std.proofs.Common.{◌∙◌, ◌/◌, ap, sym}
+use Rattle.std.proofs.Common.{◌∙◌, ◌/◌, ap, sym, subst}
 use Rattle.sector_disk.specs.declared.disk.TheConstants.{SECTOR_BYTES}
 use Rattle.sector_disk.specs.Trail.{Content}
 use Rattle.sector_disk.proofs.Touching.{still_all}
 use Rattle.store_layout.specs.Layout.{head_of, slot_head}
-use Rattle.store_layout.specs.Meaning.{full_sectors}
-use Rattle.desk_slots.proofs.Recording.{in_newest, kept_then, unrecorded, read_only, read_then, kept_after, head_stays}
+use Rattle.store_layout.specs.Meaning.{full_sectors, and_then}
+use Rattle.store_layout.specs.Kept.{IsSettled}
+use Rattle.desk_slots.proofs.Recording.{in_newest, kept_then, unrecorded, read_only, read_then, kept_after, head_stays, still_up}
 use Rattle.desk_slots.proofs.Staying.{shown_stays, answer_stays, live_stays, apart_record}
 use Rattle.desk_slots.proofs.records.record.Goals as goal
 use Rattle.desktop_definitions.specs.Step.{Outcome}
@@ -69,3 +70,9 @@ returns-clause-named g c = λ honest named.
       named = λ not. ap (λ b. full_sectors (head_of b).written) head_now ∙ named.named (c.step.ensures.before not)
           ∙ ap (λ n. n / SECTOR_BYTES) (sym (c.step.ensures.counted not));
     }
+
+pub returns-clause-behind : goal.returns-clause-behind
+returns-clause-behind g c = λ honest s at.
+    let reads = c.step.ensures.disk in
+    subst (λ n. IsSettled n (g.D.Disk.trail c.add_record.new.disk) (and_then s c.args.event.now)) reads.as_large
+    (c.in_ok-add_record.ensures.behind (reads.still honest) s (still_up g.D.Disk at reads honest))

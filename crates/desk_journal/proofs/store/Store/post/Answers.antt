@@ -1,5 +1,7 @@
 use Rattle.std.proofs.Common.{subst}
-use Rattle.std.proofs.lemmas.Result.{err_from_is_err_and}
+use Rattle.std.proofs.lemmas.Result.{err_from_is_err_and, IfOk-weaker}
+use Rattle.desk_journal.specs.Undoing.{IsAdded}
+use Rattle.desk_journal.proofs.Undoing.{added_behind}
 use Rattle.desk_journal.specs.Posting.{LeavesEither, IsPosted, IsStarved, HasRoom}
 use Rattle.desk_journal.proofs.Between.{checkpoints, done_first, no_need, put_posts, stopped_first}
 use Rattle.desk_journal.proofs.Storing.{renewed_then, renewed_starved}
@@ -51,3 +53,14 @@ returns-in_err-checkpoint-clause-first g c = λ usable due.
     c.in_err-checkpoint.was
     (checkpoints g.D.Disk c.checkpoint.result _ _ first.any_moment first.ok first.fault first.worn
     first.behaves) (cc (p.1, p.2))
+
+pub returns-clause-added : goal.returns-clause-added
+returns-clause-added g c = IfOk-weaker c.put.result _ _ (λ reply added. elim c.if-needs.branch [
+  | then-needs+in_ok-checkpoint w ↦
+      let first = w.checkpoint.ensures in
+      added_behind g.D.Disk c.args.event.now c.args.self.now w.checkpoint.new.self c.put.new.self
+      w.in_ok-checkpoint.ensures.ok first.behaves.device (c.needs.ensures.due.0 w.if-needs.true)
+      (subst (λ mid. IsAdded g.D.Disk c.args.event.now mid c.put.new.self) w.self-is added)
+  | else-needs w ↦
+      subst (λ mid. IsAdded g.D.Disk c.args.event.now mid c.put.new.self) w.self-is added
+]) c.put.ensures.added

@@ -1,10 +1,13 @@
 use Rattle.std.proofs.Common.{◌≡◌, inl, inr, ◌<◌, ◌+◌, Ok, ap, sym, subst, refl, arith, false}
 use Rattle.store_layout.specs.declared.layout.TheConstants.{JOURNAL_EVENTS, LAYOUT}
 use Rattle.command_table.specs.Versions.{version_number}
-use Rattle.store_layout.specs.Kept.{IsKept}
+use Rattle.store_layout.specs.Kept.{IsKept, IsSettled}
+use Rattle.store_layout.specs.Meaning.{and_then}
+use Rattle.desk_journal.specs.Undoing.{IsAdded}
+use Rattle.desk_journal.proofs.Undoing.{standing, up_to, up_to_any}
 use Rattle.sector_disk.specs.Trail.{now}
 use Rattle.desk_slots.specs.Live.{seen_live}
-use Rattle.desk_journal.specs.Posting.{IsAcknowledged}
+use Rattle.desk_journal.specs.Posting.{IsAcknowledged, LeavesEither}
 use Rattle.desk_journal.specs.View.{StoreView}
 use Rattle.desk_slots.proofs.Settling.{kept_shows}
 use Rattle.desk_journal.proofs.store.Store.put.Goals as goal
@@ -51,3 +54,52 @@ returns-clause-ok g c =
       refusal = λ code is. r.refusal code (ap (λ x. Ok x) is);
       unread = r.unread;
     })
+
+pub returns-clause-added : goal.returns-clause-added
+returns-clause-added g c =
+    let s = c.self.inside in
+    let r = c.in_ok-reply.ensures in
+    let was = c.self.invariant c.if-self.false in
+    let after = c.record.new in
+    let store : StoreView g.row.D.Denot = record {
+      disk = after.disk;
+      desktop = seen_live (now (g.D.Disk.trail after.disk)).reads after.desktop;
+      kept = after.desktop.desktop;
+      layout = version_number s.version;
+      epoch = s.epoch;
+      events = s.events + 1;
+      must_reopen = false;
+    } in
+    subst (λ old. IsAdded g.D.Disk c.args.event.now old store) c.self.view_is (record {
+      behind = λ honest. (
+        standing g.D.Disk was honest,
+        (subst (λ n. IsSettled n (g.D.Disk.trail after.disk) (and_then (standing g.D.Disk was honest) c.args.event.now))
+            (sym r.device.as_large)
+            (r.behind honest (standing g.D.Disk was honest) (up_to g.D.Disk was honest))).stands,
+        (was.5 honest).0.is,
+      );
+      more = λ honest room x at.
+          (subst (λ n. IsSettled n (g.D.Disk.trail after.disk) (and_then x c.args.event.now)) (sym r.device.as_large)
+          (r.behind honest x (up_to_any g.D.Disk was honest c.standing_law.ensures x at))).stands;
+    })
+
+pub returns-clause-any_moment : goal.returns-clause-any_moment
+returns-clause-any_moment g c =
+    let s = c.self.inside in
+    let was = c.self.invariant c.if-self.false in
+    let room : (s.events < JOURNAL_EVENTS) × (version_number s.version ≡ LAYOUT) = subst (λ v. v.must_reopen ≡ false
+    → (v.events < JOURNAL_EVENTS) × (v.layout ≡ LAYOUT)) (sym c.self.view_is) c.requires c.if-self.false in
+    let after = c.record.new in
+    let store : StoreView g.row.D.Denot = record {
+      disk = after.disk;
+      desktop = seen_live (now (g.D.Disk.trail after.disk)).reads after.desktop;
+      kept = after.desktop.desktop;
+      layout = version_number s.version;
+      epoch = s.epoch;
+      events = s.events + 1;
+      must_reopen = false;
+    } in
+    subst (λ old. LeavesEither g.D.Disk c.args.event.now old store) c.self.view_is (λ usable honest.
+    c.record.ensures.any_moment honest s.epoch
+    (subst (λ v. IsKept (g.D.Disk.size s.disk) (g.D.Disk.trail s.disk) s.slot v s.epoch s.events
+    (seen_live (now (g.D.Disk.trail s.disk)).reads s.desktop)) room.1 (was.5 honest).0))

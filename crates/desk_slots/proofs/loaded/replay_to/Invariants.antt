@@ -5,7 +5,7 @@ use Rattle.char_pages.specs.Pages.{saved_of, renewed_of}
 use Rattle.command_table.specs.Versions.{version_number}
 use Rattle.desk_slots.specs.Live.{seen_live, IsLive, IsTold}
 use Rattle.desk_slots.specs.Load.{IsReadTo}
-use Rattle.desk_slots.proofs.loaded.replay.Given as goal
+use Rattle.desk_slots.proofs.loaded.replay_to.Given as goal
 
 -- nothing is written, and the events before gate k have been stepped
 abbrev pub invariant-loop-k : goal.invariant-loop-k

@@ -1,0 +1,76 @@
+//! What taking events back undoes.
+ghost use Rattle.std.specs.Prelude.{◌≡◌, ◌+◌, ◌-◌, ◌≤◌, false, length, take, Some, IfOk, OnOk};
+ghost use Rattle.desktop_definitions.specs.Step.{steps};
+ghost use Rattle.store_layout.specs.declared.layout.TheConstants.{JOURNAL_EVENTS, LAYOUT};
+
+use crate::store::Store;
+use desk_slots::Error;
+use event_bytes::Event;
+use sector_disk::Disk;
+use std::alloc::Global;
+use store_layout::standing_law;
+
+/// Posts the event, and takes it back: the store shows what it showed before, and the event that is handed back is that
+/// one. So it is too where a checkpoint came before the event.
+///
+/// Errors: those of `post` and `undo`.
+pub fn post_and_undo<D: Disk>(
+    store: &mut Store<D>,
+    alloc: Global,
+    event: &Event,
+) -> Result<Option<Event>, Error>
+    ensures { IfOk result (λ undone. D.honest store.old.disk → (store.new.desktop ≡ store.old.desktop)
+        × (undone ≡ Some event.now)) }
+{
+    let _ = store.post(alloc, event)?;
+    store.undo(alloc)
+}
+
+/// Posts the events, and takes so many of them back: the store shows what it shows after the others alone. The journal
+/// has room for the events, and is one of the newest version.
+///
+/// Errors: those of `post` and `undo`.
+pub fn post_and_undo_some<D: Disk>(
+    store: &mut Store<D>,
+    alloc: Global,
+    events: &[Event],
+    back: u32,
+) -> Result<(), Error>
+    requires usable { store.old.must_reopen ≡ false }
+    requires room { store.old.events + length events.now ≤ JOURNAL_EVENTS }
+    requires newest { store.old.layout ≡ LAYOUT }
+    requires some { back ≤ length events.now }
+    ensures { OnOk result (D.honest store.old.disk → store.new.desktop
+        ≡ steps store.old.desktop (take (length events.now - back) events.now)) }
+{
+    standing_law();
+    // What the store shows is what a crash would leave now.
+    let _ = store.info();
+    for event in events {
+        let _ = store.post(alloc, event)?;
+    }
+    for _turn in 0..back {
+        let _ = store.undo(alloc)?;
+    }
+    Ok(())
+}
+
+/// Takes the last event back, and posts it again: the store shows what it showed. The slot in use has the newest
+/// version, by which the event is stepped again.
+///
+/// Errors: those of `undo` and `post`.
+pub fn undo_and_redo<D: Disk>(store: &mut Store<D>, alloc: Global) -> Result<(), Error>
+    requires usable { store.old.must_reopen ≡ false }
+    requires newest { store.old.layout ≡ LAYOUT }
+    ensures { OnOk result (D.honest store.old.disk → store.new.desktop ≡ store.old.desktop) }
+{
+    // What the store shows is what a crash would leave now.
+    let _ = store.info();
+    match store.undo(alloc)? {
+        None => Ok(()),
+        Some(event) => {
+            let _ = store.post(alloc, &event)?;
+            Ok(())
+        }
+    }
+}

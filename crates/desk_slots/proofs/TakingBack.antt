@@ -1,0 +1,212 @@
+-- What a closed last gate makes of a settled disk.
+use Rattle.std.proofs.Common.{◌≡◌, ◌≢◌, inl, inr, ℕ, zero, suc, ◌+◌, ◌-◌, ◌<◌, List, [], ◌∷◌, ◌++◌, length, take}
+use Rattle.std.proofs.Common.{refl, sym, ◌∙◌, ap, subst, arith, true, false}
+use Rattle.std.proofs.lemmas.Bool.{cases_eq}
+use Rattle.sector_disk.specs.declared.disk.Disk.{Ghosts}
+use Rattle.sector_disk.specs.Confined.{IsConfined}
+use Rattle.sector_disk.specs.Trail.{Content, Trail, now, LeavesOnly, Touches, Only, Nowhere}
+use Rattle.sector_disk.proofs.Touching.{spared, still_reads, still_all, still_settled}
+use Rattle.event_bytes.specs.declared.event.Event.{Event}
+use Rattle.event_bytes.specs.Spelling.{Begins}
+use Rattle.store_layout.specs.declared.layout.TheConstants.{JOURNAL_EVENTS, SLOTS}
+use Rattle.store_layout.specs.Bits.{true_or_false, clash}
+use Rattle.store_layout.specs.Layout.{is_open, gate, body, slot_head}
+use Rattle.store_layout.specs.Meaning.{IsJournal, Standing, Stands, StandsEither, without_last, and_then, cut_to, desktop_of}
+use Rattle.store_layout.specs.Finding.{FindingLaw, IsForeign, IsDamagedAt}
+use Rattle.store_layout.specs.Kept.{IsSettled}
+use Rattle.store_layout.specs.StandingLaws.{journal_short, journal_leads}
+use Rattle.desk_slots.specs.declared.live.LiveDesktop.{LiveDesktop}
+use Rattle.desk_slots.specs.declared.error.Error.{Error}
+use Rattle.desk_slots.specs.declared.error.Error.TheVariants.{NotAStore, Damaged}
+use Rattle.desk_slots.specs.Errors.{OfDesktop, OfOpen, OfReplay}
+use Rattle.desk_slots.specs.Live.{IsLive, IsNamed, seen_live}
+use Rattle.desk_slots.proofs.Staying.{IsApart, apart_record}
+use Rattle.desk_slots.specs.Load.{IsBefore, IsCutTo}
+use Rattle.desk_slots.specs.Written.{IsLastAt}
+use Rattle.desk_slots.proofs.Recording.{only_gate}
+
+-- ---- journals, where only one gate differs, that of an event
+
+-- it is closed now: the journal ends there
+journal_cut : (events : List Event) (c c' : Content) (slot k end m : ℕ) → end ≡ k + m → m < length events
+    → ((n : ℕ) → n ≢ gate slot end → c' n ≡ c n) → is_open (c' (gate slot end)) ≡ false → IsJournal c slot k events
+    → IsJournal c' slot k (take m events)
+journal_cut [] c c' slot k end m is low same off journal = absurd (omega (arith, low))
+journal_cut (event ∷ events) c c' slot k end zero is low same off journal =
+    λ room. let here : end ≡ k = omega (arith, is) in subst (λ j. is_open (c' (gate slot j)) ≡ false) here off
+journal_cut (event ∷ events) c c' slot k end (suc m) is low same off journal = (
+  journal.0,
+  ap is_open (same (gate slot k) (omega (arith, is))) ∙ journal.1,
+  subst (λ bytes. Begins bytes event) (sym (same (body slot k) (omega arith))) journal.2,
+  journal_cut events c c' slot (k + 1) end m (omega (arith, is)) (omega (arith, low)) same off journal.3,
+)
+
+-- it is open still: the journal is as it was
+journal_whole : (events : List Event) (c c' : Content) (slot k end : ℕ) → end < k + length events
+    → ((n : ℕ) → n ≢ gate slot end → c' n ≡ c n) → is_open (c' (gate slot end)) ≡ true → IsJournal c slot k events
+    → IsJournal c' slot k events
+journal_whole [] c c' slot k end low same on journal =
+    λ room. ap is_open (same (gate slot k) (omega (arith, low))) ∙ journal room
+journal_whole (event ∷ events) c c' slot k end low same on journal = (
+  journal.0,
+  elim (cases_eq k end) [
+    | inl here ↦ subst (λ j. is_open (c' (gate slot j)) ≡ true) (sym here) on
+    | inr other ↦ ap is_open (same (gate slot k) (omega (arith, other))) ∙ journal.1
+  ],
+  subst (λ bytes. Begins bytes event) (sym (same (body slot k) (omega arith))) journal.2,
+  journal_whole events c c' slot (k + 1) end (omega (arith, low)) same on journal.3,
+)
+
+-- ---- a standing, where only the gate of its last event differs
+module _ {size : ℕ} (c c' : Content) (s : Standing) (k : ℕ) (count : length s.events ≡ k + 1) (was : Stands size c s)
+    (same : (n : ℕ) → n ≢ gate s.slot k → c' n ≡ c n) where
+  room : k < JOURNAL_EVENTS
+  room = let short = journal_short s.events c s.slot 0 (omega arith) was.journal in omega (arith, short, count)
+
+  is_short : is_open (c' (gate s.slot k)) ≡ false → Stands size c' (without_last s)
+  is_short off = only_gate c c' s k room was same (take (length s.events - 1) s.events)
+      (journal_cut s.events c c' s.slot 0 k (length s.events - 1) (omega (arith, count)) (omega (arith, count)) same off
+      was.journal)
+
+  is_whole : is_open (c' (gate s.slot k)) ≡ true → Stands size c' s
+  is_whole on = only_gate c c' s k room was same s.events
+      (journal_whole s.events c c' s.slot 0 k (omega (arith, count)) same on was.journal)
+
+  either_way : StandsEither size s c'
+  either_way = elim (true_or_false (is_open (c' (gate s.slot k)))) [
+    | inl on ↦ inr (is_whole on)
+    | inr off ↦ inl (is_short off)
+  ]
+
+module _ {size : ℕ} {old new : Trail} {slot k : ℕ} {s : Standing} (at : IsLastAt size old slot k s)
+    (run : Touches (Only (gate slot k)) old new) where
+  run_here : Touches (Only (gate s.slot k)) old new
+  run_here = subst (λ n. Touches (Only (gate n k)) old new) (sym at.slot_is) run
+
+  -- whatever the gate holds
+  pub taking : LeavesOnly old new (StandsEither size s)
+  taking = spared (StandsEither size s) at.settled.quiet run_here
+      (λ c same. either_way (now old).reads c s k at.count at.settled.stands same)
+
+  -- it is closed, and nothing is pending
+  pub taken : is_open ((now new).reads (gate slot k)) ≡ false → ((n : ℕ) → (now new).pending n ≡ false)
+      → IsSettled size new (without_last s)
+  taken off quiet = record {
+    quiet = quiet;
+    stands = is_short (now old).reads (now new).reads s k at.count at.settled.stands (still_reads old new run_here)
+        (subst (λ n. is_open ((now new).reads (gate n k)) ≡ false) (sym at.slot_is) off);
+  }
+
+-- ---- the last event
+
+-- it stands in the body under the last gate
+journal_last : (events : List Event) (c : Content) (slot k end : ℕ) → end + 1 ≡ k + length events → 0 < length events
+    → IsJournal c slot k events
+    → (e : Event) × Begins (c (body slot end)) e × (events ≡ take (length events - 1) events ++ e ∷ [])
+journal_last [] c slot k end is some journal = absurd (omega (arith, some))
+journal_last (event ∷ []) c slot k end is some journal =
+    let here : k ≡ end = omega (arith, is) in
+    (event, subst (λ j. Begins (c (body slot j)) event) here journal.2, refl)
+journal_last (event ∷ (next ∷ events)) c slot k end is some journal =
+    let rest = journal_last (next ∷ events) c slot (k + 1) end (omega (arith, is)) (omega arith) journal.3 in
+    let all = event ∷ (next ∷ events) in
+    let long : suc (length (next ∷ events) - 1) ≡ length all - 1 = omega arith in (
+      rest.0,
+      rest.1,
+      ap (λ l. event ∷ l) rest.2 ∙ ap (λ m. take m all ++ rest.0 ∷ []) long,
+    )
+
+-- bytes begin with one event at most
+abbrev BeginLaw : Type 0
+BeginLaw = (bytes : List ℕ) (e f : Event) → Begins bytes e → Begins bytes f → e ≡ f
+
+module _ {size : ℕ} {disk : Trail} {slot k : ℕ} {s : Standing} (at : IsLastAt size disk slot k s) where
+  found : (e : Event) × Begins ((now disk).reads (body slot k)) e × (s.events ≡ take (length s.events - 1) s.events ++ e ∷ [])
+  found = subst (λ n. (e : Event) × Begins ((now disk).reads (body n k)) e
+      × (s.events ≡ take (length s.events - 1) s.events ++ e ∷ [])) at.slot_is
+      (journal_last s.events (now disk).reads s.slot 0 k (omega (arith, at.count)) (omega (arith, at.count))
+      at.settled.stands.journal)
+
+  -- its gate is open
+  pub not_closed : is_open ((now disk).reads (gate slot k)) ≡ false → ⊥
+  not_closed off = clash (journal_leads s.events (now disk).reads s.slot 0 k at.settled.stands.journal (omega arith)
+      (omega (arith, at.count)))
+      (subst (λ n. is_open ((now disk).reads (gate n k)) ≡ false) (sym at.slot_is) off)
+
+  -- and there is an event
+  pub not_none : ((event : Event) → Begins ((now disk).reads (body slot k)) event → ⊥) → ⊥
+  not_none none = none found.0 found.1
+
+  pub last_event : BeginLaw → (event : Event) → Begins ((now disk).reads (body slot k)) event
+      → s ≡ and_then (without_last s) event
+  last_event law event begins = λ i. record {
+    slot = s.slot;
+    version = s.version;
+    epoch = s.epoch;
+    start = s.start;
+    events = (found.2 ∙ ap (λ e. take (length s.events - 1) s.events ++ e ∷ [])
+        (law ((now disk).reads (body slot k)) found.0 event found.1 begins)) i;
+  }
+
+-- ---- reads before that
+
+module _ {D : Type 0} (d : Ghosts D) {disk disk' : D} {slot k : ℕ} {s : Standing}
+    (at : IsLastAt (d.size disk) (d.trail disk) slot k s) (run : IsConfined d.size d.honest d.trail Nowhere disk disk')
+    (honest : d.honest disk) where
+  pub still_last : IsLastAt (d.size disk') (d.trail disk') slot k s
+  still_last = record {
+    settled = record {
+      quiet = λ n. still_settled (d.trail disk) (d.trail disk') (run.moments honest) n (λ none. none)
+          (at.settled.quiet n);
+      stands = subst (λ n. Stands n (now (d.trail disk')).reads s) (sym run.as_large)
+          (subst (λ c. Stands (d.size disk) c s) (sym (still_all (d.trail disk) (d.trail disk') (run.moments honest)))
+          at.settled.stands);
+    };
+    slot_is = at.slot_is;
+    count = at.count;
+  }
+
+  pub reads_either : LeavesOnly (d.trail disk) (d.trail disk') (StandsEither (d.size disk) s)
+  reads_either = spared (StandsEither (d.size disk) s) at.settled.quiet (run.moments honest)
+      (λ c same. inr (subst (λ x. Stands (d.size disk) x s) (sym (λ i n. same n (λ none. none) i)) at.settled.stands))
+
+  -- what was loaded before the event was read
+  pub is_before : {disk'' : D} (live : LiveDesktop) {event : Event} → IsCutTo (d.size disk) (now (d.trail disk)).reads k
+      (now (d.trail disk')).reads live → IsConfined d.size d.honest d.trail Nowhere disk' disk''
+      → s ≡ and_then (without_last s) event
+      → IsBefore (now (d.trail disk'')).reads slot s live event
+  is_before {disk'' = disk''} live {event = event} cut more last =
+      let all = cut s at.settled.stands (omega (arith, at.count)) in
+      let short : k ≡ length s.events - 1 = omega (arith, at.count) in
+      subst (λ c. IsBefore c slot s live event)
+      (sym (still_all (d.trail disk') (d.trail disk'') (more.moments (run.still honest))))
+      (record {
+        shown = all.0 ∙ ap (λ n. desktop_of (cut_to n s)) short;
+        named = subst (λ n. IsNamed (now (d.trail disk')).reads n live) at.slot_is all.1;
+        last = last;
+      })
+
+-- why reading a store stops, where there is one
+pub stops_there : (size : ℕ) (c : Content) (s : Standing) → FindingLaw → Stands size c s → (e : Error) → OfOpen e
+    → (e ≡ NotAStore → IsForeign size c) → ((n : ℕ) → e ≡ Damaged n → IsDamagedAt size c n) → OfDesktop e
+stops_there size c s law stands e (inl (inl none)) foreign damaged = inl none
+stops_there size c s law stands e (inl (inr (inl fault))) foreign damaged = inr fault
+stops_there size c s law stands e (inl (inr (inr other))) foreign damaged =
+    absurd ((law size c).not_foreign (desktop_of s) (s, stands, refl) (foreign other))
+stops_there size c s law stands e (inr (n, bad)) foreign damaged =
+    absurd ((law size c).not_damaged (desktop_of s) n (s, stands, refl) (damaged n bad))
+
+pub stops_behind : (e : Error) → OfReplay e → ((n : ℕ) → e ≡ Damaged n → ⊥) → OfDesktop e
+stops_behind e (inl named) sound = named
+stops_behind e (inr (n, bad)) sound = absurd (sound n bad)
+
+-- ---- what the gate is apart from
+
+pub apart_gate : (live : LiveDesktop) (slot k : ℕ) → IsLive live → slot < SLOTS → k < JOURNAL_EVENTS
+    → IsApart (Only (gate slot k)) live.pages
+apart_gate live slot k is low index n from to within =
+    apart_record live.pages live.area slot k is.based low index n from to (inr within)
+
+pub head_kept : (old new : Trail) (slot k : ℕ) → slot < SLOTS → Touches (Only (gate slot k)) old new
+    → (now new).reads (slot_head slot) ≡ (now old).reads (slot_head slot)
+head_kept old new slot k low run = still_reads old new run (slot_head slot) (λ within. omega (arith, within, low))
