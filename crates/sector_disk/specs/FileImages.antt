@@ -7,8 +7,8 @@ use Rattle.sector_disk.specs.FileTrail.{FileMoment, FileTrail, IsFileImage}
 use Rattle.sector_disk.specs.FileSectors.{sectors_in, sectors_at}
 
 -- the file that a disk is in
-abbrev pub file_of : {F : Type 0} {f : Ghosts F} → FileDisk F f → F
-file_of d = d.file
+abbrev pub file_under : {F : Type 0} {f : Ghosts F} → FileDisk F f → F
+file_under d = d.file
 
 -- the sectors of every image that a crash at this moment may leave of the bytes have P
 abbrev pub FileLeaves : FileMoment → (Content → Type 0) → Type 0
