@@ -25,7 +25,8 @@ ghost use Rattle.desk_slots.specs.Words.{ListsUnread, shown_screen};
 
 use command_table::{NEWEST, Version};
 use desk_slots::{
-    Before, Document, Error, LiveDesktop, SlotPlace, lay_out, load, load_before, record, renew, take_back,
+    Before, Document, Error, LiveDesktop, SlotPlace, lay_out, load, load_before, record, renew,
+    take_back,
 };
 use desktop_definitions::{Entry, Reply};
 use event_bytes::{Event, Name};
