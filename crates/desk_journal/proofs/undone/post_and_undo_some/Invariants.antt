@@ -1,4 +1,4 @@
-use Rattle.std.proofs.Common.{◌-◌, length, take}
+use Rattle.std.proofs.Common.{take}
 use Rattle.desk_journal.specs.Undoing.{IsBehind}
 use Rattle.desk_journal.proofs.undone.post_and_undo_some.Given as goal
 
@@ -6,10 +6,4 @@ use Rattle.desk_journal.proofs.undone.post_and_undo_some.Given as goal
 abbrev pub invariant-loop-event : goal.invariant-loop-event
 invariant-loop-event g l = record {
   behind : IsBehind g.D.Disk (take l.event-index l.events) l.fn.store l.store;
-}
-
--- so many of them were taken back
-abbrev pub invariant-loop-turn : goal.invariant-loop-turn
-invariant-loop-turn g l = record {
-  behind : IsBehind g.D.Disk (take (length l.events - l._turn) l.events) l.fn.store l.store;
 }
