@@ -1,6 +1,6 @@
 -- An event that was posted and taken back. `d` is what is known of a disk.
 use Rattle.std.proofs.Common.{◌≡◌, inl, inr, ℕ, ◌+◌, ◌-◌, List, [], ◌∷◌, ◌++◌, length, take, drop, Result, Ok, Err}
-use Rattle.std.proofs.Common.{sym, ◌∙◌, ap, subst, arith, length-append}
+use Rattle.std.proofs.Common.{sym, ◌∙◌, ap, arith, length-append}
 use Rattle.std.specs.Prelude.{IfOk}
 use Rattle.desk_slots.specs.declared.error.Error.{Error}
 use Rattle.std.proofs.Math.Seq.{take-append_seam, drop-append_seam}

@@ -1,8 +1,9 @@
 -- Events that were posted one after another, and taken back one after another. `d` is what is known of a disk.
 use Rattle.std.proofs.Common.{◌≡◌, ◌+◌, ◌-◌, ◌<◌, ◌≤◌, ℕ, List, [], ◌∷◌, ◌++◌, length, take}
 use Rattle.std.proofs.Common.{refl, sym, ◌∙◌, ap, subst, arith, length-append, append_assoc}
-use Rattle.std.specs.Prelude.{get_or}
-use Rattle.std.proofs.lemmas.List.{append-nil, length-take-le, take_all, take_more}
+use Rattle.std.specs.Prelude.{get_or, OnOk, Result}
+use Rattle.std.proofs.lemmas.List.{append-nil, length-take-le, take_more}
+use Rattle.std.proofs.lemmas.Result.{on_ok_weaker}
 use Rattle.std.proofs.Math.Seq.{take-append-add}
 use Rattle.sector_disk.specs.declared.disk.Disk.{Ghosts}
 use Rattle.sector_disk.specs.Trail.{now}
@@ -127,15 +128,13 @@ module _ {D : Type 0} (d : Ghosts D) {old mid new : StoreView D} (events : List 
       (omega (arith, was.count, length-take-le k events (omega (arith, low)), room, low)) ok added)
 
 -- posted whole, and so many taken back
-pub all_but : {D : Type 0} (d : Ghosts D) {old mid new : StoreView D} (events : List Event) (i count : ℕ)
-    {undone : List Event} → i ≡ length events → IsBehind d (take i events) old mid → IsSameDevice d mid.disk new.disk
-    → count ≤ length events → IsTakenBack d count undone mid new
-    → IsBehind d (take (length events - count) events) old new
-all_but d {old = old} {mid = mid} {new = new} events i count {undone = undone} all was device low back =
-    let whole = subst (λ l. IsBehind d l old mid) (take_all i events (omega (arith, all))) was in
-    let many : length undone ≡ count = omega (arith, back.as_many, back.fewer, whole.count, low) in
+pub all_but : {D : Type 0} (d : Ghosts D) {old mid new : StoreView D} (events : List Event) (count : ℕ)
+    {undone : List Event} → IsBehind d events old mid → IsSameDevice d mid.disk new.disk → count ≤ length events
+    → IsTakenBack d count undone mid new → IsBehind d (take (length events - count) events) old new
+all_but d {old = old} {new = new} events count {undone = undone} was device low back =
+    let many : length undone ≡ count = omega (arith, back.as_many, back.fewer, was.count, low) in
     subst (λ n. IsBehind d (take (length events - n) events) old new) many
-    (some_fewer d old whole device back (omega (arith, many, low)))
+    (some_fewer d old was device back (omega (arith, many, low)))
 
 -- the desktop after events behind others
 steps_both : (version : ℕ) (d : Desktop) (some more : List Event)
@@ -161,19 +160,26 @@ shown_behind d {old = old} {events = events} was durable honest =
     ∙ all_newest old.desktop events
 
 -- events that were taken back are posted again
-pub redone : {D : Type 0} (d : Ghosts D) {old mid new : StoreView D} {count i : ℕ} {events : List Event}
+again : {D : Type 0} (d : Ghosts D) {old mid new : StoreView D} {count : ℕ} {events : List Event}
     → IsDurable d old → old.layout ≡ LAYOUT → IsTakenBack d count events old mid → IsSameDevice d old.disk mid.disk
-    → i ≡ length events → IsBehind d (take i events) mid new → d.honest old.disk → new.desktop ≡ old.desktop
-redone d {old = old} {mid = mid} {new = new} {i = i} {events = events} durable newest back device all was honest =
+    → IsBehind d events mid new → d.honest old.disk → new.desktop ≡ old.desktop
+again d {old = old} {events = events} durable newest back device was honest =
     let shows = shows_now d old durable honest in
     let s = shows.standing in
     let rest = cut_to (length s.events - length events) s in
     let w = back.back honest s shows.stands in
-    shown_behind d (subst (λ l. IsBehind d l mid new) (take_all i events (omega (arith, all))) was) back.durable
-    (device.still honest)
+    shown_behind d was back.durable (device.still honest)
     ∙ ap (λ x. steps x events) w.desktop
     ∙ sym (all_newest (desktop_of rest) events)
     ∙ ap (λ v. steps_in v (desktop_of rest) events) (sym (shows.version_is ∙ newest))
     ∙ sym (steps_both s.version s.start rest.events events)
     ∙ sym (ap desktop_of w.last)
     ∙ shows.is
+
+pub redone : {D : Type 0} (d : Ghosts D) {old mid : StoreView D} (new : StoreView D) {count : ℕ}
+    {events posted : List Event} {T E : Type 0} (result : Result T E) → IsDurable d old → old.layout ≡ LAYOUT
+    → IsTakenBack d count events old mid → IsSameDevice d old.disk mid.disk → events ≡ posted
+    → OnOk result (IsBehind d posted mid new) → OnOk result (d.honest old.disk → new.desktop ≡ old.desktop)
+redone d {old = old} {mid = mid} new {count = count} result durable newest back device same =
+    on_ok_weaker result
+    (again d durable newest (subst (λ l. IsTakenBack d count l old mid) same back) device)

@@ -103,11 +103,11 @@ undone_moments d {mid = mid} {new = new} {k = k} {s = s} low at run honest after
     (record { settled = still.settled; slot_is = still.slot_is; more = omega (arith, low, still.count) })))
 
 -- reads, and then writes to one gate
-pub undone_closing : {D : Type 0} (d : Ghosts D) {old mid new : D} {slot n k : ℕ} {s : Standing}
+pub undone_closing : {D : Type 0} (d : Ghosts D) {old mid new : D} {slot n : ℕ} {s : Standing} (k : ℕ)
     → IsUpTo (d.size old) (d.trail old) slot n s → IsConfined d.size d.honest d.trail Nowhere old mid
     → IsConfined d.size d.honest d.trail (Only (gate slot k)) mid new
     → IsConfined d.size d.honest d.trail (Only (gate s.slot k)) old new
-undone_closing d {old = old} {new = new} {k = k} at run shut =
+undone_closing d {old = old} {new = new} k at run shut =
     subst (λ n. IsConfined d.size d.honest d.trail (Only (gate n k)) old new) (sym at.slot_is)
     (confined.joined d.size d.honest d.trail (looked_closing d _ run) shut)
 

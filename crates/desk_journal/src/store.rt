@@ -9,24 +9,24 @@ ghost use Rattle.desktop_definitions.specs.Desktop.{empty_desktop, file_of};
 ghost use Rattle.desk_slots.specs.Device.{IsOnlyRead, StaysWithin, disk_after, outcome};
 ghost use Rattle.desk_slots.specs.Errors.{OfFormat, OfOpen, OfPost, OfLook, OfCheckpoint};
 ghost use Rattle.desk_journal.specs.Looking.{OnlyLooks};
-ghost use Rattle.store_layout.specs.Meaning.{Shows};
+ghost use Rattle.store_layout.specs.Meaning.{Shows, Standing};
 ghost use Rattle.store_layout.specs.declared.layout.TheConstants.{FIRST_LAYOUT};
 ghost use Rattle.desk_journal.specs.Bringing.{LeavesAllOrNone, IsBrought, IsUnwritten};
 ghost use Rattle.desk_journal.specs.Checkpointing.{LeavesDesktop, IsRenewed};
 ghost use Rattle.desk_journal.specs.Opening.{IsOpened, IsNoStore};
 ghost use Rattle.desk_journal.specs.Posting.{LeavesEither, IsAcknowledged, IsStarved, IsBroken, IsLast, IsWorn};
-ghost use Rattle.desk_journal.specs.Posting.{Behaves, HasRoom, Needs, TurnsAway};
+ghost use Rattle.desk_journal.specs.Posting.{Behaves, HasRoom, IsUnusable, Needs, TurnsAway};
 ghost use Rattle.desk_journal.specs.Migrating.{ChecksFirst};
 ghost use Rattle.command_table.specs.Versions.{version_number};
-ghost use Rattle.desk_journal.specs.Undoing.{ClosesOneGate, IsAdded, IsLeft, IsTakenBack, LeavesUndone, OfUndo};
+ghost use Rattle.desk_journal.specs.Undoing.{ClosesOneGate, IsAdded, IsAt, IsLeft, IsTakenBack, LeavesUndone, OfUndo};
 ghost use Rattle.desk_journal.specs.View.{IsDurable};
 ghost use Rattle.desk_slots.specs.Words.{Leaves, Nowhere, now, IsConfined, FailsAs, entries_of};
 ghost use Rattle.desk_slots.specs.Words.{ListsUnread, shown_screen};
 
 use command_table::{NEWEST, Version};
 use desk_slots::{
-    Document, Earlier, Error, LiveDesktop, SlotPlace, lay_out, load, load_earlier, record, renew,
-    take_back,
+    Document, Earlier, Error, LiveDesktop, SlotPlace, lay_out, load, load_earlier, read_events,
+    record, renew, take_back,
 };
 use desktop_definitions::{Entry, Reply};
 use event_bytes::{Event, Name};
@@ -261,6 +261,25 @@ impl<D: Disk> Store<D> {
         self.events = left;
         self.must_reopen = false;
         Ok(events)
+    }
+
+    /// The events that can be taken back: those of the journal, in their order.
+    ///
+    /// Errors: `MustReopen`; `NoMemory`; `Fault`. Over a disk that isn't honest, `Damaged` too.
+    pub fn history(&mut self, alloc: Global) -> Result<Vec<Event>, Error>
+        ensures events { IfOk result (λ events. D.honest self.old.disk → (s : Standing) → IsAt D.Disk self.old s
+            → s.events ≡ events.items) }
+        ensures looks { IsLeft D.Disk self.old self.new }
+        ensures usable { self.new.must_reopen ≡ self.old.must_reopen }
+        ensures reopen { IsUnusable result self.old self.new }
+        ensures stops { D.honest self.old.disk → IfErr result OfLook }
+        ensures faults { FailsAs Error.Fault OfUndo result (D.failures self.old.disk) (D.failures self.new.disk) }
+    {
+        standing_law();
+        if self.must_reopen {
+            return Err(Error::MustReopen);
+        }
+        read_events(alloc, &mut self.disk, self.slot, 0, self.events)
     }
 
     /// Puts the desktop whole into the slot that isn't in use, in the newest version, and makes that the slot in use,

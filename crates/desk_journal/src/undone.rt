@@ -2,6 +2,8 @@
 ghost use Rattle.std.specs.Prelude.{◌≡◌, ◌+◌, ◌-◌, ◌≤◌, ◌∷◌, [], false, length, take, IfOk, OnOk};
 ghost use Rattle.desktop_definitions.specs.Step.{steps};
 ghost use Rattle.store_layout.specs.declared.layout.TheConstants.{JOURNAL_EVENTS, LAYOUT};
+ghost use Rattle.desk_journal.specs.Undoing.{IsBehind};
+ghost use Rattle.desk_journal.specs.View.{IsDurable};
 
 use crate::store::Store;
 use desk_slots::Error;
@@ -26,6 +28,25 @@ pub fn post_and_undo<D: Disk>(
     store.undo(alloc, 1)
 }
 
+/// Posts the events, one after another: they stand behind what the disk showed.
+///
+/// Errors: those of `post`.
+fn post_each<D: Disk>(store: &mut Store<D>, alloc: Global, events: &[Event]) -> Result<(), Error>
+    requires usable { store.old.must_reopen ≡ false }
+    requires room { store.old.events + length events.now ≤ JOURNAL_EVENTS }
+    requires newest { store.old.layout ≡ LAYOUT }
+    ensures behind { OnOk result (IsBehind D.Disk events.now store.old store.new) }
+    ensures durable { IsDurable D.Disk store.old }
+{
+    standing_law();
+    // What the store shows is what a crash would leave now.
+    let _ = store.info();
+    for event in events {
+        let _ = store.post(alloc, event)?;
+    }
+    Ok(())
+}
+
 /// Posts the events, and takes so many of them back: the store shows what it shows after the others alone. The journal
 /// has room for the events, and is one of the newest version.
 ///
@@ -43,12 +64,7 @@ pub fn post_and_undo_some<D: Disk>(
     ensures { OnOk result (D.honest store.old.disk → store.new.desktop
         ≡ steps store.old.desktop (take (length events.now - back) events.now)) }
 {
-    standing_law();
-    // What the store shows is what a crash would leave now.
-    let _ = store.info();
-    for event in events {
-        let _ = store.post(alloc, event)?;
-    }
+    post_each(store, alloc, events)?;
     let _ = store.undo(alloc, back)?;
     Ok(())
 }
@@ -62,14 +78,8 @@ pub fn undo_and_redo<D: Disk>(store: &mut Store<D>, alloc: Global, count: u32) -
     requires newest { store.old.layout ≡ LAYOUT }
     ensures { OnOk result (D.honest store.old.disk → store.new.desktop ≡ store.old.desktop) }
 {
-    standing_law();
-    // What the store shows is what a crash would leave now.
+    // What the store shows is what a crash would leave now, and its journal has no more events than there may be.
     let _ = store.info();
     let undone = store.undo(alloc, count)?;
-    // And so it is now.
-    let _ = store.info();
-    for event in undone.as_slice() {
-        let _ = store.post(alloc, event)?;
-    }
-    Ok(())
+    post_each(store, alloc, undone.as_slice())
 }

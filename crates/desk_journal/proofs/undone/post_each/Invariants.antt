@@ -1,6 +1,6 @@
 use Rattle.std.proofs.Common.{take}
 use Rattle.desk_journal.specs.Undoing.{IsBehind}
-use Rattle.desk_journal.proofs.undone.post_and_undo_some.Given as goal
+use Rattle.desk_journal.proofs.undone.post_each.Given as goal
 
 -- the events so far were posted
 abbrev pub invariant-loop-event : goal.invariant-loop-event
