@@ -1,5 +1,5 @@
 //! What is heard at one time.
-ghost use Rattle.std.specs.Prelude.{◌≡◌, ◌≤◌, [], ◌∷◌, ◌++◌, length, take};
+ghost use Rattle.std.specs.Prelude.{◌≡◌, ◌≤◌, ◌<◌, [], ◌∷◌, ◌++◌, length, take, position, IfSome};
 ghost use Rattle.terminal_presses.specs.declared.press.Heard.TheVariants.{Quiet};
 ghost use Rattle.terminal_presses.specs.Spelling.{bytes};
 ghost use Rattle.terminal_keyboard.specs.Hearings.{IsWithinLine, is_line_end as ends_line, kept_for_later};
@@ -99,11 +99,16 @@ pub(crate) fn line_length(heard: &[Heard]) -> usize
     ensures some { 1 ≤ length heard.now → 1 ≤ result }
     ensures line { IsWithinLine (take result heard.now) }
 {
-    let end = heard
-        .iter()
-        .position(|heard| is_line_end(*heard))
-        .unwrap_or(heard.len());
+    let end = line_end(heard).unwrap_or(heard.len());
     if end < heard.len() { end + 1 } else { heard.len() }
+}
+
+/// Where the first line ends.
+fn line_end(heard: &[Heard]) -> Option<usize>
+    ensures first { result ≡ position ends_line heard.now }
+    ensures within { IfSome result (λ at. at < length heard.now) }
+{
+    heard.iter().position(|heard| is_line_end(*heard))
 }
 
 /// Whether a line ends there.

@@ -17,6 +17,8 @@ pub enum KeyboardEnd {
 
 /// What a person presses at a terminal, as it is heard.
 pub trait KeySource {
+    ghost use Rattle.terminal_keyboard.specs.declared.keyboard.KeyboardEnd.{KeyboardEnd};
+
     /// All that was heard so far, in order.
     ghost heard: { Self → List Heard };
 
@@ -39,6 +41,8 @@ pub trait KeySource {
 
 /// A terminal, and files of the host's whose texts are brought in.
 pub trait Keyboard {
+    ghost use Rattle.terminal_keyboard.specs.declared.keyboard.KeyboardEnd.{KeyboardEnd};
+
     /// All that was heard so far, in order.
     ghost heard: { Self → List Heard };
 

@@ -11,7 +11,7 @@ mod keyboard;
 mod script;
 mod terminal;
 
-pub use ghost_traces::Trace;
+pub use ghost_traces::{Count, Trace};
 pub use hearing::{Hearing, MOST_HEARD};
 pub use keyboard::{KeySource, Keyboard, KeyboardEnd};
 pub use script::ScriptedKeyboard;
