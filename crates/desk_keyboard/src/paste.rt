@@ -93,9 +93,12 @@ impl<R: Read> HostPaste<R> {
         let mut piece = [0; MOST_HEARD];
         let room = self.left.min(MOST_HEARD as u64) as usize;
         let buffer = &mut piece[..room];
-        let Some(count) = read_some(&mut self.reader, buffer, &mut self.failed) else {
-            self.stage = Stage::Broken;
-            return Hearing::of_bytes(&PASTE_BREAKS);
+        let count = match read_some(&mut self.reader, buffer, &mut self.failed) {
+            Some(count) => count,
+            None => {
+                self.stage = Stage::Broken;
+                return Hearing::of_bytes(&PASTE_BREAKS);
+            }
         };
         if count == 0 {
             self.stage = Stage::Ended;

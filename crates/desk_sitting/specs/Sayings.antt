@@ -68,7 +68,7 @@ words (CutShort typed code) = cut_short typed code
 words Worn = codes "This store takes no more events: its epochs are used up."
 words Unread = codes "The host's file can't be read, and nothing was typed."
 words Unfinished = codes "The host's file can't be read to its end; what came of it is typed."
-words TooNarrow = codes "This window has fewer than 80 columns: the display is cut off at the right."
+words TooNarrow = codes "This window is too narrow: it has fewer than 80 columns."
 
 -- a name of a host file as far as it is typed, of which the end is seen
 abbrev pub question : List ℕ → List ℕ

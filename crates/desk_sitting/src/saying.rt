@@ -141,9 +141,7 @@ impl Saying {
             Saying::Unfinished => line(
                 b"The host's file can't be read to its end; what came of it is typed.",
             ),
-            Saying::TooNarrow => line(
-                b"This window has fewer than 80 columns: the display is cut off at the right.",
-            ),
+            Saying::TooNarrow => line(b"This window is too narrow: it has fewer than 80 columns."),
         }
     }
 }

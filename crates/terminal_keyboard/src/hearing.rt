@@ -100,7 +100,11 @@ pub(crate) fn line_length(heard: &[Heard]) -> usize
     ensures line { IsWithinLine (take result heard.now) }
 {
     let end = line_end(heard).unwrap_or(heard.len());
-    if end < heard.len() { end + 1 } else { heard.len() }
+    if end < heard.len() {
+        end + 1
+    } else {
+        heard.len()
+    }
 }
 
 /// Where the first line ends.

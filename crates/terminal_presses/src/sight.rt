@@ -57,10 +57,7 @@ impl Sight {
     pub(crate) fn shows(self, column: u16, row: u16) -> bool
         ensures { result ≡ is_inside self column row }
     {
-        1 <= column
-            && column <= u16::from(COLUMNS)
-            && 1 <= row
-            && row <= u16::from(self.rows)
+        1 <= column && column <= u16::from(COLUMNS) && 1 <= row && row <= u16::from(self.rows)
     }
 
     /// How many rows are in sight.

@@ -75,11 +75,11 @@ returns-in_err-show-clause-ended g c =
 pub returns-in_err-hearing-clause-ended : goal.returns-in_err-hearing-clause-ended
 returns-in_err-hearing-clause-ended g c =
     let p = err_from_is_err_and c.from_residual-in_err-hearing.result c.from_residual-in_err-hearing.ensures.1 in
-    let ended = g.K.Keyboard.ended c.hear-hearing.new.keyboard in
+    let ended = g.K.Keyboard.ended c.hear.new.self in
     rw (p.1, p.2) (of_keyboard ended c.in_err-hearing.field-0.0 c.in_err-hearing.ensures.cause)
 
 pub returns-in_err-do_presses-clause-ended : goal.returns-in_err-do_presses-clause-ended
 returns-in_err-do_presses-clause-ended g c =
     let p = err_from_is_err_and c.from_residual-in_err-do_presses.result c.from_residual-in_err-do_presses.ensures.1 in
-    let ended = g.K.Keyboard.ended c.hear-hearing.new.keyboard in
+    let ended = g.K.Keyboard.ended c.hear.new.self in
     rw (p.1, p.2) (not_of_keyboard ended _ (store_no_keyboard c.in_err-do_presses.field-0.0))
