@@ -12,5 +12,5 @@ mod trouble;
 pub use documents::{export, import};
 pub use making::{NewFile, make, new_file};
 pub use pictures::picture;
-pub use stores::{in_memory, opened};
+pub use stores::{in_memory, opened, opened_locked};
 pub use trouble::Trouble;
