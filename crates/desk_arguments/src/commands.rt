@@ -49,7 +49,9 @@ fn wanted<'a>(alloc: Global, name: &'a str) -> Arg<'a> {
 
 /// An argument of any number of words.
 fn listed<'a>(alloc: Global, name: &'a str) -> Arg<'a> {
-    Arg::new(alloc, name).action(ArgAction::Append).num_args(1..)
+    Arg::new(alloc, name)
+        .action(ArgAction::Append)
+        .num_args(1..)
 }
 
 /// A choice: it is made where the word stands there, after two dashes.

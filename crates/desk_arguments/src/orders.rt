@@ -10,10 +10,7 @@ use std::alloc::{AllocError, Global};
 pub enum Order<'a> {
     /// To serve a person at a terminal with so many rows, at the desktop of a store, or at one in memory where no path
     /// is given.
-    Sit {
-        rows: u16,
-        path: Option<&'a str>,
-    },
+    Sit { rows: u16, path: Option<&'a str> },
     /// To print the screen of a store as a picture.
     Picture(&'a str),
     /// To put documents of a store out.
@@ -21,15 +18,9 @@ pub enum Order<'a> {
     /// To make documents of files of the host's.
     Import(Import<'a>),
     /// To list the documents of a store, as JSON if so asked.
-    List {
-        path: &'a str,
-        json: bool,
-    },
+    List { path: &'a str, json: bool },
     /// To copy a store into a file that there isn't yet.
-    Backup {
-        path: &'a str,
-        copy: &'a str,
-    },
+    Backup { path: &'a str, copy: &'a str },
     /// To say how a store is.
     Check(&'a str),
 }
@@ -72,7 +63,11 @@ pub fn order_of<'a>(alloc: Global, words: &'a [String]) -> Result<Order<'a>, Ref
 }
 
 /// The order of a command and what is given with it.
-fn order_named<'a>(alloc: Global, name: &str, given: &ArgMatches<'a>) -> Result<Option<Order<'a>>, AllocError> {
+fn order_named<'a>(
+    alloc: Global,
+    name: &str,
+    given: &ArgMatches<'a>,
+) -> Result<Option<Order<'a>>, AllocError> {
     match name {
         "import" => importing(alloc, given),
         "export" => exporting(alloc, given),
@@ -103,37 +98,41 @@ fn short_order<'a>(name: &str, given: &ArgMatches<'a>) -> Option<Order<'a>> {
 
 /// The order of an import.
 fn importing<'a>(alloc: Global, given: &ArgMatches<'a>) -> Result<Option<Order<'a>>, AllocError> {
-    let words = words_of(alloc, given, "files")?;
-    Ok(given.get_str("path").map(|path| {
-        Order::Import(Import {
-            path,
-            words,
-            replace: given.get_flag("replace"),
-            dry_run: given.get_flag("dry-run"),
-            ascii: given.get_flag("ascii"),
-        })
-    }))
+    let Some(path) = given.get_str("path") else {
+        return Ok(None);
+    };
+    Ok(Some(Order::Import(Import {
+        path,
+        words: words_of(alloc, given, "files")?,
+        replace: given.get_flag("replace"),
+        dry_run: given.get_flag("dry-run"),
+        ascii: given.get_flag("ascii"),
+    })))
 }
 
 /// The order of an export.
 fn exporting<'a>(alloc: Global, given: &ArgMatches<'a>) -> Result<Option<Order<'a>>, AllocError> {
-    let names = words_of(alloc, given, "names")?;
     let all = given.get_str("all");
-    if names.is_empty() == all.is_none() {
+    if given.contains_id("names") == all.is_some() {
         return Ok(None);
     }
-    Ok(given.get_str("path").map(|path| {
-        Order::Export(Export {
-            path,
-            names,
-            all,
-            replace: given.get_flag("replace"),
-        })
-    }))
+    let Some(path) = given.get_str("path") else {
+        return Ok(None);
+    };
+    Ok(Some(Order::Export(Export {
+        path,
+        names: words_of(alloc, given, "names")?,
+        all,
+        replace: given.get_flag("replace"),
+    })))
 }
 
 /// The words of an argument that takes a list of them.
-fn words_of<'a>(alloc: Global, given: &ArgMatches<'a>, id: &str) -> Result<Vec<&'a str>, AllocError> {
+fn words_of<'a>(
+    alloc: Global,
+    given: &ArgMatches<'a>,
+    id: &str,
+) -> Result<Vec<&'a str>, AllocError> {
     match given.get_strs(id) {
         Some(words) => Vec::from_slice(alloc, words),
         None => Ok(Vec::new(alloc)),

@@ -13,14 +13,18 @@ use store_documents::{are_same, copy};
 /// returned. A file that is there is never replaced.
 pub fn backup(rt: &HostRuntime, path: &str, to: &str) -> Result<(), Stop> {
     if !matches!(is_there(rt, to), Ok(false)) {
-        let _ = eprintln!(rt; "desk: there is something called {to:?} already, so nothing was done");
+        let _ = eprintln!(rt;
+            "desk: there is something called {to:?} already, so nothing was done"
+        );
         return Err(HOST);
     }
     let _lock = looked_at(rt, path)?;
     let info = opened(rt, path)?.info()?;
     let aside = format!(in rt.alloc(); "{to}.desk-copy")?;
     if make_file(rt, aside.as_str()).is_err() {
-        let _ = eprintln!(rt; "desk: {to:?} could not be made: there is no right to, or there is {aside:?} already");
+        let _ = eprintln!(rt;
+            "desk: {to:?} could not be made: there is no right to, or there is {aside:?} already"
+        );
         return Err(HOST);
     }
     let made = copy_and_name(rt, path, aside.as_str(), to);
@@ -30,7 +34,9 @@ pub fn backup(rt: &HostRuntime, path: &str, to: &str) -> Result<(), Stop> {
     }
     let epoch = info.epoch;
     let events = info.events;
-    match println!(rt; "{to}: the whole store (epoch {epoch}, {events} events since its checkpoint), compared and synced") {
+    match println!(rt;
+        "{to}: the whole store (epoch {epoch}, {events} events since its checkpoint), compared and synced"
+    ) {
         Ok(()) => Ok(()),
         Err(_) => Err(Stop::Trouble(Trouble::Output)),
     }
@@ -40,16 +46,22 @@ pub fn backup(rt: &HostRuntime, path: &str, to: &str) -> Result<(), Stop> {
 fn copy_and_name(rt: &HostRuntime, path: &str, aside: &str, to: &str) -> Result<(), Stop> {
     copy_disk(rt, path, aside)?;
     if !is_copy(rt, path, aside)? {
-        let _ = eprintln!(rt; "desk: the copy of {path:?} reads as something else, so it was taken away");
+        let _ = eprintln!(rt;
+            "desk: the copy of {path:?} reads as something else, so it was taken away"
+        );
         return Err(HOST);
     }
     opened(rt, aside)?;
     if rename_to_new(rt, aside, to).is_err() {
-        let _ = eprintln!(rt; "desk: there is something called {to:?} by now, so the copy was taken away");
+        let _ = eprintln!(rt;
+            "desk: there is something called {to:?} by now, so the copy was taken away"
+        );
         return Err(HOST);
     }
     if sync_folder(rt, to).is_err() {
-        let _ = eprintln!(rt; "desk: {to:?} was made, but its folder could not be synced, so a power failure may take it away");
+        let _ = eprintln!(rt;
+            "desk: {to:?} was made, but its folder could not be synced, so a power failure may take it away"
+        );
         return Err(HOST);
     }
     Ok(())

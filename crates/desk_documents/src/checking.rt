@@ -65,7 +65,11 @@ fn tell_file(rt: &HostRuntime, length: u64, found: &Examined) -> io::Result<()> 
     } else {
         println!(rt; "file: {length} bytes, whole")?;
     }
-    let label = if found.labelled { "that of a store" } else { "not that of a store" };
+    let label = if found.labelled {
+        "that of a store"
+    } else {
+        "not that of a store"
+    };
     println!(rt; "label: {label}")?;
     tell_slot(rt, 0, found.first)?;
     tell_slot(rt, 1, found.second)
@@ -89,7 +93,9 @@ fn tell_info(rt: &HostRuntime, info: &Info) -> io::Result<()> {
     let layout = info.layout;
     let events = info.events;
     let written = info.written;
-    println!(rt; "in use: epoch {epoch} of {LAST_EPOCH}, layout {layout}, {events} of {JOURNAL_EVENTS} events since its checkpoint")?;
+    println!(rt;
+        "in use: epoch {epoch} of {LAST_EPOCH}, layout {layout}, {events} of {JOURNAL_EVENTS} events since its checkpoint"
+    )?;
     println!(rt; "written: {written} of {MOST_WRITTEN} characters")?;
     println!(rt; "the store opens")
 }
@@ -98,7 +104,9 @@ fn tell_info(rt: &HostRuntime, info: &Info) -> io::Result<()> {
 fn cannot_open(rt: &HostRuntime, path: &str, error: Error) -> Stop {
     if let Error::Damaged(sector) = error {
         let part = part_of(sector);
-        let _ = println!(rt; "sector {sector}, {part}, is damaged: the store does not open; go on with a backup of it");
+        let _ = println!(rt;
+            "sector {sector}, {part}, is damaged: the store does not open; go on with a backup of it"
+        );
     }
     let _ = path;
     Stop::Trouble(Trouble::Store(error))

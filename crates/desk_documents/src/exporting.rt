@@ -5,7 +5,9 @@ use desk_journal::Store;
 use desk_stores::{Trouble, looked_at, opened};
 use desktop_definitions::Entry;
 use event_bytes::Name;
-use host_files::{is_there, make_file, make_folder, remove, rename, rename_to_new, sync_file, sync_folder};
+use host_files::{
+    is_there, make_file, make_folder, remove, rename, rename_to_new, sync_file, sync_folder,
+};
 use host_stores::FileDisk;
 use std::io::IsTerminal;
 use store_documents::{Reader, export};
@@ -41,7 +43,12 @@ fn no_document(rt: &HostRuntime, path: &str, name: &Name) -> Stop {
 }
 
 /// Prints a document.
-fn print(rt: &HostRuntime, path: &str, store: &mut Store<FileDisk>, name: &Name) -> Result<(), Stop> {
+fn print(
+    rt: &HostRuntime,
+    path: &str,
+    store: &mut Store<FileDisk>,
+    name: &Name,
+) -> Result<(), Stop> {
     let mut output = rt.stdout();
     let reader = if output.is_terminal() {
         Reader::Terminal
@@ -96,7 +103,9 @@ fn refuse_files(rt: &HostRuntime, folder: &str, names: &[Name]) -> Result<(), St
         let name = word_of(name);
         let file = format!(in rt.alloc(); "{folder}/{name}")?;
         if !matches!(is_there(rt, file.as_str()), Ok(false)) {
-            let _ = eprintln!(rt; "desk: there is a file {file:?} already, so nothing was done; --replace replaces it");
+            let _ = eprintln!(rt;
+                "desk: there is a file {file:?} already, so nothing was done; --replace replaces it"
+            );
             some = true;
         }
     }
@@ -134,7 +143,12 @@ fn put_out(
 }
 
 /// Writes a document into a new file, and waits until it is there for good. Where that fails there is no such file.
-fn write_aside(rt: &HostRuntime, store: &mut Store<FileDisk>, name: &Name, aside: &str) -> Result<(), Stop> {
+fn write_aside(
+    rt: &HostRuntime,
+    store: &mut Store<FileDisk>,
+    name: &Name,
+    aside: &str,
+) -> Result<(), Stop> {
     let Ok(mut file) = make_file(rt, aside) else {
         return Err(not_made(rt, aside));
     };
@@ -151,7 +165,9 @@ fn write_aside(rt: &HostRuntime, store: &mut Store<FileDisk>, name: &Name, aside
 
 /// Says that a file could not be made.
 fn not_made(rt: &HostRuntime, file: &str) -> Stop {
-    let _ = eprintln!(rt; "desk: the file {file:?} could not be made; those that are told on lines before are there");
+    let _ = eprintln!(rt;
+        "desk: the file {file:?} could not be made; those that are told on lines before are there"
+    );
     HOST
 }
 
@@ -160,7 +176,9 @@ fn settle(rt: &HostRuntime, folder: &str, name: &Name) -> Result<(), Stop> {
     let word = word_of(name);
     let file = format!(in rt.alloc(); "{folder}/{word}")?;
     if sync_folder(rt, file.as_str()).is_err() {
-        let _ = eprintln!(rt; "desk: the folder {folder:?} could not be synced, so a power failure may take files away");
+        let _ = eprintln!(rt;
+            "desk: the folder {folder:?} could not be synced, so a power failure may take files away"
+        );
         return Err(HOST);
     }
     Ok(())

@@ -4,14 +4,15 @@ use crate::ascii::in_ascii;
 use crate::sentences::{REFUSED, Stop, word_of};
 use crate::sources::{Source, sources_of};
 use bstr::decode_utf8;
-use desk_journal::{Document, Store};
+use desk_journal::{Document, Error, Store};
 use desk_stores::{Trouble, opened};
-use desktop_definitions::Reply;
-use desktop_definitions::codes::{FULL, TOO_MANY_FILES};
+use desktop_definitions::codes::TOO_MANY_FILES;
+use desktop_definitions::{MOST_FILES, MOST_HELD, MOST_WRITTEN, Reply};
 use host_documents::{Place, Unfit, document};
-use host_files::{lock_alone, lock_shared};
+use host_files::{HostFault, lock_alone, lock_shared};
 use host_stores::{FileDisk, opened as opened_on};
 use sector_disk::{Disk, FILE_SECTORS, MemoryDisk};
+use std::io;
 use store_documents::{Sorted, copy, sort};
 
 /// How an import is done.
@@ -39,17 +40,22 @@ pub fn import(rt: &HostRuntime, path: &str, words: &[&str], manner: Manner) -> R
 }
 
 /// Tells what would come, by an import into a copy of the store in memory.
-fn try_out(rt: &HostRuntime, path: &str, documents: Vec<Document>, manner: Manner) -> Result<(), Stop> {
+fn try_out(
+    rt: &HostRuntime,
+    path: &str,
+    documents: Vec<Document>,
+    manner: Manner,
+) -> Result<(), Stop> {
     let _lock = match lock_shared(rt, path) {
         Ok(lock) => lock,
         Err(fault) => return Err(Stop::Trouble(Trouble::Host(fault))),
     };
     let Ok(mut file) = FileDisk::open(rt, path) else {
-        return Err(Stop::Trouble(Trouble::Host(host_files::HostFault::Refused)));
+        return Err(Stop::Trouble(Trouble::Host(HostFault::Refused)));
     };
     let mut memory = MemoryDisk::new(rt.alloc(), FILE_SECTORS)?;
     if copy(&mut file, &mut memory, FILE_SECTORS).is_err() {
-        return Err(Stop::Trouble(Trouble::Store(desk_journal::Error::Fault)));
+        return Err(Stop::Trouble(Trouble::Store(Error::Fault)));
     }
     bring_into(rt, opened_on(rt, memory)?, path, documents, manner)
 }
@@ -67,23 +73,35 @@ fn bring_into<D: Disk + Drop>(
     if !manner.replace && !sorted.other.is_empty() {
         return Err(refused_others(rt, path, &sorted));
     }
-    let Sorted { new, same, other } = sorted;
-    let mut coming = new;
-    let fresh = coming.len();
+    let Sorted { fresh, same, other } = sorted;
+    let mut coming = fresh;
+    let new = coming.len();
     for document in other {
         coming.push(document)?;
     }
-    if !coming.is_empty() {
-        match store.bring(rt.alloc(), coming.as_slice())? {
-            Reply::Done => {}
-            Reply::No(code) => return Err(refused_all(rt, path, code)),
-        }
+    bring_all(rt, &mut store, path, coming.as_slice())?;
+    told(tell(rt, coming.as_slice(), new, same.as_slice()))
+}
+
+/// Brings documents into a store, if there are any.
+fn bring_all<D: Disk + Drop>(
+    rt: &HostRuntime,
+    store: &mut Store<D>,
+    path: &str,
+    documents: &[Document],
+) -> Result<(), Stop> {
+    if documents.is_empty() {
+        return Ok(());
     }
-    told(tell(rt, coming.as_slice(), fresh, same.as_slice()))
+    match store.bring(rt.alloc(), documents)? {
+        Reply::Done => Ok(()),
+        Reply::No(TOO_MANY_FILES) => Err(refused_number(rt, path)),
+        Reply::No(_) => Err(refused_length(rt, path, store.info()?.written, documents)),
+    }
 }
 
 /// Where the output fails, the documents are there all the same.
-fn told(lines: std::io::Result<()>) -> Result<(), Stop> {
+fn told(lines: io::Result<()>) -> Result<(), Stop> {
     match lines {
         Ok(()) => Ok(()),
         Err(_) => Err(Stop::Trouble(Trouble::Output)),
@@ -92,7 +110,7 @@ fn told(lines: std::io::Result<()>) -> Result<(), Stop> {
 
 /// Tells each document on a line: the first so many are new, the others that came have replaced one, and then those
 /// that were there already.
-fn tell(rt: &HostRuntime, came: &[Document], fresh: usize, same: &[Document]) -> std::io::Result<()> {
+fn tell(rt: &HostRuntime, came: &[Document], fresh: usize, same: &[Document]) -> io::Result<()> {
     for (index, document) in came.iter().enumerate() {
         tell_one(rt, document, if index < fresh { "new" } else { "replaced" })?;
     }
@@ -103,7 +121,7 @@ fn tell(rt: &HostRuntime, came: &[Document], fresh: usize, same: &[Document]) ->
 }
 
 /// Tells a document on a line.
-fn tell_one(rt: &HostRuntime, document: &Document, what: &str) -> std::io::Result<()> {
+fn tell_one(rt: &HostRuntime, document: &Document, what: &str) -> io::Result<()> {
     let name = word_of(document.name());
     let count = document.as_bytes().len();
     println!(rt; "{name}  {count} characters  {what}")
@@ -120,14 +138,28 @@ fn refused_others(rt: &HostRuntime, path: &str, sorted: &Sorted) -> Stop {
     REFUSED
 }
 
-/// Says why the desktop took none.
-fn refused_all(rt: &HostRuntime, path: &str, code: u8) -> Stop {
-    let _ = match code {
-        FULL => eprintln!(rt;
-            "desk: {path:?} has no room for so many characters more, so nothing was done; desk list tells the room"
-        ),
-        TOO_MANY_FILES => eprintln!(rt; "desk: {path:?} would have more than 256 documents, so nothing was done"),
-        _ => eprintln!(rt; "desk: the desktop refused the documents ({code}), so nothing was done"),
+/// Says that there would be too many documents.
+fn refused_number(rt: &HostRuntime, path: &str) -> Stop {
+    let _ = eprintln!(rt;
+        "desk: {path:?} would have more than {MOST_FILES} documents, so nothing was done"
+    );
+    REFUSED
+}
+
+/// Says which limit on characters is passed, where so many were written.
+fn refused_length(rt: &HostRuntime, path: &str, written: u32, documents: &[Document]) -> Stop {
+    let mut count = u64::from(written);
+    for document in documents {
+        count = count.saturating_add(document.as_bytes().len() as u64);
+    }
+    let _ = if count > u64::from(MOST_WRITTEN) {
+        eprintln!(rt;
+            "desk: {path:?} counts {written} characters as written, of {MOST_WRITTEN}, so nothing was done; System.Collect at the desk makes room"
+        )
+    } else {
+        eprintln!(rt;
+            "desk: {path:?} would hold more than {MOST_HELD} characters, so nothing was done; delete documents or close viewers"
+        )
     };
     REFUSED
 }
@@ -137,9 +169,14 @@ fn documents_of(rt: &HostRuntime, words: &[&str], manner: Manner) -> Result<Vec<
     let mut documents: Vec<Document> = Vec::new(rt.alloc());
     for source in sources_of(rt, words)? {
         let document = document_of(rt, source, manner)?;
-        if let Some(other) = documents.iter().find(|other| other.name() == document.name()) {
+        if let Some(other) = documents
+            .iter()
+            .find(|other| other.name() == document.name())
+        {
             let name = word_of(other.name());
-            let _ = eprintln!(rt; "desk: two of the files are to be the document {name}, so nothing was done");
+            let _ = eprintln!(rt;
+                "desk: two of the files are to be the document {name}, so nothing was done"
+            );
             return Err(REFUSED);
         }
         documents.push(document)?;
@@ -169,19 +206,26 @@ fn document_of(rt: &HostRuntime, source: Source, manner: Manner) -> Result<Docum
 }
 
 /// Says why a file is no document.
-fn say_unfit(rt: &HostRuntime, file: &str, bytes: &[u8], unfit: Unfit) -> std::io::Result<()> {
+fn say_unfit(rt: &HostRuntime, file: &str, bytes: &[u8], unfit: Unfit) -> io::Result<()> {
     match unfit {
         Unfit::TooLong => eprintln!(rt;
             "desk: {file:?} has more than 262,144 characters, so nothing was done"
         ),
-        Unfit::NoText => eprintln!(rt; "desk: {file:?} is no text, since it has a NUL, so nothing was done"),
-        Unfit::Strange { index, place } => say_strange(rt, file, bytes.get(index..).unwrap_or(&[]), place),
+        Unfit::NoText => eprintln!(rt;
+            "desk: {file:?} is no text, since it has a NUL, so nothing was done"
+        ),
+        Unfit::Strange { index, place } => say_strange(
+            rt,
+            file,
+            bytes.get(index..).unwrap_or(&[]),
+            place,
+        ),
         Unfit::NoMemory => Ok(()),
     }
 }
 
 /// Says which byte or character of a file no document has, where the rest of the file begins with it.
-fn say_strange(rt: &HostRuntime, file: &str, rest: &[u8], place: Place) -> std::io::Result<()> {
+fn say_strange(rt: &HostRuntime, file: &str, rest: &[u8], place: Place) -> io::Result<()> {
     let Place { line, column } = place;
     match decode_utf8(rest) {
         (Some(sign), _) if sign.is_alphanumeric() => eprintln!(rt;

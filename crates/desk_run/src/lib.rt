@@ -7,7 +7,9 @@ mod sitting;
 
 use crate::sitting::{sit_at, sit_in_memory};
 use desk_arguments::{Export, Import, Order, Refusal, order_of, words};
-use desk_documents::{Manner, Stop, backup, check, export_all, export_names, import, list, list_json};
+use desk_documents::{
+    Manner, Stop, backup, check, export_all, export_names, import, list, list_json,
+};
 use desk_stores::{Trouble, picture};
 
 /// Does what the arguments of the program ask for, and returns the status: 0 when done, 1 where a document is refused,

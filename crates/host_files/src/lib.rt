@@ -6,13 +6,13 @@ ghost use Rattle.std.specs.Prelude.{◌≡◌, ◌≤◌, Ok, IfOk, length};
 
 mod texts;
 
-pub use texts::{
-    files_in, is_folder, length_of, make_file, make_folder, read_input, read_whole, rename_to_new, sync_file,
-};
-
 use std::fs::{File, Metadata, OpenOptions, TryLockError};
 use std::io::{ErrorKind, Read};
 use std::{fs, io};
+pub use texts::{
+    files_in, is_folder, length_of, make_file, make_folder, read_input, read_whole, rename_to_new,
+    sync_file,
+};
 
 /// Why the host did not do what it was asked.
 #[derive(Clone, Copy, Debug, PartialEq, Eq)]

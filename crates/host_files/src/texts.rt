@@ -64,7 +64,12 @@ pub fn make_folder(rt: &HostRuntime, path: &str) -> Result<(), HostFault> {
 
 /// Makes a file, to be written, under a name that nobody has. It follows no link.
 pub fn make_file(rt: &HostRuntime, path: &str) -> Result<File, HostFault> {
-    asked(OpenOptions::new().write(true).create_new(true).open(rt, path))
+    asked(
+        OpenOptions::new()
+            .write(true)
+            .create_new(true)
+            .open(rt, path),
+    )
 }
 
 /// Waits until the file's bytes are there for good.

@@ -1,5 +1,5 @@
 -- What the sectors of a disk say of a store.
-use Rattle.std.specs.Prelude.{ℕ, Bool, if◌then◌else◌, List}
+use Rattle.std.specs.Prelude.{ℕ, if◌then◌else◌}
 use Rattle.sector_disk.specs.Trail.{Content}
 use Rattle.store_layout.specs.Layout.{is_label, is_open, slot_gate, head}
 use Rattle.store_layout.specs.declared.layout.TheConstants.{LABEL}

@@ -1,19 +1,16 @@
 -- What comes out of a store, for whom.
-use Rattle.std.specs.Prelude.{◌≡◌, ℕ, Bool, true, false, List, map, Option, Some, None}
+use Rattle.std.specs.Prelude.{◌≡◌, ℕ, Bool, true, false, List, Option, Some, None}
 use Rattle.std.specs.Io.KnownBytes.{Appends, Keeps}
 use Rattle.piece_ring.specs.Text.{Text}
 use Rattle.host_documents.specs.HostText.{exported, printable}
 use Rattle.output_bytes.specs.Sent.{AppendsFront}
+use Rattle.store_documents.specs.Standings.{bytes_of}
 use Rattle.store_documents.specs.declared.exporting.Reader.{Reader}
 use Rattle.store_documents.specs.declared.exporting.Reader.TheVariants.{Program, Terminal}
 use Rattle.store_documents.specs.declared.exporting.ExportFault.{ExportFault}
 use Rattle.store_documents.specs.declared.exporting.ExportFault.TheVariants.{Store, Output}
 
--- the bytes of a text without its looks
-abbrev pub bytes_of : Text ℕ → List ℕ
-bytes_of text = map (λ character. character.0) text
-
--- as a reader gets them
+-- the bytes of a text as a reader gets them
 abbrev pub text_of : Reader → Text ℕ → List ℕ
 text_of Program text = exported (bytes_of text)
 text_of Terminal text = printable (bytes_of text)

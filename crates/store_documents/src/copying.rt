@@ -1,5 +1,5 @@
 //! A disk beside another one.
-ghost use Rattle.std.specs.Prelude.{◌≡◌, ◌<◌, ◌≤◌, ℕ, IsTrue, OnOk, IfOk};
+ghost use Rattle.std.specs.Prelude.{◌≡◌, ◌<◌, ◌≤◌, ℕ, false, IsTrue, OnOk, IfOk};
 ghost use Rattle.sector_disk.specs.Trail.{now, Nowhere};
 ghost use Rattle.sector_disk.specs.Confined.{IsConfined};
 ghost use Rattle.store_documents.specs.Copying.{HaveSame};

@@ -7,7 +7,9 @@ ghost use Rattle.sector_disk.specs.Confined.{IsConfined};
 ghost use Rattle.store_documents.specs.Examining.{slot_state, examined};
 
 use sector_disk::{Disk, Fault, SECTOR_BYTES};
-use store_layout::{Head, LABEL, SLOTS, STORE_SECTORS, has_label, is_open_gate, slot_gate, slot_head};
+use store_layout::{
+    Head, LABEL, SLOTS, STORE_SECTORS, has_label, is_open_gate, slot_gate, slot_head,
+};
 
 /// What is in a slot.
 #[derive(Clone, Copy, Debug, PartialEq, Eq)]

@@ -1,7 +1,7 @@
 //! How documents stand to those of a store.
-ghost use Rattle.std.specs.Prelude.{◌≡◌, ◌++◌, ◌∷◌, [], IfOk, OnOk};
+ghost use Rattle.std.specs.Prelude.{◌≡◌, IfOk, OnOk};
 ghost use Rattle.desk_journal.specs.Looking.{OnlyLooks};
-ghost use Rattle.store_documents.specs.Standings.{standing_of, standing_beside, AreSorted, OnlyLooked};
+ghost use Rattle.store_documents.specs.Standings.{standing_of, standing_beside, bytes_of, AreSorted, IsAdded, OnlyLooked};
 
 use desk_journal::{Document, Error, Store};
 use piece_ring::Look;
@@ -22,7 +22,7 @@ pub enum Standing {
 /// Documents by how they stand to a store, each list in the order in which they were given.
 #[derive(Drop)]
 pub struct Sorted {
-    pub new: Vec<Document>,
+    pub fresh: Vec<Document>,
     pub same: Vec<Document>,
     pub other: Vec<Document>,
 }
@@ -30,7 +30,11 @@ pub struct Sorted {
 /// How a document stands to the store. The looks of characters don't matter.
 ///
 /// Errors: those of `Store::file`.
-pub fn standing_in<D: Disk>(alloc: Global, store: &mut Store<D>, document: &Document) -> Result<Standing, Error>
+pub fn standing_in<D: Disk>(
+    alloc: Global,
+    store: &mut Store<D>,
+    document: &Document,
+) -> Result<Standing, Error>
     ensures standing { IfOk result (λ standing. D.honest store.old.disk
         → standing ≡ standing_of store.old.desktop document.now) }
     ensures looks { OnlyLooks D.Disk result store.old store.new }
@@ -38,48 +42,64 @@ pub fn standing_in<D: Disk>(alloc: Global, store: &mut Store<D>, document: &Docu
     let name = document.name();
     match store.file(alloc, name)? {
         None => Ok(Standing::New),
-        Some(characters) => Ok(beside(characters.as_slice(), document.as_bytes())),
+        Some(characters) => Ok(beside(alloc, characters.as_slice(), document.as_bytes())?),
     }
 }
 
 /// How a document of these bytes stands to one of these characters.
-fn beside(characters: &[(u8, Look)], bytes: &[u8]) -> Standing
-    ensures { result ≡ standing_beside bytes.now characters.now }
+fn beside(alloc: Global, characters: &[(u8, Look)], bytes: &[u8]) -> Result<Standing, AllocError>
+    ensures { IfOk result (λ standing. standing ≡ standing_beside bytes.now characters.now) }
 {
-    if characters.iter().map(|character| character.0).eq(bytes.iter().copied()) {
-        Standing::Same
+    let text = text_of(alloc, characters)?;
+    if text.as_slice() == bytes {
+        Ok(Standing::Same)
     } else {
-        Standing::Other
+        Ok(Standing::Other)
     }
+}
+
+/// Characters without their looks.
+fn text_of(alloc: Global, characters: &[(u8, Look)]) -> Result<Vec<u8>, AllocError>
+    ensures { IfOk result (λ text. text.items ≡ bytes_of characters.now) }
+{
+    characters
+        .iter()
+        .map(|character| character.0)
+        .collect(alloc)
 }
 
 /// The documents by how they stand to the store.
 ///
 /// Errors: those of `Store::file`.
-pub fn sort<D: Disk>(alloc: Global, store: &mut Store<D>, documents: Vec<Document>) -> Result<Sorted, Error>
+pub fn sort<D: Disk>(
+    alloc: Global,
+    store: &mut Store<D>,
+    documents: Vec<Document>,
+) -> Result<Sorted, Error>
     ensures sorted { IfOk result (λ sorted. D.honest store.old.disk
         → AreSorted store.old.desktop documents.items sorted) }
     ensures looked { OnlyLooked D.Disk store.old store.new }
 {
     let mut sorted = Sorted {
-        new: Vec::new(alloc),
+        fresh: Vec::new(alloc),
         same: Vec::new(alloc),
         other: Vec::new(alloc),
     };
     for document in documents {
-        match standing_in(alloc, store, &document)? {
-            Standing::New => put(&mut sorted.new, document)?,
-            Standing::Same => put(&mut sorted.same, document)?,
-            Standing::Other => put(&mut sorted.other, document)?,
-        }
+        let standing = standing_in(alloc, store, &document)?;
+        add(&mut sorted, document, standing)?;
     }
     Ok(sorted)
 }
 
-/// The list has the document behind its others.
-fn put(list: &mut Vec<Document>, document: Document) -> Result<(), AllocError>
-    ensures { OnOk result (list.new.items ≡ list.old.items ++ document ∷ []) }
+/// The document goes behind those that stand as it does.
+fn add(sorted: &mut Sorted, document: Document, standing: Standing) -> Result<(), AllocError>
+    ensures { OnOk result (IsAdded document standing sorted.old sorted.new) }
 {
-    list.push(document)?;
+    match standing {
+        Standing::New => sorted.fresh.push(document)?,
+        Standing::Same => sorted.same.push(document)?,
+        Standing::Other => sorted.other.push(document)?,
+    }
     Ok(())
 }
