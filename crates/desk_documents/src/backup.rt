@@ -3,7 +3,7 @@
 use crate::sentences::{HOST, Stop};
 use desk_journal::Error;
 use desk_stores::{Trouble, looked_at, opened};
-use host_files::{is_there, make_file, remove, rename_to_new, sync_folder};
+use host_files::{is_there, make_file, remove, rename_new, sync_folder};
 use host_stores::FileDisk;
 use sector_disk::FILE_SECTORS;
 use store_documents::{are_same, copy};
@@ -52,7 +52,7 @@ fn copy_and_name(rt: &HostRuntime, path: &str, aside: &str, to: &str) -> Result<
         return Err(HOST);
     }
     opened(rt, aside)?;
-    if rename_to_new(rt, aside, to).is_err() {
+    if rename_new(rt, aside, to).is_err() {
         let _ = eprintln!(rt;
             "desk: there is something called {to:?} by now, so the copy was taken away"
         );

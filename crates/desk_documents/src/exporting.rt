@@ -6,7 +6,7 @@ use desk_stores::{Trouble, looked_at, opened};
 use desktop_definitions::Entry;
 use event_bytes::Name;
 use host_files::{
-    is_there, make_file, make_folder, remove, rename, rename_to_new, sync_file, sync_folder,
+    is_there, make_file, make_folder, remove, rename_new, rename_over, sync_file, sync_folder,
 };
 use host_stores::FileDisk;
 use std::io::IsTerminal;
@@ -128,9 +128,9 @@ fn put_out(
         return Err(stop);
     }
     let named = if replace {
-        rename(rt, aside.as_str(), file.as_str())
+        rename_over(rt, aside.as_str(), file.as_str())
     } else {
-        rename_to_new(rt, aside.as_str(), file.as_str())
+        rename_new(rt, aside.as_str(), file.as_str())
     };
     if named.is_err() {
         let _ = remove(rt, aside.as_str());

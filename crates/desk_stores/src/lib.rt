@@ -7,7 +7,7 @@ mod pictures;
 mod stores;
 mod trouble;
 
-pub use making::make;
+pub use making::{NewFile, make, new_file};
 pub use pictures::picture;
 pub use stores::{in_memory, looked_at, opened};
 pub use trouble::Trouble;

@@ -77,11 +77,9 @@ pub fn sync_file(file: &File) -> Result<(), HostFault> {
     asked(file.sync_all())
 }
 
-/// Gives a file a name that nobody has, in place of the one that it has. Where there is a file of that name, it stays,
-/// and this is `Refused`.
-pub fn rename_to_new(rt: &HostRuntime, from: &str, to: &str) -> Result<(), HostFault> {
-    asked(fs::hard_link(rt, from, to))?;
-    asked(fs::remove_file(rt, from))
+/// Gives the file another name, in place of any other file that has it. A lock on the file stays.
+pub fn rename_over(rt: &HostRuntime, from: &str, to: &str) -> Result<(), HostFault> {
+    asked(fs::rename(rt, from, to))
 }
 
 /// How many bytes a file has.
