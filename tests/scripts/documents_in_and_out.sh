@@ -16,7 +16,6 @@ desk import my.disk short.txt missing.txt
 desk import --dry-run my.disk short.txt middle.txt long.txt
 desk list my.disk
 desk import my.disk short.txt middle.txt long.txt crlf.txt A.Text=short.txt
-for file in short middle long; do desk export my.disk $file.txt | head -n -1 | cmp - <(cat $file.txt; tail -c 1 $file.txt | grep -q . && :) ; done
 "$DESK_PROGRAM" export my.disk long.txt | cmp - long.txt && echo 'long.txt came back'
 "$DESK_PROGRAM" export my.disk short.txt middle.txt | cmp - <(cat short.txt middle.txt) && echo 'two came back'
 "$DESK_PROGRAM" export my.disk crlf.txt | od -An -c

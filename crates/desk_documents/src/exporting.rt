@@ -88,9 +88,9 @@ pub fn export_all(rt: &HostRuntime, path: &str, folder: &str, replace: bool) -> 
 /// The names of the documents of a store.
 fn names_of(rt: &HostRuntime, store: &mut Store<FileDisk>) -> Result<Vec<Name>, Stop> {
     let mut names = Vec::new(rt.alloc());
-    for entry in store.list(rt.alloc())? {
+    for entry in &store.list(rt.alloc())? {
         if let Entry::File { name, len: _ } = entry {
-            names.push(name)?;
+            names.push(name.clone()?)?;
         }
     }
     Ok(names)
