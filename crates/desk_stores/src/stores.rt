@@ -10,7 +10,7 @@ use sector_disk::{Disk, FILE_SECTORS, FileDisk, MemoryDisk};
 use std::fs::File;
 
 /// Takes the lock of a store's file for a look, beside other programs that look.
-pub(crate) fn looked_at(rt: &HostRuntime, path: &str) -> Result<File, Trouble> {
+pub fn looked_at(rt: &HostRuntime, path: &str) -> Result<File, Trouble> {
     match lock_shared(rt, path) {
         Ok(lock) => Ok(lock),
         Err(fault) => Err(Trouble::Host(fault)),
