@@ -10,9 +10,10 @@ use std::alloc::{AllocError, Global};
 #[derive(Drop)]
 pub enum Order<'a> {
     /// To serve a person at a terminal with so many rows, at the desktop of a store, or at one in memory where no path
-    /// is given.
+    /// is given; with word there whether the program is unproved.
     Sit {
         rows: u16,
+        unproved: bool,
         path: Option<&'a str>,
     },
     /// To print the screen of a store as a picture.
@@ -44,6 +45,7 @@ fn order_named<'a>(name: &str, given: &ArgMatches<'a>) -> Option<Order<'a>> {
     match name {
         "sit" => Some(Order::Sit {
             rows: given.get_str("rows")?.parse::<u16>().ok()?,
+            unproved: given.get_flag("unproved"),
             path: given.get_str("path"),
         }),
         "picture" => Some(Order::Picture(given.get_str("path")?)),
@@ -63,6 +65,11 @@ fn order_named<'a>(name: &str, given: &ArgMatches<'a>) -> Option<Order<'a>> {
 /// The program as the command line has it: four commands.
 fn command<'a>(alloc: Global) -> Result<Command<'a>, AllocError> {
     let sit = Command::new(alloc, "sit")
+        .arg(
+            Arg::new(alloc, "unproved")
+                .long("unproved")
+                .action(ArgAction::SetTrue),
+        )?
         .arg(wanted(alloc, "rows"))?
         .arg(Arg::new(alloc, "path").action(ArgAction::Set))?;
     let picture = Command::new(alloc, "picture").arg(wanted(alloc, "path"))?;

@@ -7,6 +7,7 @@ mod sitting;
 
 use crate::sitting::{sit_at, sit_in_memory};
 use desk_arguments::{Order, Refusal, order_of, words};
+use desk_session::Saying;
 use desk_stores::{Trouble, export, import, picture};
 
 /// Does what the arguments of the program ask for, and returns the status: 0 when done, 1 where a document is refused,
@@ -29,7 +30,7 @@ fn decline(rt: &HostRuntime, refusal: Refusal) -> u8 {
         Refusal::Memory => Trouble::Memory.say(rt, ""),
         Refusal::Usage => {
             let _ = eprintln!(rt;
-                "desk: usage: sit ROWS [PATH] | picture PATH | export PATH NAME | import PATH NAME FILE, in UTF-8"
+                "desk: usage: sit [--unproved] ROWS [PATH] | picture PATH | export PATH NAME | import PATH NAME FILE, in UTF-8"
             );
             2
         }
@@ -39,14 +40,28 @@ fn decline(rt: &HostRuntime, refusal: Refusal) -> u8 {
 /// Does what is ordered, and returns the status. What goes wrong is said.
 fn follow(rt: &HostRuntime, order: &Order<'_>) -> u8 {
     match order {
-        Order::Sit { rows, path: None } => sit_in_memory(rt, *rows),
         Order::Sit {
             rows,
+            path: None,
+            ..
+        } => sit_in_memory(rt, *rows),
+        Order::Sit {
+            rows,
+            unproved,
             path: Some(path),
-        } => sit_at(rt, *rows, path),
+        } => sit_at(rt, *rows, path, greeting(*unproved)),
         Order::Picture(path) => told(rt, path, picture(rt, path)),
         Order::Export { path, name } => told(rt, path, export(rt, path, name)),
         Order::Import { path, name, file } => told(rt, path, import(rt, path, name, file)),
+    }
+}
+
+/// How a sitting over a store in a file begins.
+fn greeting(unproved: bool) -> Saying {
+    if unproved {
+        Saying::Unproved
+    } else {
+        Saying::Greeting
     }
 }
 

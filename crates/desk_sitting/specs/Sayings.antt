@@ -7,7 +7,7 @@ use Rattle.event_bytes.specs.declared.keys.Keys.TheVariants.{MiddleRight, Right,
 use Rattle.terminal_presses.specs.declared.action.Click.{Click}
 use Rattle.terminal_presses.specs.declared.action.Click.TheVariants.{Mark, Keys}
 use Rattle.desk_sitting.specs.declared.saying.Saying.{Saying}
-use Rattle.desk_sitting.specs.declared.saying.Saying.TheVariants.{Nothing, Greeting, InMemory, Refused, Worn, Unread}
+use Rattle.desk_sitting.specs.declared.saying.Saying.TheVariants.{Nothing, Greeting, Unproved, InMemory, Refused, Worn, Unread}
 
 -- why an event is refused, by the code of the refusal from 0 on
 abbrev pub reasons : List (List ℕ)
@@ -50,6 +50,7 @@ click_words (Keys keys) = keys_words keys
 unfoldable pub words : Saying → List ℕ
 words Nothing = []
 words Greeting = codes "Middle button, or F2 and then a click, calls the word there; Ctrl-Q leaves"
+words Unproved = codes "Compiled, not proved yet: ./prove does it. F2+click calls a word; Ctrl-Q leaves"
 words InMemory = codes "This desktop is in memory: when you leave (Ctrl-Q) it is gone."
 words (Refused code) = reason code
 words Worn = codes "This store takes no more events: its epochs are used up."
