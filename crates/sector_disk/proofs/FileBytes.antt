@@ -7,7 +7,7 @@ use Rattle.std.proofs.lemmas.Bool.{cases_lt}
 use Rattle.std.proofs.lemmas.Bool.Decides.{nat_tests}
 use Rattle.sector_disk.specs.Trail.{Nowhere}
 use Rattle.sector_disk.specs.FileTrail.{FileMoment, FileTrail, current, in_span, overwritten, ChangesOnly}
-use Rattle.sector_disk.specs.FileTrail.{IsFileConfined, EndsThere}
+use Rattle.sector_disk.specs.FileTrail.{IsFileConfined, EndsTrail}
 use Rattle.std.proofs.Common.{Result, Ok, Err, OnOk, OnErr, subst}
 
 inside : (from n i : ℕ) → from ≤ i → i < from + n → in_span from n i ≡ true
@@ -178,11 +178,11 @@ module _ {F : Type 0} (honest : F → Type 0) (trail : F → FileTrail) where
 
   -- a call that was done touched nothing, and after one that wasn't nothing more is told
   pub touched_none : {E : Type 0} (result : Result (Unit {0}) E) (old new : F)
-      → OnOk result (IsFileConfined honest trail Nowhere old new) → OnErr result (EndsThere honest trail old new)
+      → OnOk result (IsFileConfined honest trail Nowhere old new) → OnErr result (EndsTrail honest trail old new)
       → IsFileConfined honest trail Nowhere old new
   touched_none (Ok _) old new run none = run
   touched_none (Err _) old new none ends = record {
     still = ends.still;
     already = ends.already;
-    moments = λ h. subst (ChangesOnly Nowhere (trail old)) (sym ends.told) (stays Nowhere (trail old));
+    moments = λ h. subst (ChangesOnly Nowhere (trail old)) (sym ends.same) (stays Nowhere (trail old));
   }

@@ -5,7 +5,7 @@ use Rattle.std.proofs.lemmas.List.{length-append, take-append-le, get_or_append_
 use Rattle.std.proofs.Math.Seq.{take-length}
 use Rattle.std.proofs.lemmas.Bool.{cases_eq, cases_lt}
 use Rattle.sector_disk.specs.declared.file_call.FileCall.{FileCall}
-use Rattle.sector_disk.specs.declared.file_call.FileCall.TheVariants.{Byte, Flush}
+use Rattle.sector_disk.specs.declared.file_call.FileCall.TheVariants.{Byte, Sync}
 use Rattle.sector_disk.specs.Trail.{Nowhere}
 use Rattle.sector_disk.specs.FileTrail.{FileMoment, current, Span}
 use Rattle.sector_disk.specs.FileTrail.{IsFileConfined}
@@ -77,8 +77,8 @@ byte_keeps m at value from n low high = record {
       ]
     ]
 
-pub flush_keeps : (m : FileMoment) → KeepsRest Nowhere m (file_after Flush m)
-flush_keeps m = record { reads = λ i out. refl; settled = λ i out was. refl }
+pub sync_keeps : (m : FileMoment) → KeepsRest Nowhere m (file_after Sync m)
+sync_keeps m = record { reads = λ i out. refl; settled = λ i out was. refl }
 
 -- what is read after a byte was written
 pub byte_reads : (m : FileMoment) (at value i : ℕ) → (file_after (Byte at value) m).reads i

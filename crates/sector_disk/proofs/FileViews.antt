@@ -9,7 +9,7 @@ use Rattle.std.proofs.lemmas.Bool.Decides.{nat_tests}
 use Rattle.sector_disk.specs.declared.disk.TheConstants.{SECTOR_BYTES}
 use Rattle.sector_disk.specs.Trail.{IsCrashImage, Touches, Only, written, settled}
 use Rattle.sector_disk.specs.Confined.{IsConfined}
-use Rattle.sector_disk.specs.FileTrail.{FileMoment, FileTrail, current, IsFileImage, Span, overwritten, flushed}
+use Rattle.sector_disk.specs.FileTrail.{FileMoment, FileTrail, current, IsFileImage, Span, overwritten, file_synced}
 use Rattle.sector_disk.specs.FileTrail.{ChangesOnly, IsFileConfined}
 use Rattle.sector_disk.specs.FileSectors.{bytes_in, any_in, sectors_in, sectors_at, sectors_of}
 use Rattle.sector_disk.proofs.FileBytes.{reads_inside, reads_outside, pending_inside, pending_outside}
@@ -133,8 +133,8 @@ sector_written m n bytes long = λ i. record { reads = λ k. reads k i; pending 
     ]
 
 -- all settled
-pub sectors_flushed : (m : FileMoment) → sectors_at (flushed m) ≡ settled (sectors_at m)
-sectors_flushed m = λ i. record {
+pub sectors_synced : (m : FileMoment) → sectors_at (file_synced m) ≡ settled (sectors_at m)
+sectors_synced m = λ i. record {
   reads = sectors_in m.reads;
   pending = λ k. any_in_none (λ _. false) (SECTOR_BYTES * k) SECTOR_BYTES (λ j low high. refl) i;
 }

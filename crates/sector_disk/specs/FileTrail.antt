@@ -36,8 +36,8 @@ overwritten m from bytes = record {
 }
 
 -- the moment after a sync
-abbrev pub flushed : FileMoment → FileMoment
-flushed m = record { reads = m.reads; pending = λ _. false }
+abbrev pub file_synced : FileMoment → FileMoment
+file_synced m = record { reads = m.reads; pending = λ _. false }
 
 -- the past stayed as it was, and at every moment from old to new each byte outside the area read as at old, and was
 -- settled if it was so at old
@@ -57,7 +57,7 @@ pub record IsFileConfined {F : Type 0} (honest : F → Type 0) (trail : F → Fi
   pub moments : honest old → ChangesOnly area (trail old) (trail new)
 
 -- a call after which nothing more is told of a file: what it was up to then stays as it was
-pub record EndsThere {F : Type 0} (honest : F → Type 0) (trail : F → FileTrail) (old new : F) : Type 0 where
+pub record EndsTrail {F : Type 0} (honest : F → Type 0) (trail : F → FileTrail) (old new : F) : Type 0 where
   pub still : honest old → honest new
   pub already : honest new → honest old
-  pub told : trail new ≡ trail old
+  pub same : trail new ≡ trail old

@@ -4,6 +4,7 @@ pub mod Memory
 pub mod Sectors
 pub mod FileTrail
 pub mod FileSectors
+pub mod FileImages
 pub mod MemoryFile
 pub mod File
 pub mod Failing

@@ -2,8 +2,8 @@
 -- moment for each.
 use Rattle.std.specs.Prelude.{List, [], ◌∷◌, length, take, false}
 use Rattle.sector_disk.specs.declared.file_call.FileCall.{FileCall}
-use Rattle.sector_disk.specs.declared.file_call.FileCall.TheVariants.{Byte, Flush}
-use Rattle.sector_disk.specs.FileTrail.{FileMoment, FileTrail, overwritten, flushed}
+use Rattle.sector_disk.specs.declared.file_call.FileCall.TheVariants.{Byte, Sync}
+use Rattle.sector_disk.specs.FileTrail.{FileMoment, FileTrail, overwritten, file_synced}
 
 -- before the first call the file has no bytes
 abbrev pub empty_file : FileMoment
@@ -11,7 +11,7 @@ empty_file = record { reads = λ _. 0; pending = λ _. false }
 
 abbrev pub file_after : FileCall → FileMoment → FileMoment
 file_after (Byte at value) m = overwritten m at (value ∷ [])
-file_after Flush m = flushed m
+file_after Sync m = file_synced m
 
 abbrev pub file_replayed : List FileCall → FileMoment → FileMoment
 file_replayed [] m = m

@@ -7,5 +7,5 @@ pub enum FileCall {
     Byte(u64, u8),
 
     /// All that was written before it was settled.
-    Flush,
+    Sync,
 }

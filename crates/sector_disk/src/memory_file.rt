@@ -140,7 +140,7 @@ impl HostFile for MemoryFile {
     }
 
     fn sync_data(&mut self) -> Result<(), HostError> {
-        self.calls.add(&[FileCall::Flush]);
+        self.calls.add(&[FileCall::Sync]);
         Ok(())
     }
 }

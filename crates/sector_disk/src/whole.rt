@@ -1,4 +1,4 @@
-//! Bytes of a file that are read and written whole, however few of them a call moves.
+//! Bytes of a file that are read and written whole, however few of them a call of the host moves.
 ghost use Rattle.std.specs.Prelude.{◌≡◌, ◌<◌, ◌≤◌, ◌+◌, ◌^◌, true, length};
 ghost use Rattle.sector_disk.specs.Trail.{Nowhere};
 ghost use Rattle.sector_disk.specs.FileTrail.{current, Span, overwritten, IsFileConfined};
@@ -6,8 +6,9 @@ ghost use Rattle.sector_disk.specs.FileSectors.{bytes_in};
 
 use crate::host_file::{HostError, HostFile};
 
-/// Reads the bytes from this offset on, zeros from the file's end on. False where the host refused. A read that a signal
-/// interrupted, or that gave fewer bytes than asked, goes on where it stopped.
+/// Fills the buffer with the bytes from this offset on, zeros from the file's end on, and returns whether it did: false
+/// where the host refused, and then the buffer may hold anything. A read that a signal interrupted is made again; one
+/// that gave fewer bytes than asked is gone on with where it stopped.
 pub(crate) fn read_whole<F: HostFile>(file: &mut F, buffer: &mut [u8], offset: u64) -> bool
     requires intact { F.intact file.old ≡ true }
     requires room { offset + length buffer.old < 2 ^ 64 }
@@ -34,8 +35,9 @@ pub(crate) fn read_whole<F: HostFile>(file: &mut F, buffer: &mut [u8], offset: u
     false
 }
 
-/// Writes the bytes from this offset on. False where the host refused. A write that a signal interrupted, or that took
-/// fewer bytes than it was given, goes on where it stopped; one that takes none is refused.
+/// Writes the bytes from this offset on, and returns whether it did: false where the host refused, and then any of them
+/// may be written or not. A write that a signal interrupted is made again; one that took fewer bytes than it was given
+/// is gone on with where it stopped, and one that took none counts as refused.
 pub(crate) fn write_whole<F: HostFile>(file: &mut F, bytes: &[u8], offset: u64) -> bool
     requires intact { F.intact file.old ≡ true }
     requires room { offset + length bytes.now < 2 ^ 64 }

@@ -13,8 +13,8 @@ returns-clause-kept g c = confined_by_sectors (λ d. d.file) (λ _. FILE_SECTORS
     c.write_whole-done.ensures.kept
 
 pub returns-clause-written : goal.returns-clause-written
-returns-clause-written g c = when_done c.told-2.result c.write_whole-done.result c.args.self.now.failed c.told-2.new.failed _
-    c.told-2.ensures
+returns-clause-written g c = when_done c.counted-2.result c.write_whole-done.result c.args.self.now.failed c.counted-2.new.failed _
+    c.counted-2.ensures
     (λ done h.
     let m = current (g.F.HostFile.trail c.args.self.now.file) in
     ap sectors_at (c.write_whole-done.ensures.written done h)

@@ -2,7 +2,7 @@ use Rattle.std.proofs.Common.{◌≡◌, ◌<◌, ℕ}
 use Rattle.sector_disk.specs.Memory.{zeros}
 use Rattle.sector_disk.specs.FileTrail.{current}
 use Rattle.sector_disk.specs.FileSectors.{sectors_at}
-use Rattle.sector_disk.proofs.file.FileDisk.cleared.Given as goal
+use Rattle.sector_disk.proofs.file.FileDisk.zeroed.Given as goal
 
 abbrev pub invariant-loop-n : goal.invariant-loop-n
 invariant-loop-n g l = record {

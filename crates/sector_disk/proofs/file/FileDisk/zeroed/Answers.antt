@@ -3,7 +3,7 @@ use Rattle.std.proofs.lemmas.Bool.{cases_eq}
 use Rattle.sector_disk.specs.FileTrail.{current}
 use Rattle.sector_disk.specs.FileSectors.{sectors_at}
 use Rattle.sector_disk.proofs.FileViews.{tests_same, tests_other}
-use Rattle.sector_disk.proofs.file.FileDisk.cleared.Goals as goal
+use Rattle.sector_disk.proofs.file.FileDisk.zeroed.Goals as goal
 
 pub loop-n-preserved : goal.loop-n-preserved
 loop-n-preserved g c =
