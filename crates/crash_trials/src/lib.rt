@@ -2,12 +2,14 @@
 //!
 //! Each round makes stores of its own by random events, from a seed, on a desktop with viewers, files, looks and a
 //! marker, whose characters stand on the disk and are read from there. Calls of a store (events, with the journal full
-//! and not, checkpoints in both directions, and opening) are stopped at the calls of the disk. What a crash may leave
-//! then is tried: all fillings of the pending sectors where they are few, and random ones where they are more. Opening
-//! each image is stopped in its turn, at one call after another, each time with a crash after it. It must open in the
-//! end, and show the desktop before the call or the one after it, and the one after it where the call was acknowledged.
+//! and not, events taken back, checkpoints in both directions, and opening) are stopped at the calls of the disk. What a
+//! crash may leave then is tried: all fillings of the pending sectors where they are few, and random ones where they are
+//! more. Opening each image is stopped in its turn, at one call after another, each time with a crash after it. It must
+//! open in the end, and show the desktop before the call or the one after it, and the one after it where the call was
+//! acknowledged.
 #![tactic(auto)]
 
+mod call;
 mod fillings;
 mod images;
 mod random;

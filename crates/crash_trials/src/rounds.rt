@@ -1,5 +1,6 @@
 //! Rounds of the search: the stores of a round, and what is stopped over them.
 
+use crate::call::{Call, after_call};
 use crate::random::Random;
 use crate::search::Search;
 use crate::stores::{after, aged, fresh};
@@ -141,7 +142,7 @@ fn posts(
     let mut disk = disk;
     for _ in 0..2 {
         let event = line(&mut search.random);
-        let trial = Trial::new(alloc, name, &disk, event, false)?;
+        let trial = Trial::new(alloc, name, &disk, Call::line(alloc, event)?, false)?;
         search.run_trial(alloc, &trial)?;
         disk = after(alloc, &disk, event)?;
     }
@@ -155,9 +156,31 @@ fn checkpoint(
     disk: MemoryDisk,
     name: &'static str,
 ) -> Result<MemoryDisk, AllocError> {
-    let trial = Trial::new(alloc, name, &disk, CHECKPOINT, false)?;
+    let trial = Trial::new(alloc, name, &disk, Call::line(alloc, CHECKPOINT)?, false)?;
     search.run_trial(alloc, &trial)?;
     after(alloc, &disk, CHECKPOINT)
+}
+
+/// Stops taking back the last event, then some more, and events that are posted after that, behind which gates and events
+/// stand that were taken back. The store after them.
+fn undos(
+    alloc: Global,
+    search: &mut Search,
+    disk: MemoryDisk,
+    name: &'static str,
+) -> Result<MemoryDisk, AllocError> {
+    let mut disk = disk;
+    for count in [1, 3] {
+        let trial = Trial::new(alloc, name, &disk, Call::Undo(count), false)?;
+        search.run_trial(alloc, &trial)?;
+        disk = after_call(alloc, &disk, &Call::Undo(count))?;
+    }
+    posts(
+        alloc,
+        search,
+        disk,
+        "an event behind which events were taken back",
+    )
 }
 
 /// Fills the journal after a checkpoint, and stops the event that finds it full.
@@ -174,7 +197,7 @@ fn full_journal(
     add_lines(&mut script, &mut search.random, JOURNAL)?;
     let full = after(alloc, &disk, &script)?;
     let event = line(&mut search.random);
-    let trial = Trial::new(alloc, name, &full, event, true)?;
+    let trial = Trial::new(alloc, name, &full, Call::line(alloc, event)?, true)?;
     search.run_trial(alloc, &trial)
 }
 
@@ -206,14 +229,16 @@ fn migrations(alloc: Global, search: &mut Search, version: Version) -> Result<()
     Ok(())
 }
 
-/// One round: events and checkpoints in both directions, stores of the older versions, and a full journal in one slot or
+/// One round: events, those that are taken back, and checkpoints in both directions, stores of the older versions, and a full journal in one slot or
 /// the other.
 fn round(alloc: Global, search: &mut Search, is_odd: bool) -> Result<(), AllocError> {
     let mut disk = paged(alloc, &mut search.random)?;
     disk = posts(alloc, search, disk, "an event in slot 0")?;
+    disk = undos(alloc, search, disk, "events taken back in slot 0")?;
     migrations(alloc, search, Version::V1)?;
     disk = checkpoint(alloc, search, disk, "a checkpoint from slot 0 to slot 1")?;
     disk = posts(alloc, search, disk, "an event in slot 1")?;
+    disk = undos(alloc, search, disk, "events taken back in slot 1")?;
     migrations(alloc, search, Version::V2)?;
     disk = checkpoint(alloc, search, disk, "a checkpoint from slot 1 to slot 0")?;
     if is_odd {

@@ -3,7 +3,7 @@
 use crate::images::{counted, drawn, image, ways};
 use crate::random::Random;
 use crate::reopening::{Opening, opened, recovered};
-use crate::stores::{calls_to_open, played, shown};
+use crate::stores::{calls_to_open, shown};
 use crate::trial::Trial;
 use sector_disk::{Fuse, MemoryDisk};
 use std::alloc::{AllocError, Global};
@@ -47,16 +47,16 @@ struct Stop {
     acknowledged: bool,
 }
 
-/// Whether an event or a checkpoint was answered.
+/// Whether a call was answered.
 fn is_answer(said: &[u8]) -> bool {
     said == b"ok\n".as_slice() || said.starts_with(b"no ")
 }
 
-/// Plays the line of a trial over a disk that fails after so many calls: the disk, and whether it was answered.
+/// Makes the call of a trial over a disk that fails after so many calls: the disk, and whether it was answered.
 fn stopped(alloc: Global, trial: &Trial, calls: u64) -> Result<(MemoryDisk, bool), AllocError> {
     let mut said = Vec::new(alloc);
     let fuse = Fuse::new(trial.disk.crash(alloc, &[])?, calls);
-    let disk = played(alloc, fuse, &trial.line, &mut said).into_inner();
+    let disk = trial.call.made(alloc, fuse, &mut said).into_inner();
     Ok((disk, is_answer(&said)))
 }
 
@@ -138,7 +138,7 @@ impl Search {
         Ok(())
     }
 
-    /// Stops the line of a trial at each call of the disk.
+    /// Stops the call of a trial at each call of the disk.
     fn try_stops(&mut self, alloc: Global, trial: &Trial) -> Result<(), AllocError> {
         let opening = calls_to_open(alloc, &trial.disk)?;
         for call in 0..MOST_CALLS {
@@ -156,7 +156,7 @@ impl Search {
         Ok(())
     }
 
-    /// Stops the line of a trial once, after a random number of calls, and then opening what is there: no crash comes
+    /// Stops the call of a trial once, after a random number of calls, and then opening what is there: no crash comes
     /// between the two, so that what was pending is it still.
     fn try_opening(&mut self, alloc: Global, trial: &Trial) -> Result<(), AllocError> {
         let opening = calls_to_open(alloc, &trial.disk)?;

@@ -1,7 +1,8 @@
-//! A store and a line that is played over it: what is stopped, and what may be shown then.
+//! A store and a call of it: what is stopped, and what may be shown then.
 
+use crate::call::{Call, after_call};
 use crate::reopening::Calls;
-use crate::stores::{after, shown};
+use crate::stores::shown;
 use sector_disk::MemoryDisk;
 use std::alloc::{AllocError, Global};
 
@@ -19,32 +20,32 @@ impl Views {
     }
 }
 
-/// A store, closed and synced, and the line that is to be stopped.
+/// A store, closed and synced, and the call that is to be stopped.
 #[derive(Drop)]
 pub struct Trial {
     pub name: &'static str,
     pub disk: MemoryDisk,
-    pub line: Vec<u8>,
+    pub call: Call,
     /// Whether its journal is full, so that opening it takes long.
     pub is_long: bool,
     pub views: Views,
 }
 
 impl Trial {
-    /// The line over the store.
+    /// The call of the store.
     pub fn new(
         alloc: Global,
         name: &'static str,
         disk: &MemoryDisk,
-        line: &[u8],
+        call: Call,
         is_long: bool,
     ) -> Result<Trial, AllocError> {
         let before = shown(alloc, disk.crash(alloc, &[])?);
-        let after = shown(alloc, after(alloc, disk, line)?);
+        let after = shown(alloc, after_call(alloc, disk, &call)?);
         Ok(Trial {
             name,
             disk: disk.crash(alloc, &[])?,
-            line: line.to_vec(alloc)?,
+            call,
             is_long,
             views: Views { before, after },
         })

@@ -1,8 +1,9 @@
 -- Events that were posted one after another, and taken back one after another. `d` is what is known of a disk.
-use Rattle.std.proofs.Common.{◌≡◌, ◌+◌, ◌-◌, ◌<◌, ◌≤◌, ℕ, List, [], ◌∷◌, ◌++◌, length, take, drop, Option, Some, None}
+use Rattle.std.proofs.Common.{◌≡◌, ◌+◌, ◌-◌, ◌<◌, ◌≤◌, ℕ, List, [], ◌∷◌, ◌++◌, length, take}
 use Rattle.std.proofs.Common.{refl, sym, ◌∙◌, ap, subst, arith, length-append, append_assoc}
-use Rattle.std.specs.Prelude.{IfSome, IfNone, get_or}
-use Rattle.std.proofs.lemmas.List.{append-nil, take-append-le, take-append-drop, length-take-le, take_more}
+use Rattle.std.specs.Prelude.{get_or, OnOk, Result}
+use Rattle.std.proofs.lemmas.List.{append-nil, length-take-le, take_more}
+use Rattle.std.proofs.lemmas.Result.{on_ok_weaker}
 use Rattle.std.proofs.Math.Seq.{take-append-add}
 use Rattle.sector_disk.specs.declared.disk.Disk.{Ghosts}
 use Rattle.sector_disk.specs.Trail.{now}
@@ -13,31 +14,22 @@ use Rattle.desktop_definitions.specs.Desktop.{Desktop}
 use Rattle.desktop_definitions.specs.Step.{step, step_in, steps, steps_in, Outcome}
 use Rattle.store_layout.specs.declared.layout.TheConstants.{JOURNAL_EVENTS, LAYOUT}
 use Rattle.store_layout.specs.Finding.{StandingLaw}
-use Rattle.store_layout.specs.Meaning.{Standing, Shows, desktop_of, without_last}
+use Rattle.store_layout.specs.Meaning.{Standing, Shows, desktop_of, and_all, cut_to}
 use Rattle.desk_slots.proofs.Recording.{in_newest, steps_in_on}
 use Rattle.desk_slots.specs.Device.{IsSameDevice}
 use Rattle.desk_journal.specs.Posting.{IsAcknowledged}
-use Rattle.desk_journal.specs.Undoing.{IsAdded, IsAt, IsBehind, IsEmpty, IsTakenBack, and_all}
+use Rattle.desk_journal.specs.Undoing.{IsAdded, IsAt, IsBehind, IsTakenBack}
 use Rattle.desk_journal.specs.View.{StoreView, IsDurable}
 
 -- ---- lists
 
 -- all but the last of some behind others
-last_behind : (some more : List Event) → 0 < length more
-    → take (length (some ++ more) - 1) (some ++ more) ≡ some ++ take (length more - 1) more
-last_behind some more not_none =
-    let long : length (some ++ more) - 1 ≡ length some + (length more - 1) =
-    omega (arith, length-append some more, not_none) in
-    ap (λ n. take n (some ++ more)) long ∙ take-append-add some more (length more - 1)
-
--- all but the last of the first n
-fewer : (events : List Event) (n m : ℕ) → n ≤ length events → m + 1 ≡ n
-    → take (length (take n events) - 1) (take n events) ≡ take m events
-fewer events n m low is =
-    let long : length (take n events) - 1 ≡ m = omega (arith, length-take-le n events low, is) in
-    ap (λ k. take k (take n events)) long
-    ∙ sym (take-append-le m (take n events) (drop n events) (omega (arith, length-take-le n events low, is)))
-    ∙ ap (take m) (take-append-drop n events)
+last_behind : (some more : List Event) (n : ℕ) → n ≤ length more
+    → take (length (some ++ more) - n) (some ++ more) ≡ some ++ take (length more - n) more
+last_behind some more n low =
+    let long : length (some ++ more) - n ≡ length some + (length more - n) =
+    omega (arith, length-append some more, low) in
+    ap (λ m. take m (some ++ more)) long ∙ take-append-add some more (length more - n)
 
 -- ---- one call
 
@@ -97,14 +89,18 @@ module _ {D : Type 0} (d : Ghosts D) (old : StoreView D) where
           ∙ ap (steps_in s.version s.start) (append_assoc s.events events (event ∷ []));
     }
 
-    pub one_fewer : (undone : Option Event) → 0 < length events
-        → IfSome undone (λ e. IsTakenBack d e mid new) → IfNone undone (IsEmpty d mid new)
-        → IsBehind d (take (length events - 1) events) old new
-    one_fewer None some back none = absurd (omega (arith, none.none, was.count, some))
-    one_fewer (Some event) some back none = record {
+    pub some_fewer : {count : ℕ} {undone : List Event} → IsTakenBack d count undone mid new
+        → length undone ≤ length events → IsBehind d (take (length events - length undone) events) old new
+    some_fewer {undone = undone} back low = record {
       still = λ h. device.still (was.still h);
       layout = back.layout ∙ was.layout;
-      count = omega (arith, back.fewer, was.count, length-take-le (length events - 1) events (omega arith), some);
+      count = omega (
+        arith,
+        back.as_many,
+        was.count,
+        low,
+        length-take-le (length events - length undone) events (omega arith),
+      );
       versions = was.versions;
       at = λ honest s at. subst (λ l. IsAt d new (record {
         slot = s.slot;
@@ -112,10 +108,10 @@ module _ {D : Type 0} (d : Ghosts D) (old : StoreView D) where
         epoch = s.epoch;
         start = s.start;
         events = l;
-      })) (last_behind s.events events some)
+      })) (last_behind s.events events (length undone) low)
           (back.back (was.still honest) (and_all s events) (was.at honest s at)).left;
       desktop = λ honest s at. (back.back (was.still honest) (and_all s events) (was.at honest s at)).desktop
-          ∙ ap (steps_in s.version s.start) (last_behind s.events events some);
+          ∙ ap (steps_in s.version s.start) (last_behind s.events events (length undone) low);
     }
 
 -- ---- the first of a list of events
@@ -131,13 +127,14 @@ module _ {D : Type 0} (d : Ghosts D) {old mid new : StoreView D} (events : List 
       (one_behind d old was device
       (omega (arith, was.count, length-take-le k events (omega (arith, low)), room, low)) ok added)
 
-  pub next_fewer : (n m : ℕ) (undone : Option Event) → IsBehind d (take n events) old mid
-      → IsSameDevice d mid.disk new.disk → n ≤ length events → m + 1 ≡ n
-      → IfSome undone (λ e. IsTakenBack d e mid new) → IfNone undone (IsEmpty d mid new)
-      → IsBehind d (take m events) old new
-  next_fewer n m undone was device low is back none =
-      subst (λ l. IsBehind d l old new) (fewer events n m low is)
-      (one_fewer d old was device undone (omega (arith, length-take-le n events low, is)) back none)
+-- posted whole, and so many taken back
+pub all_but : {D : Type 0} (d : Ghosts D) {old mid new : StoreView D} (events : List Event) (count : ℕ)
+    {undone : List Event} → IsBehind d events old mid → IsSameDevice d mid.disk new.disk → count ≤ length events
+    → IsTakenBack d count undone mid new → IsBehind d (take (length events - count) events) old new
+all_but d {old = old} {new = new} events count {undone = undone} was device low back =
+    let many : length undone ≡ count = omega (arith, back.as_many, back.fewer, was.count, low) in
+    subst (λ n. IsBehind d (take (length events - n) events) old new) many
+    (some_fewer d old was device back (omega (arith, many, low)))
 
 -- the desktop after events behind others
 steps_both : (version : ℕ) (d : Desktop) (some more : List Event)
@@ -162,18 +159,27 @@ shown_behind d {old = old} {events = events} was durable honest =
     ∙ ap (λ v. steps_in v old.desktop events) (was.versions honest s shows.stands)
     ∙ all_newest old.desktop events
 
--- an event that was taken back is posted again
-pub redone : {D : Type 0} (d : Ghosts D) {old mid new : StoreView D} {event : Event} {reply : Reply} → IsDurable d old
-    → old.layout ≡ LAYOUT → IsTakenBack d event old mid → IsSameDevice d old.disk mid.disk
-    → IsAcknowledged d event reply mid new → d.honest old.disk → new.desktop ≡ old.desktop
-redone d {old = old} {event = event} durable newest back device ok honest =
+-- events that were taken back are posted again
+again : {D : Type 0} (d : Ghosts D) {old mid new : StoreView D} {count : ℕ} {events : List Event}
+    → IsDurable d old → old.layout ≡ LAYOUT → IsTakenBack d count events old mid → IsSameDevice d old.disk mid.disk
+    → IsBehind d events mid new → d.honest old.disk → new.desktop ≡ old.desktop
+again d {old = old} {events = events} durable newest back device was honest =
     let shows = shows_now d old durable honest in
     let s = shows.standing in
+    let rest = cut_to (length s.events - length events) s in
     let w = back.back honest s shows.stands in
-    ap (λ (o : Outcome). o.desktop) (ok.stepped (device.still honest))
-    ∙ ap (λ x. (step x event).desktop) w.desktop
-    ∙ sym (ap (λ (o : Outcome). o.desktop) (in_newest (desktop_of (without_last s)) event))
-    ∙ ap (λ v. (step_in v (desktop_of (without_last s)) event).desktop) (sym (shows.version_is ∙ newest))
-    ∙ sym (steps_in_on s.version s.start (without_last s).events event)
+    shown_behind d was back.durable (device.still honest)
+    ∙ ap (λ x. steps x events) w.desktop
+    ∙ sym (all_newest (desktop_of rest) events)
+    ∙ ap (λ v. steps_in v (desktop_of rest) events) (sym (shows.version_is ∙ newest))
+    ∙ sym (steps_both s.version s.start rest.events events)
     ∙ sym (ap desktop_of w.last)
     ∙ shows.is
+
+pub redone : {D : Type 0} (d : Ghosts D) {old mid : StoreView D} (new : StoreView D) {count : ℕ}
+    {events posted : List Event} {T E : Type 0} (result : Result T E) → IsDurable d old → old.layout ≡ LAYOUT
+    → IsTakenBack d count events old mid → IsSameDevice d old.disk mid.disk → events ≡ posted
+    → OnOk result (IsBehind d posted mid new) → OnOk result (d.honest old.disk → new.desktop ≡ old.desktop)
+redone d {old = old} {mid = mid} new {count = count} result durable newest back device same =
+    on_ok_weaker result
+    (again d durable newest (subst (λ l. IsTakenBack d count l old mid) same back) device)

@@ -1,13 +1,12 @@
 -- A post where a checkpoint comes first, by the store between.
-use Rattle.std.proofs.Common.{◌≡◌, ◌⊎◌, inl, inr, ◌<◌, ℕ, Result, Ok, Err, refl, sym, ◌∙◌, ap, subst, arith}
-use Rattle.std.specs.Prelude.{⊤, OnOk, IfOk, IfErr, IsErrOf}
-use Rattle.std.proofs.lemmas.Result.{IfErr-weaker, IfErr-at_err, IfOk-at_ok}
+use Rattle.std.proofs.Common.{◌≡◌, inl, inr, Result, Ok, Err, refl, subst, arith}
+use Rattle.std.specs.Prelude.{⊤, OnOk, IfOk, IsErrOf}
+use Rattle.std.proofs.lemmas.Result.{IfErr-weaker, IfErr-at_err}
 use Rattle.sector_disk.specs.declared.disk.Disk.{Ghosts}
 use Rattle.event_bytes.specs.declared.event.Event.{Event}
 use Rattle.desktop_definitions.specs.declared.reply.Reply.{Reply}
-use Rattle.store_layout.specs.declared.layout.TheConstants.{JOURNAL_EVENTS, LAYOUT}
 use Rattle.desk_slots.specs.declared.error.Error.{Error}
-use Rattle.desk_slots.specs.declared.error.Error.TheVariants.{NoMemory, Fault, MustReopen, Worn}
+use Rattle.desk_slots.specs.declared.error.Error.TheVariants.{NoMemory, Fault, Worn}
 use Rattle.desk_slots.specs.Errors.{OfCheckpoint, OfLook, OfPost}
 use Rattle.desk_journal.specs.Checkpointing.{IsCheckpointed, IsRenewed, LeavesDesktop}
 use Rattle.desk_journal.specs.Migrating.{ChecksFirst}

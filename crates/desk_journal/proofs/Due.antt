@@ -1,5 +1,5 @@
 -- Whether a checkpoint is due before the next event.
-use Rattle.std.proofs.Common.{◌≡◌, ◌⊎◌, inl, inr, ◌<◌, ◌≤◌, true, false, ap, arith}
+use Rattle.std.proofs.Common.{◌≡◌, ◌⊎◌, inl, inr, true, false, ap, arith}
 use Rattle.std.specs.Prelude.{not, nat_lt, ◌==◌}
 use Rattle.std.proofs.lemmas.Bool.{lt-ltb, ltb-true, eq-eqb, eqb-true, and_from, and_parts, cases_lt, cases_eq}
 use Rattle.std.proofs.lemmas.Bool.{false_from_ne_true}

@@ -1,10 +1,12 @@
--- What taking the last event back promises, outcome by outcome. `d` is what is known of a disk.
-use Rattle.std.specs.Prelude.{◌≡◌, ◌⊎◌, ◌+◌, List, ◌++◌, length, false}
+-- What taking the last events back promises, outcome by outcome. `d` is what is known of a disk.
+use Rattle.std.specs.Prelude.{◌≡◌, ◌⊎◌, ◌+◌, ◌-◌, ℕ, List, [], length, false}
 use Rattle.sector_disk.specs.declared.disk.Disk.{Ghosts}
-use Rattle.sector_disk.specs.Trail.{now, LeavesOnly}
+use Rattle.sector_disk.specs.Confined.{IsConfined}
+use Rattle.sector_disk.specs.Trail.{now, LeavesOnly, Only}
 use Rattle.event_bytes.specs.declared.event.Event.{Event}
 use Rattle.store_layout.specs.declared.layout.TheConstants.{LAYOUT}
-use Rattle.store_layout.specs.Meaning.{Standing, Stands, StandsEither, desktop_of, and_then, without_last}
+use Rattle.store_layout.specs.Layout.{gate}
+use Rattle.store_layout.specs.Meaning.{Standing, Stands, StandsEither, desktop_of, and_all, and_then, cut_to}
 use Rattle.desk_slots.specs.declared.error.Error.{Error}
 use Rattle.desk_slots.specs.Device.{IsOnlyRead}
 use Rattle.desk_slots.specs.Errors.{OfLook, OfOpen}
@@ -27,32 +29,40 @@ module _ {D : Type 0} (d : Ghosts D) where
     -- and, where no checkpoint was due, behind all that the disk showed
     pub more : d.honest old.disk → HasRoom old → (s : Standing) → IsAt old s → IsAt new (and_then s event)
 
-  -- at every moment of the call a crash leaves what the disk showed before it, or the same without the last event
-  abbrev pub LeavesUndone : StoreView D → StoreView D → Type 0
-  LeavesUndone old new = old.must_reopen ≡ false → d.honest old.disk → (s : Standing) → IsAt old s
-      → LeavesOnly (d.trail old.disk) (d.trail new.disk) (StandsEither (d.size old.disk) s)
+  -- how many events are left where so many are taken back, or all, if there are fewer
+  abbrev pub left_of : ℕ → StoreView D → ℕ
+  left_of count store = store.events - count
 
-  -- The disk showed this, and the event was the last of it. Now the disk shows the same without the event, and the
-  -- store the desktop of that.
-  pub record IsWithout (event : Event) (s : Standing) (new : StoreView D) : Type 0 where
-    pub last : s ≡ and_then (without_last s) event
-    pub left : IsAt new (without_last s)
-    pub desktop : new.desktop ≡ desktop_of (without_last s)
+  -- at every moment of the call a crash leaves what the disk showed before it, or the same without the last events
+  abbrev pub LeavesUndone : ℕ → StoreView D → StoreView D → Type 0
+  LeavesUndone count old new = old.must_reopen ≡ false → d.honest old.disk → (s : Standing) → IsAt old s
+      → LeavesOnly (d.trail old.disk) (d.trail new.disk) (StandsEither (d.size old.disk) (left_of count old) s)
 
-  -- Ok, with an event: it was the last one, and is taken back
-  pub record IsTakenBack (event : Event) (old new : StoreView D) : Type 0 where
-    pub back : d.honest old.disk → (s : Standing) → IsAt old s → IsWithout event s new
-    -- from now on a crash leaves that
+  -- nothing on the disk changes but one gate, that of the first event that is taken back
+  abbrev pub ClosesOneGate : ℕ → StoreView D → StoreView D → Type 0
+  ClosesOneGate count old new = old.must_reopen ≡ false → d.honest old.disk → (s : Standing) → IsAt old s
+      → IsConfined d.size d.honest d.trail (Only (gate s.slot (left_of count old))) old.disk new.disk
+
+  -- The disk showed this, and the events were the last of it. Now the disk shows the rest of it, and the store the
+  -- desktop of that.
+  pub record IsWithout (events : List Event) (s rest : Standing) (new : StoreView D) : Type 0 where
+    pub last : s ≡ and_all rest events
+    pub left : IsAt new rest
+    pub desktop : new.desktop ≡ desktop_of rest
+
+  -- Ok: these events were the last, and are taken back
+  pub record IsTakenBack (count : ℕ) (events : List Event) (old new : StoreView D) : Type 0 where
+    pub back : d.honest old.disk → (s : Standing) → IsAt old s
+        → IsWithout events s (cut_to (length s.events - length events) s) new
+    -- from now on a crash leaves the rest
     pub durable : IsDurable d new
-    pub fewer : new.events + 1 ≡ old.events
+    pub fewer : new.events ≡ left_of count old
+    pub as_many : new.events + length events ≡ old.events
     pub epoch : new.epoch ≡ old.epoch
     pub layout : new.layout ≡ old.layout
     pub usable : new.must_reopen ≡ false
-
-  -- Ok, with none: there is nothing to take back
-  pub record IsEmpty (old new : StoreView D) : Type 0 where
-    pub none : old.events ≡ 0
-    pub unchanged : new ≡ old
+    -- where there was none nothing changes
+    pub none : events ≡ [] → new ≡ old
 
   -- An error before anything was written: the store is in use, and shows what it showed.
   pub record IsLeft (old new : StoreView D) : Type 0 where
@@ -64,16 +74,6 @@ module _ {D : Type 0} (d : Ghosts D) where
     pub disk : IsOnlyRead d old.disk new.disk
 
 -- ---- posts, and then undos
-
--- more events behind those of a standing
-abbrev pub and_all : Standing → List Event → Standing
-and_all s events = record {
-  slot = s.slot;
-  version = s.version;
-  epoch = s.epoch;
-  start = s.start;
-  events = s.events ++ events;
-}
 
 -- From the one store to the other these events came, and stand behind what the disk showed.
 pub record IsBehind {D : Type 0} (d : Ghosts D) (events : List Event) (old new : StoreView D) : Type 0 where

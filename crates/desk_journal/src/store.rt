@@ -9,23 +9,24 @@ ghost use Rattle.desktop_definitions.specs.Desktop.{empty_desktop, file_of};
 ghost use Rattle.desk_slots.specs.Device.{IsOnlyRead, StaysWithin, disk_after, outcome};
 ghost use Rattle.desk_slots.specs.Errors.{OfFormat, OfOpen, OfPost, OfLook, OfCheckpoint};
 ghost use Rattle.desk_journal.specs.Looking.{OnlyLooks};
-ghost use Rattle.store_layout.specs.Meaning.{Shows};
+ghost use Rattle.store_layout.specs.Meaning.{Shows, Standing};
 ghost use Rattle.store_layout.specs.declared.layout.TheConstants.{FIRST_LAYOUT};
 ghost use Rattle.desk_journal.specs.Bringing.{LeavesAllOrNone, IsBrought, IsUnwritten};
 ghost use Rattle.desk_journal.specs.Checkpointing.{LeavesDesktop, IsRenewed};
 ghost use Rattle.desk_journal.specs.Opening.{IsOpened, IsNoStore};
 ghost use Rattle.desk_journal.specs.Posting.{LeavesEither, IsAcknowledged, IsStarved, IsBroken, IsLast, IsWorn};
-ghost use Rattle.desk_journal.specs.Posting.{Behaves, HasRoom, Needs, TurnsAway};
+ghost use Rattle.desk_journal.specs.Posting.{Behaves, HasRoom, IsUnusable, Needs, TurnsAway};
 ghost use Rattle.desk_journal.specs.Migrating.{ChecksFirst};
 ghost use Rattle.command_table.specs.Versions.{version_number};
-ghost use Rattle.desk_journal.specs.Undoing.{IsAdded, IsEmpty, IsLeft, IsTakenBack, LeavesUndone, OfUndo};
+ghost use Rattle.desk_journal.specs.Undoing.{ClosesOneGate, IsAdded, IsAt, IsLeft, IsTakenBack, LeavesUndone, OfUndo};
 ghost use Rattle.desk_journal.specs.View.{IsDurable};
 ghost use Rattle.desk_slots.specs.Words.{Leaves, Nowhere, now, IsConfined, FailsAs, entries_of};
 ghost use Rattle.desk_slots.specs.Words.{ListsUnread, shown_screen};
 
 use command_table::{NEWEST, Version};
 use desk_slots::{
-    Before, Document, Error, LiveDesktop, SlotPlace, lay_out, load, load_before, record, renew, take_back,
+    Document, Earlier, Error, LiveDesktop, SlotPlace, lay_out, load, load_earlier, read_events,
+    record, renew, take_back,
 };
 use desktop_definitions::{Entry, Reply};
 use event_bytes::{Event, Name};
@@ -226,17 +227,17 @@ impl<D: Disk> Store<D> {
         Ok(reply)
     }
 
-    /// Takes the last event back: the disk shows the events before it, and the store their desktop, which is read from
-    /// the disk beside the one in memory before anything is written. It hands back the event. None where the journal
-    /// has no event.
+    /// Takes the last events back, so many, or all that are in the journal, if there are fewer: the disk shows the events
+    /// before them, and the store their desktop, which is read from the disk beside the one in memory before anything is
+    /// written. It writes one gate, so that a crash leaves either desktop, and hands back the events in their order.
     ///
     /// Errors: `MustReopen` after an earlier `NoMemory` or `Fault` of a call that writes; `NoMemory`, and the store
     /// is in use and shows what it showed; `Fault`, and the same holds, unless it came in the write, after which the
     /// store must be opened again. Over a disk that isn't honest, those of `open` too.
-    pub fn undo(&mut self, alloc: Global) -> Result<Option<Event>, Error>
-        ensures any_moment { LeavesUndone D.Disk self.old self.new }
-        ensures some { IfOk result (λ undone. IfSome undone (λ event. IsTakenBack D.Disk event self.old self.new)) }
-        ensures none { IfOk result (λ undone. IfNone undone (IsEmpty D.Disk self.old self.new)) }
+    pub fn undo(&mut self, alloc: Global, count: u32) -> Result<Vec<Event>, Error>
+        ensures any_moment { LeavesUndone D.Disk count self.old self.new }
+        ensures one_gate { ClosesOneGate D.Disk count self.old self.new }
+        ensures ok { IfOk result (λ events. IsTakenBack D.Disk count events.items self.old self.new) }
         ensures left { IsErr result → self.old.must_reopen ≡ false → self.new.must_reopen ≡ false
             → IsLeft D.Disk self.old self.new }
         ensures memory { IsErrOf result Error.NoMemory → self.new.must_reopen ≡ false }
@@ -247,18 +248,38 @@ impl<D: Disk> Store<D> {
         if self.must_reopen {
             return Err(Error::MustReopen);
         }
-        if self.events == 0 {
-            return Ok(None);
+        let end = self.events;
+        let left = end.saturating_sub(count);
+        if left == end {
+            return Ok(Vec::new(alloc));
         }
-        let last = self.events - 1;
-        let before = load_before(alloc, &mut self.disk, self.slot, last)?;
-        let Before { desktop, event } = before;
+        let earlier = load_earlier(alloc, &mut self.disk, self.slot, left, end)?;
+        let Earlier { desktop, events } = earlier;
         self.must_reopen = true;
-        take_back(&mut self.disk, self.slot, last)?;
+        take_back(&mut self.disk, self.slot, left)?;
         self.desktop = desktop;
-        self.events = last;
+        self.events = left;
         self.must_reopen = false;
-        Ok(Some(event))
+        Ok(events)
+    }
+
+    /// The events that can be taken back: those of the journal, in their order.
+    ///
+    /// Errors: `MustReopen`; `NoMemory`; `Fault`. Over a disk that isn't honest, `Damaged` too.
+    pub fn history(&mut self, alloc: Global) -> Result<Vec<Event>, Error>
+        ensures events { IfOk result (λ events. D.honest self.old.disk → (s : Standing) → IsAt D.Disk self.old s
+            → s.events ≡ events.items) }
+        ensures looks { IsLeft D.Disk self.old self.new }
+        ensures usable { self.new.must_reopen ≡ self.old.must_reopen }
+        ensures reopen { IsUnusable result self.old self.new }
+        ensures stops { D.honest self.old.disk → IfErr result OfLook }
+        ensures faults { FailsAs Error.Fault OfUndo result (D.failures self.old.disk) (D.failures self.new.disk) }
+    {
+        standing_law();
+        if self.must_reopen {
+            return Err(Error::MustReopen);
+        }
+        read_events(alloc, &mut self.disk, self.slot, 0, self.events)
     }
 
     /// Puts the desktop whole into the slot that isn't in use, in the newest version, and makes that the slot in use,

@@ -1,7 +1,9 @@
 //! What taking events back undoes.
-ghost use Rattle.std.specs.Prelude.{◌≡◌, ◌+◌, ◌-◌, ◌≤◌, false, length, take, Some, IfOk, OnOk};
+ghost use Rattle.std.specs.Prelude.{◌≡◌, ◌+◌, ◌-◌, ◌≤◌, ◌∷◌, [], false, length, take, IfOk, OnOk};
 ghost use Rattle.desktop_definitions.specs.Step.{steps};
 ghost use Rattle.store_layout.specs.declared.layout.TheConstants.{JOURNAL_EVENTS, LAYOUT};
+ghost use Rattle.desk_journal.specs.Undoing.{IsBehind};
+ghost use Rattle.desk_journal.specs.View.{IsDurable};
 
 use crate::store::Store;
 use desk_slots::Error;
@@ -18,12 +20,31 @@ pub fn post_and_undo<D: Disk>(
     store: &mut Store<D>,
     alloc: Global,
     event: &Event,
-) -> Result<Option<Event>, Error>
+) -> Result<Vec<Event>, Error>
     ensures { IfOk result (λ undone. D.honest store.old.disk → (store.new.desktop ≡ store.old.desktop)
-        × (undone ≡ Some event.now)) }
+        × (undone.items ≡ event.now ∷ [])) }
 {
     let _ = store.post(alloc, event)?;
-    store.undo(alloc)
+    store.undo(alloc, 1)
+}
+
+/// Posts the events, one after another: they stand behind what the disk showed.
+///
+/// Errors: those of `post`.
+fn post_each<D: Disk>(store: &mut Store<D>, alloc: Global, events: &[Event]) -> Result<(), Error>
+    requires usable { store.old.must_reopen ≡ false }
+    requires room { store.old.events + length events.now ≤ JOURNAL_EVENTS }
+    requires newest { store.old.layout ≡ LAYOUT }
+    ensures behind { OnOk result (IsBehind D.Disk events.now store.old store.new) }
+    ensures durable { IsDurable D.Disk store.old }
+{
+    standing_law();
+    // What the store shows is what a crash would leave now.
+    let _ = store.info();
+    for event in events {
+        let _ = store.post(alloc, event)?;
+    }
+    Ok(())
 }
 
 /// Posts the events, and takes so many of them back: the store shows what it shows after the others alone. The journal
@@ -43,34 +64,22 @@ pub fn post_and_undo_some<D: Disk>(
     ensures { OnOk result (D.honest store.old.disk → store.new.desktop
         ≡ steps store.old.desktop (take (length events.now - back) events.now)) }
 {
-    standing_law();
-    // What the store shows is what a crash would leave now.
-    let _ = store.info();
-    for event in events {
-        let _ = store.post(alloc, event)?;
-    }
-    for _turn in 0..back {
-        let _ = store.undo(alloc)?;
-    }
+    post_each(store, alloc, events)?;
+    let _ = store.undo(alloc, back)?;
     Ok(())
 }
 
-/// Takes the last event back, and posts it again: the store shows what it showed. The slot in use has the newest
-/// version, by which the event is stepped again.
+/// Takes the last events back, so many, and posts them again: the store shows what it showed. The slot in use has the
+/// newest version, by which the events are stepped again.
 ///
 /// Errors: those of `undo` and `post`.
-pub fn undo_and_redo<D: Disk>(store: &mut Store<D>, alloc: Global) -> Result<(), Error>
+pub fn undo_and_redo<D: Disk>(store: &mut Store<D>, alloc: Global, count: u32) -> Result<(), Error>
     requires usable { store.old.must_reopen ≡ false }
     requires newest { store.old.layout ≡ LAYOUT }
     ensures { OnOk result (D.honest store.old.disk → store.new.desktop ≡ store.old.desktop) }
 {
-    // What the store shows is what a crash would leave now.
+    // What the store shows is what a crash would leave now, and its journal has no more events than there may be.
     let _ = store.info();
-    match store.undo(alloc)? {
-        None => Ok(()),
-        Some(event) => {
-            let _ = store.post(alloc, &event)?;
-            Ok(())
-        }
-    }
+    let undone = store.undo(alloc, count)?;
+    post_each(store, alloc, undone.as_slice())
 }

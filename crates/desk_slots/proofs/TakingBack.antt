@@ -1,7 +1,9 @@
--- What a closed last gate makes of a settled disk.
-use Rattle.std.proofs.Common.{◌≡◌, ◌≢◌, inl, inr, ℕ, zero, suc, ◌+◌, ◌-◌, ◌<◌, List, [], ◌∷◌, ◌++◌, length, take}
+-- What a gate of a journal that is closed makes of a settled disk.
+use Rattle.std.proofs.Common.{◌≡◌, ◌≢◌, inl, inr, ℕ, zero, suc, ◌+◌, ◌<◌, List, [], ◌∷◌, ◌++◌, length, take, drop, ◌≤◌}
 use Rattle.std.proofs.Common.{refl, sym, ◌∙◌, ap, subst, arith, true, false}
 use Rattle.std.proofs.lemmas.Bool.{cases_eq}
+use Rattle.std.proofs.lemmas.List.{drop-append-le, length-take-le, take_all}
+use Rattle.std.proofs.Math.ListN.{drop_of_length-le}
 use Rattle.sector_disk.specs.declared.disk.Disk.{Ghosts}
 use Rattle.sector_disk.specs.Confined.{IsConfined}
 use Rattle.sector_disk.specs.Trail.{Content, Trail, now, LeavesOnly, Touches, Only, Nowhere}
@@ -11,18 +13,18 @@ use Rattle.event_bytes.specs.Spelling.{Begins}
 use Rattle.store_layout.specs.declared.layout.TheConstants.{JOURNAL_EVENTS, SLOTS}
 use Rattle.store_layout.specs.Bits.{true_or_false, clash}
 use Rattle.store_layout.specs.Layout.{is_open, gate, body, slot_head}
-use Rattle.store_layout.specs.Meaning.{IsJournal, Standing, Stands, StandsEither, without_last, and_then, cut_to, desktop_of}
+use Rattle.store_layout.specs.Meaning.{IsJournal, Standing, Stands, StandsEither, cut_to, desktop_of}
 use Rattle.store_layout.specs.Finding.{FindingLaw, IsForeign, IsDamagedAt}
 use Rattle.store_layout.specs.Kept.{IsSettled}
-use Rattle.store_layout.specs.StandingLaws.{journal_short, journal_leads}
+use Rattle.store_layout.specs.StandingLaws.{journal_short}
 use Rattle.desk_slots.specs.declared.live.LiveDesktop.{LiveDesktop}
 use Rattle.desk_slots.specs.declared.error.Error.{Error}
 use Rattle.desk_slots.specs.declared.error.Error.TheVariants.{NotAStore, Damaged}
 use Rattle.desk_slots.specs.Errors.{OfDesktop, OfOpen, OfReplay}
-use Rattle.desk_slots.specs.Live.{IsLive, IsNamed, seen_live}
+use Rattle.desk_slots.specs.Live.{IsLive, IsNamed}
 use Rattle.desk_slots.proofs.Staying.{IsApart, apart_record}
-use Rattle.desk_slots.specs.Load.{IsBefore, IsCutTo}
-use Rattle.desk_slots.specs.Written.{IsLastAt}
+use Rattle.desk_slots.specs.Load.{IsCutTo, IsEarlier}
+use Rattle.desk_slots.specs.Written.{HasEventAt, IsUpTo}
 use Rattle.desk_slots.proofs.Recording.{only_gate}
 
 -- ---- journals, where only one gate differs, that of an event
@@ -57,104 +59,113 @@ journal_whole (event ∷ events) c c' slot k end low same on journal = (
   journal_whole events c c' slot (k + 1) end (omega (arith, low)) same on journal.3,
 )
 
--- ---- a standing, where only the gate of its last event differs
-module _ {size : ℕ} (c c' : Content) (s : Standing) (k : ℕ) (count : length s.events ≡ k + 1) (was : Stands size c s)
+-- ---- a standing, where only the gate of one of its events differs
+module _ {size : ℕ} (c c' : Content) (s : Standing) (k : ℕ) (more : k < length s.events) (was : Stands size c s)
     (same : (n : ℕ) → n ≢ gate s.slot k → c' n ≡ c n) where
   room : k < JOURNAL_EVENTS
-  room = let short = journal_short s.events c s.slot 0 (omega arith) was.journal in omega (arith, short, count)
+  room = let short = journal_short s.events c s.slot 0 (omega arith) was.journal in omega (arith, short, more)
 
-  is_short : is_open (c' (gate s.slot k)) ≡ false → Stands size c' (without_last s)
-  is_short off = only_gate c c' s k room was same (take (length s.events - 1) s.events)
-      (journal_cut s.events c c' s.slot 0 k (length s.events - 1) (omega (arith, count)) (omega (arith, count)) same off
-      was.journal)
+  is_short : is_open (c' (gate s.slot k)) ≡ false → Stands size c' (cut_to k s)
+  is_short off = only_gate c c' s k room was same (take k s.events)
+      (journal_cut s.events c c' s.slot 0 k k (omega arith) more same off was.journal)
 
   is_whole : is_open (c' (gate s.slot k)) ≡ true → Stands size c' s
   is_whole on = only_gate c c' s k room was same s.events
-      (journal_whole s.events c c' s.slot 0 k (omega (arith, count)) same on was.journal)
+      (journal_whole s.events c c' s.slot 0 k (omega (arith, more)) same on was.journal)
 
-  either_way : StandsEither size s c'
+  either_way : StandsEither size k s c'
   either_way = elim (true_or_false (is_open (c' (gate s.slot k)))) [
     | inl on ↦ inr (is_whole on)
     | inr off ↦ inl (is_short off)
   ]
 
-module _ {size : ℕ} {old new : Trail} {slot k : ℕ} {s : Standing} (at : IsLastAt size old slot k s)
+module _ {size : ℕ} {old new : Trail} {slot k : ℕ} {s : Standing} (at : HasEventAt size old slot k s)
     (run : Touches (Only (gate slot k)) old new) where
   run_here : Touches (Only (gate s.slot k)) old new
   run_here = subst (λ n. Touches (Only (gate n k)) old new) (sym at.slot_is) run
 
   -- whatever the gate holds
-  pub taking : LeavesOnly old new (StandsEither size s)
-  taking = spared (StandsEither size s) at.settled.quiet run_here
-      (λ c same. either_way (now old).reads c s k at.count at.settled.stands same)
+  pub taking : LeavesOnly old new (StandsEither size k s)
+  taking = spared (StandsEither size k s) at.settled.quiet run_here
+      (λ c same. either_way (now old).reads c s k at.more at.settled.stands same)
 
   -- it is closed, and nothing is pending
   pub taken : is_open ((now new).reads (gate slot k)) ≡ false → ((n : ℕ) → (now new).pending n ≡ false)
-      → IsSettled size new (without_last s)
+      → IsSettled size new (cut_to k s)
   taken off quiet = record {
     quiet = quiet;
-    stands = is_short (now old).reads (now new).reads s k at.count at.settled.stands (still_reads old new run_here)
+    stands = is_short (now old).reads (now new).reads s k at.more at.settled.stands (still_reads old new run_here)
         (subst (λ n. is_open ((now new).reads (gate n k)) ≡ false) (sym at.slot_is) off);
   }
 
--- ---- the last event
+-- ---- the events of a journal
 
--- it stands in the body under the last gate
-journal_last : (events : List Event) (c : Content) (slot k end : ℕ) → end + 1 ≡ k + length events → 0 < length events
+-- One stands in the body under each of its gates, which is open, and comes behind those before it.
+journal_at : (events : List Event) (c : Content) (slot k end j : ℕ) → end ≡ k + j → j < length events
     → IsJournal c slot k events
-    → (e : Event) × Begins (c (body slot end)) e × (events ≡ take (length events - 1) events ++ e ∷ [])
-journal_last [] c slot k end is some journal = absurd (omega (arith, some))
-journal_last (event ∷ []) c slot k end is some journal =
-    let here : k ≡ end = omega (arith, is) in
-    (event, subst (λ j. Begins (c (body slot j)) event) here journal.2, refl)
-journal_last (event ∷ (next ∷ events)) c slot k end is some journal =
-    let rest = journal_last (next ∷ events) c slot (k + 1) end (omega (arith, is)) (omega arith) journal.3 in
-    let all = event ∷ (next ∷ events) in
-    let long : suc (length (next ∷ events) - 1) ≡ length all - 1 = omega arith in (
-      rest.0,
-      rest.1,
-      ap (λ l. event ∷ l) rest.2 ∙ ap (λ m. take m all ++ rest.0 ∷ []) long,
+    → (e : Event) × (is_open (c (gate slot end)) ≡ true) × Begins (c (body slot end)) e
+    × (take (suc j) events ≡ take j events ++ e ∷ [])
+journal_at [] c slot k end j is low journal = absurd (omega (arith, low))
+journal_at (event ∷ events) c slot k end zero is low journal =
+    let here : k ≡ end = omega (arith, is) in (
+      event,
+      subst (λ n. is_open (c (gate slot n)) ≡ true) here journal.1,
+      subst (λ n. Begins (c (body slot n)) event) here journal.2,
+      refl,
     )
+journal_at (event ∷ events) c slot k end (suc j) is low journal =
+    let rest = journal_at events c slot (k + 1) end j (omega (arith, is)) (omega (arith, low)) journal.3 in
+    (rest.0, rest.1, rest.2, ap (λ l. event ∷ l) rest.3)
 
 -- bytes begin with one event at most
 abbrev BeginLaw : Type 0
 BeginLaw = (bytes : List ℕ) (e f : Event) → Begins bytes e → Begins bytes f → e ≡ f
 
-module _ {size : ℕ} {disk : Trail} {slot k : ℕ} {s : Standing} (at : IsLastAt size disk slot k s) where
-  found : (e : Event) × Begins ((now disk).reads (body slot k)) e × (s.events ≡ take (length s.events - 1) s.events ++ e ∷ [])
-  found = subst (λ n. (e : Event) × Begins ((now disk).reads (body n k)) e
-      × (s.events ≡ take (length s.events - 1) s.events ++ e ∷ [])) at.slot_is
-      (journal_last s.events (now disk).reads s.slot 0 k (omega (arith, at.count)) (omega (arith, at.count))
+-- no event was read yet, and all were read
+pub none_of : (k : ℕ) (events : List Event) → k ≤ length events → drop k (take k events) ≡ []
+none_of k events low = drop_of_length-le (take k events) (omega (arith, length-take-le k events low))
+
+pub all_of : (k end : ℕ) (events read : List Event) → length events ≡ end → drop k (take end events) ≡ read
+    → drop k events ≡ read
+all_of k end events read long is = ap (drop k) (sym (take_all end events (omega (arith, long)))) ∙ is
+
+module _ {size : ℕ} {disk : Trail} {slot end : ℕ} {s : Standing} (at : IsUpTo size disk slot end s) (n : ℕ)
+    (low : n < end) where
+  found : (e : Event) × (is_open ((now disk).reads (gate slot n)) ≡ true) × Begins ((now disk).reads (body slot n)) e
+      × (take (suc n) s.events ≡ take n s.events ++ e ∷ [])
+  found = subst (λ m. (e : Event) × (is_open ((now disk).reads (gate m n)) ≡ true)
+      × Begins ((now disk).reads (body m n)) e × (take (suc n) s.events ≡ take n s.events ++ e ∷ [])) at.slot_is
+      (journal_at s.events (now disk).reads s.slot 0 n n (omega arith) (omega (arith, low, at.count))
       at.settled.stands.journal)
 
   -- its gate is open
-  pub not_closed : is_open ((now disk).reads (gate slot k)) ≡ false → ⊥
-  not_closed off = clash (journal_leads s.events (now disk).reads s.slot 0 k at.settled.stands.journal (omega arith)
-      (omega (arith, at.count)))
-      (subst (λ n. is_open ((now disk).reads (gate n k)) ≡ false) (sym at.slot_is) off)
+  pub not_closed : is_open ((now disk).reads (gate slot n)) ≡ false → ⊥
+  not_closed off = clash found.1 off
 
   -- and there is an event
-  pub not_none : ((event : Event) → Begins ((now disk).reads (body slot k)) event → ⊥) → ⊥
-  not_none none = none found.0 found.1
+  pub not_none : ((event : Event) → Begins ((now disk).reads (body slot n)) event → ⊥) → ⊥
+  not_none none = none found.0 found.2
 
-  pub last_event : BeginLaw → (event : Event) → Begins ((now disk).reads (body slot k)) event
-      → s ≡ and_then (without_last s) event
-  last_event law event begins = λ i. record {
-    slot = s.slot;
-    version = s.version;
-    epoch = s.epoch;
-    start = s.start;
-    events = (found.2 ∙ ap (λ e. take (length s.events - 1) s.events ++ e ∷ [])
-        (law ((now disk).reads (body slot k)) found.0 event found.1 begins)) i;
-  }
+  -- which comes behind those that were read
+  pub one_more : BeginLaw → (k : ℕ) (read : List Event) (event : Event) → k ≤ n
+      → Begins ((now disk).reads (body slot n)) event → drop k (take n s.events) ≡ read
+      → drop k (take (n + 1) s.events) ≡ read ++ event ∷ []
+  one_more law k read event behind begins is =
+      let next : n + 1 ≡ suc n = omega arith in
+      ap (λ m. drop k (take m s.events)) next
+      ∙ ap (drop k) found.3
+      ∙ drop-append-le k (take n s.events) (found.0 ∷ [])
+      (omega (arith, behind, length-take-le n s.events (omega (arith, low, at.count))))
+      ∙ ap (λ l. l ++ found.0 ∷ []) is
+      ∙ ap (λ e. read ++ e ∷ []) (law ((now disk).reads (body slot n)) found.0 event found.2 begins)
 
 -- ---- reads before that
 
-module _ {D : Type 0} (d : Ghosts D) {disk disk' : D} {slot k : ℕ} {s : Standing}
-    (at : IsLastAt (d.size disk) (d.trail disk) slot k s) (run : IsConfined d.size d.honest d.trail Nowhere disk disk')
-    (honest : d.honest disk) where
-  pub still_last : IsLastAt (d.size disk') (d.trail disk') slot k s
-  still_last = record {
+module _ {D : Type 0} (d : Ghosts D) {disk disk' : D} {slot end : ℕ} {s : Standing}
+    (at : IsUpTo (d.size disk) (d.trail disk) slot end s)
+    (run : IsConfined d.size d.honest d.trail Nowhere disk disk') (honest : d.honest disk) where
+  pub still_up_to : IsUpTo (d.size disk') (d.trail disk') slot end s
+  still_up_to = record {
     settled = record {
       quiet = λ n. still_settled (d.trail disk) (d.trail disk') (run.moments honest) n (λ none. none)
           (at.settled.quiet n);
@@ -166,24 +177,23 @@ module _ {D : Type 0} (d : Ghosts D) {disk disk' : D} {slot k : ℕ} {s : Standi
     count = at.count;
   }
 
-  pub reads_either : LeavesOnly (d.trail disk) (d.trail disk') (StandsEither (d.size disk) s)
-  reads_either = spared (StandsEither (d.size disk) s) at.settled.quiet (run.moments honest)
+  pub reads_either : (k : ℕ) → LeavesOnly (d.trail disk) (d.trail disk') (StandsEither (d.size disk) k s)
+  reads_either k = spared (StandsEither (d.size disk) k s) at.settled.quiet (run.moments honest)
       (λ c same. inr (subst (λ x. Stands (d.size disk) x s) (sym (λ i n. same n (λ none. none) i)) at.settled.stands))
 
-  -- what was loaded before the event was read
-  pub is_before : {disk'' : D} (live : LiveDesktop) {event : Event} → IsCutTo (d.size disk) (now (d.trail disk)).reads k
-      (now (d.trail disk')).reads live → IsConfined d.size d.honest d.trail Nowhere disk' disk''
-      → s ≡ and_then (without_last s) event
-      → IsBefore (now (d.trail disk'')).reads slot s live event
-  is_before {disk'' = disk''} live {event = event} cut more last =
-      let all = cut s at.settled.stands (omega (arith, at.count)) in
-      let short : k ≡ length s.events - 1 = omega (arith, at.count) in
-      subst (λ c. IsBefore c slot s live event)
+  -- what was loaded before the events were read
+  pub is_earlier : {disk'' : D} {k : ℕ} (live : LiveDesktop) {events : List Event} → k ≤ end
+      → IsCutTo (d.size disk) (now (d.trail disk)).reads k (now (d.trail disk')).reads live
+      → IsConfined d.size d.honest d.trail Nowhere disk' disk'' → drop k s.events ≡ events
+      → IsEarlier (now (d.trail disk'')).reads slot k s live events
+  is_earlier {disk'' = disk''} {k = k} live {events = events} few cut more others =
+      let all = cut s at.settled.stands (omega (arith, few, at.count)) in
+      subst (λ c. IsEarlier c slot k s live events)
       (sym (still_all (d.trail disk') (d.trail disk'') (more.moments (run.still honest))))
       (record {
-        shown = all.0 ∙ ap (λ n. desktop_of (cut_to n s)) short;
+        shown = all.0;
         named = subst (λ n. IsNamed (now (d.trail disk')).reads n live) at.slot_is all.1;
-        last = last;
+        others = others;
       })
 
 -- why reading a store stops, where there is one

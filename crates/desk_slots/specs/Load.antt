@@ -18,7 +18,7 @@ use Rattle.desk_slots.specs.Live.{IsNamed, seen_live}
 use Rattle.desk_slots.specs.declared.live.LiveDesktop.{LiveDesktop}
 use Rattle.desk_slots.specs.declared.error.Error.{Error}
 use Rattle.desk_slots.specs.declared.error.Error.TheVariants.{NoMemory, Fault, Damaged}
-use Rattle.store_layout.specs.Meaning.{IsJournal, Standing, Stands, desktop_of, cut_to, without_last, and_then, left_over}
+use Rattle.store_layout.specs.Meaning.{IsJournal, Standing, Stands, desktop_of, cut_to, left_over}
 use Rattle.store_layout.specs.Finding.{AreHeadsGood}
 use Rattle.store_layout.specs.Footprint.{IsLedTo, IsInUse}
 
@@ -93,9 +93,9 @@ abbrev pub IsCutTo : ℕ → Content → ℕ → Content → LiveDesktop → Typ
 IsCutTo size c most c' live = (s : Standing) → Stands size c s → most ≤ length s.events
     → (seen_live c' live ≡ desktop_of (cut_to most s)) × IsNamed c' s.slot live
 
--- This desktop is what the standing shows without its last event, and this is that event. The head of the slot in use
--- names what it has in the area.
-pub record IsBefore (c : Content) (slot : ℕ) (s : Standing) (live : LiveDesktop) (event : Event) : Type 0 where
-  pub shown : seen_live c live ≡ desktop_of (without_last s)
+-- This desktop is what the standing shows by its first k events alone, and these are the others. The head of the slot in
+-- use names what it has in the area.
+pub record IsEarlier (c : Content) (slot k : ℕ) (s : Standing) (live : LiveDesktop) (events : List Event) : Type 0 where
+  pub shown : seen_live c live ≡ desktop_of (cut_to k s)
   pub named : IsNamed c slot live
-  pub last : s ≡ and_then (without_last s) event
+  pub others : drop k s.events ≡ events

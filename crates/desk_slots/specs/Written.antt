@@ -8,7 +8,7 @@ use Rattle.event_bytes.specs.Spelling.{Begins}
 use Rattle.desktop_definitions.specs.Desktop.{Desktop}
 use Rattle.store_layout.specs.declared.layout.TheConstants.{JOURNAL_EVENTS, LAYOUT, SLOTS, STORE_SECTORS}
 use Rattle.store_layout.specs.Layout.{is_open, slot_gate, gate, body, head}
-use Rattle.store_layout.specs.Meaning.{Means, MeansEither, Standing, full_sectors}
+use Rattle.store_layout.specs.Meaning.{MeansEither, Standing, full_sectors}
 use Rattle.store_layout.specs.Kept.{NextRecord, InCheckpoint, IsNewSlot, IsKept, IsFront, IsSettled, Spares, chosen_area}
 use Rattle.desk_slots.specs.declared.live.LiveDesktop.{LiveDesktop}
 use Rattle.desk_slots.specs.declared.place.SlotPlace.{SlotPlace}
@@ -81,11 +81,11 @@ ShowsAnew d place old new shown = d.honest old → (live version number count : 
     → IsBeside place (d.size old) (d.trail old) live version number count before
     → IsKept (d.size old) (d.trail new) place.slot LAYOUT place.epoch 0 shown
 
--- Nothing is pending, and the last event of this standing, which the disk shows, stands under gate k of this slot.
-pub record IsLastAt (size : ℕ) (disk : Trail) (slot k : ℕ) (s : Standing) : Type 0 where
+-- Nothing is pending, and the disk shows this standing of this slot, which has an event under gate k.
+pub record HasEventAt (size : ℕ) (disk : Trail) (slot k : ℕ) (s : Standing) : Type 0 where
   pub settled : IsSettled size disk s
   pub slot_is : s.slot ≡ slot
-  pub count : length s.events ≡ k + 1
+  pub more : k < length s.events
 
 -- Nothing is pending, and the disk shows this standing of this slot, with events up to gate k.
 pub record IsUpTo (size : ℕ) (disk : Trail) (slot k : ℕ) (s : Standing) : Type 0 where

@@ -26,6 +26,6 @@ pub use event_loop::Document;
 pub use format::lay_out;
 pub use leaving::leave_slot;
 pub use live::LiveDesktop;
-pub use loaded::{Before, Loaded, load, load_before, load_beside, load_front};
+pub use loaded::{Earlier, Loaded, load, load_beside, load_earlier, load_front, read_events};
 pub use place::SlotPlace;
 pub use records::{record, take_back};

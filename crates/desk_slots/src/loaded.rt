@@ -1,5 +1,6 @@
 //! Opening a disk: the slot in use, the desktop that it starts from, and the events of its journal.
-ghost use Rattle.std.specs.Prelude.{◌≡◌, ◌<◌, ◌≤◌, ◌∷◌, [], ℕ, true, false, OnOk, IfOk, IfErr, IfSome, IfNone, IsErrOf};
+ghost use Rattle.std.specs.Prelude.{◌≡◌, ◌-◌, ◌<◌, ◌≤◌, ◌∷◌, [], ℕ, true, false, OnOk, IfOk, IfErr, IfSome, IfNone, IsErrOf};
+ghost use Rattle.std.specs.Prelude.{length, drop};
 ghost use Rattle.event_bytes.specs.declared.event.Event.{Event};
 ghost use Rattle.event_bytes.specs.Spelling.{Begins};
 ghost use Rattle.char_pages.specs.Pages.{saved_of, renewed_of};
@@ -7,13 +8,13 @@ ghost use Rattle.command_table.specs.Versions.{version_number};
 ghost use Rattle.store_layout.specs.Layout.{is_open, gate, body, IsGoodHead, head as head_at};
 ghost use Rattle.desk_slots.specs.Beside.{IsBesideRead, IsLoaded};
 ghost use Rattle.store_layout.specs.Finding.{IsForeign, IsDamagedAt, IsNoEvent};
-ghost use Rattle.store_layout.specs.Meaning.{Shows, Standing, and_then, without_last};
+ghost use Rattle.store_layout.specs.Meaning.{Shows, Standing};
 ghost use Rattle.store_layout.specs.Kept.{IsKept};
 ghost use Rattle.desk_slots.specs.Errors.{OfDesktop, OfOpen, OfReplay};
 ghost use Rattle.desk_slots.specs.Live.{seen_live, IsLive, IsNamed, IsTold};
-ghost use Rattle.desk_slots.specs.Load.{HasSlotInUse, IsBefore, IsCutTo, IsReadUpTo, IsReadWhole};
+ghost use Rattle.desk_slots.specs.Load.{HasSlotInUse, IsCutTo, IsEarlier, IsReadUpTo, IsReadWhole};
 ghost use Rattle.desk_slots.specs.Words.{Nowhere, now, IsConfined, FailsAs, OneOf};
-ghost use Rattle.desk_slots.specs.Written.{IsInJournal, IsLastAt};
+ghost use Rattle.desk_slots.specs.Written.{IsUpTo};
 
 use crate::Error;
 use crate::characters::load_slot;
@@ -212,48 +213,73 @@ pub fn load_front<D: Disk>(alloc: Global, disk: &mut D, most: u32) -> Result<Liv
     Ok(desktop)
 }
 
-/// The event under gate k, the last one.
-fn event_at<D: Disk>(disk: &mut D, slot: u32, k: u32) -> Result<Event, Error>
-    requires { IsInJournal (D.size disk.old) slot k }
+/// The events of the journal from gate k on, up to the last one, which stands before gate `end`.
+pub fn read_events<D: Disk>(
+    alloc: Global,
+    disk: &mut D,
+    slot: u32,
+    k: u32,
+    end: u32,
+) -> Result<Vec<Event>, Error>
+    requires room { STORE_SECTORS ≤ D.size disk.old }
+    requires two { slot < SLOTS }
+    requires some { k ≤ end }
+    requires index { end ≤ JOURNAL_EVENTS }
     ensures kept { IsConfined D.size D.honest D.trail Nowhere disk.old disk.new }
     ensures faults { FailsAs Error.Fault OfReplay result (D.failures disk.old) (D.failures disk.new) }
-    ensures last { IfOk result (λ event. D.honest disk.old → (s : Standing)
-        → IsLastAt (D.size disk.old) (D.trail disk.old) slot k s → s ≡ and_then (without_last s) event) }
+    ensures count { IfOk result (λ events. length events.items ≡ end - k) }
+    ensures others { IfOk result (λ events. D.honest disk.old → (s : Standing)
+        → IsUpTo (D.size disk.old) (D.trail disk.old) slot end s → drop k s.events ≡ events.items) }
     ensures damaged { (n : ℕ) → IsErrOf result (Error.Damaged n) → D.honest disk.old → (s : Standing)
-        → IsLastAt (D.size disk.old) (D.trail disk.old) slot k s → ⊥ }
+        → IsUpTo (D.size disk.old) (D.trail disk.old) slot end s → ⊥ }
 {
     at_most_one_begins();
-    match read_event(disk, slot, k)? {
-        Some(event) => Ok(event),
-        None => Err(Error::Damaged(gate(slot, k))),
+    let mut events = Vec::with_capacity(alloc, (end - k) as usize)?;
+    for at in k..end {
+        match read_event(disk, slot, at)? {
+            Some(event) => events.push_reserved(event),
+            None => return Err(Error::Damaged(gate(slot, at))),
+        }
     }
+    Ok(events)
 }
 
-/// What a store was before the last event of its journal.
+/// What a store was before the last events of its journal.
 #[derive(Drop)]
-pub struct Before {
-    /// The desktop without the event.
+pub struct Earlier {
+    /// The desktop without the events.
     pub desktop: LiveDesktop,
-    pub event: Event,
+    pub events: Vec<Event>,
 }
 
-/// Reads what the disk shows without event k of the slot in use, the last one, and that event.
-pub fn load_before<D: Disk>(alloc: Global, disk: &mut D, slot: u32, k: u32) -> Result<Before, Error>
-    requires { IsInJournal (D.size disk.old) slot k }
+/// Reads what the disk shows by the first k events of the slot in use alone, and the events behind them, of which the
+/// last one stands before gate `end`.
+pub fn load_earlier<D: Disk>(
+    alloc: Global,
+    disk: &mut D,
+    slot: u32,
+    k: u32,
+    end: u32,
+) -> Result<Earlier, Error>
+    requires room { STORE_SECTORS ≤ D.size disk.old }
+    requires two { slot < SLOTS }
+    requires some { k ≤ end }
+    requires index { end ≤ JOURNAL_EVENTS }
     ensures kept { IsConfined D.size D.honest D.trail Nowhere disk.old disk.new }
     ensures faults { FailsAs Error.Fault OfOpen result (D.failures disk.old) (D.failures disk.new) }
     ensures live { IfOk result (λ x. IsLive x.desktop) }
     ensures told { IfOk result (λ x. IsTold D.Disk disk.new x.desktop) }
+    ensures count { IfOk result (λ x. length x.events.items ≡ end - k) }
     ensures shown { IfOk result (λ x. D.honest disk.old → (s : Standing)
-        → IsLastAt (D.size disk.old) (D.trail disk.old) slot k s
-        → IsBefore (now (D.trail disk.new)).reads slot s x.desktop x.event) }
-    ensures stops { D.honest disk.old → (s : Standing) → IsLastAt (D.size disk.old) (D.trail disk.old) slot k s
+        → IsUpTo (D.size disk.old) (D.trail disk.old) slot end s
+        → IsEarlier (now (D.trail disk.new)).reads slot k s x.desktop x.events.items) }
+    ensures stops { D.honest disk.old → (s : Standing) → IsUpTo (D.size disk.old) (D.trail disk.old) slot end s
         → IfErr result OfDesktop }
 {
     finding_law();
     let desktop = load_front(alloc, disk, k)?;
-    let event = event_at(disk, slot, k)?;
-    Ok(Before { desktop, event })
+    let events = read_events(alloc, disk, slot, k, end)?;
+    Ok(Earlier { desktop, events })
 }
 
 /// Reads the desktop and the journal of a slot of this head.

@@ -3,14 +3,14 @@ ghost use Rattle.std.specs.Prelude.{◌≡◌, ◌+◌, ◌<◌, ◌≤◌, true
 ghost use Rattle.desktop_definitions.specs.Desktop.{Desktop};
 ghost use Rattle.desktop_definitions.specs.Step.{outcome_of};
 ghost use Rattle.store_layout.specs.Layout.{is_open, gate, body};
-ghost use Rattle.store_layout.specs.Meaning.{Means, MeansEither, Standing, StandsEither, and_then, without_last};
+ghost use Rattle.store_layout.specs.Meaning.{Means, MeansEither, Standing, StandsEither, and_then, cut_to};
 ghost use Rattle.store_layout.specs.Kept.{NextRecord, IsKept, IsSettled};
 ghost use Rattle.desk_slots.specs.Device.{IsSameDevice, StaysWithin};
 ghost use Rattle.desk_slots.specs.Errors.{OfDesktop};
 ghost use Rattle.desk_slots.specs.Live.{seen_live, IsLive, IsNamed, IsTold};
 ghost use Rattle.desk_slots.specs.Words.{LeavesOnly, Only, CountsFault, now, IsConfined, FailsAs, No, IsReply, step};
 ghost use Rattle.desk_slots.specs.Words.{step_in, StepsUnread};
-ghost use Rattle.desk_slots.specs.Written.{HasRecord, InRecord, IsInJournal, IsLastAt, IsUpTo};
+ghost use Rattle.desk_slots.specs.Written.{HasRecord, InRecord, IsInJournal, HasEventAt, IsUpTo};
 
 use crate::Error;
 use crate::live::LiveDesktop;
@@ -146,23 +146,23 @@ fn shut<D: Disk>(disk: &mut D, slot: u32, k: u32) -> Result<(), Fault>
     ensures quiet { OnOk result (D.honest disk.old → (n : ℕ) → (now (D.trail disk.new)).pending n ≡ false) }
 {
     disk.write(gate(slot, k), &closed_gate())?;
-    disk.sync()?; // the closed gate, before the event counts as taken back
+    disk.sync()?; // the closed gate, before the events count as taken back
     Ok(())
 }
 
-/// Takes event k, the last one, out of the journal. Until the sync the gate may hold anything: open, the disk shows the
-/// events with it; closed, without it.
+/// Takes event k and all behind it out of the journal. Until the sync the gate may hold anything: open, the disk shows
+/// the events with them; closed, without them. What stands behind the closed gate is read by nobody.
 pub fn take_back<D: Disk>(disk: &mut D, slot: u32, k: u32) -> Result<(), Fault>
     requires { IsInJournal (D.size disk.old) slot k }
     ensures kept { IsConfined D.size D.honest D.trail (Only (gate slot k)) disk.old disk.new }
     ensures device { IsSameDevice D.Disk disk.old disk.new }
     ensures within { StaysWithin D.Disk disk.old disk.new }
     ensures cause { CountsFault result (D.failures disk.old) (D.failures disk.new) }
-    ensures any_moment { D.honest disk.old → (s : Standing) → IsLastAt (D.size disk.old) (D.trail disk.old) slot k s
-        → LeavesOnly (D.trail disk.old) (D.trail disk.new) (StandsEither (D.size disk.old) s) }
+    ensures any_moment { D.honest disk.old → (s : Standing) → HasEventAt (D.size disk.old) (D.trail disk.old) slot k s
+        → LeavesOnly (D.trail disk.old) (D.trail disk.new) (StandsEither (D.size disk.old) k s) }
     ensures taken { OnOk result (D.honest disk.old → (s : Standing)
-        → IsLastAt (D.size disk.old) (D.trail disk.old) slot k s
-        → IsSettled (D.size disk.old) (D.trail disk.new) (without_last s)) }
+        → HasEventAt (D.size disk.old) (D.trail disk.old) slot k s
+        → IsSettled (D.size disk.old) (D.trail disk.new) (cut_to k s)) }
 {
     shut(disk, slot, k)?;
     Ok(())

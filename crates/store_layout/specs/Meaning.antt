@@ -125,10 +125,16 @@ cut_to k s = record {
   events = take k s.events;
 }
 
--- all events but the last
-abbrev pub without_last : Standing → Standing
-without_last s = cut_to (length s.events - 1) s
+-- more events behind those of a standing
+abbrev pub and_all : Standing → List Event → Standing
+and_all s events = record {
+  slot = s.slot;
+  version = s.version;
+  epoch = s.epoch;
+  start = s.start;
+  events = s.events ++ events;
+}
 
--- the content shows the standing, or the same without its last event
-abbrev pub StandsEither : ℕ → Standing → Content → Type 0
-StandsEither size s c = Stands size c (without_last s) ⊎ Stands size c s
+-- the content shows the standing, or the same with its first k events alone
+abbrev pub StandsEither : ℕ → ℕ → Standing → Content → Type 0
+StandsEither size k s c = Stands size c (cut_to k s) ⊎ Stands size c s

@@ -1,7 +1,8 @@
+use Rattle.std.proofs.Common.{rules}
 use Rattle.desk_journal.proofs.Behind.{redone}
 use Rattle.desk_journal.proofs.undone.undo_and_redo.Goals as goal
 
-pub returns-in_ok-post-in-Some : goal.returns-in_ok-post-in-Some
-returns-in_ok-post-in-Some g c = λ honest.
-    redone g.D.Disk (c.info.ensures.durable c.requires.usable) c.requires.newest
-    (rw c.in-Some.is at c.in_ok-undo.ensures.some) c.undo.ensures.behaves.device c.in_ok-post-in-Some.ensures.ok honest
+pub returns : goal.returns
+returns g c = redone g.D.Disk c.post_each.new.store c.post_each.result (c.info.ensures.durable c.requires.usable)
+    c.requires.newest c.in_ok-undone.ensures.ok c.undo.ensures.behaves.device (search rules)
+    c.post_each.ensures.behind

@@ -1,5 +1,4 @@
 use Rattle.std.proofs.Common.{◌/◌, ◌∙◌, ap, sym}
-use Rattle.sector_disk.proofs.Confinement as confined
 use Rattle.sector_disk.specs.declared.disk.TheConstants.{SECTOR_BYTES}
 use Rattle.desk_slots.proofs.Beside.{loaded_of}
 use Rattle.desk_slots.proofs.loaded.load_of.Goals as goal

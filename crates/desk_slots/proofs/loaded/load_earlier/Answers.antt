@@ -2,15 +2,15 @@ use Rattle.std.proofs.Common.{◌≡◌, ◌∙◌, ap, sym, subst, Err, IfErr}
 use Rattle.std.proofs.lemmas.Result.{err_from_is_err_and, IfErr-at_err}
 use Rattle.desk_slots.specs.Errors.{OfDesktop, OfOpen, OfReplay}
 use Rattle.desk_slots.proofs.Staying.{apart_nowhere, live_stays}
-use Rattle.desk_slots.proofs.TakingBack.{still_last, is_before, stops_there, stops_behind}
-use Rattle.desk_slots.proofs.loaded.load_before.Goals as goal
+use Rattle.desk_slots.proofs.TakingBack.{still_up_to, is_earlier, stops_there, stops_behind}
+use Rattle.desk_slots.proofs.loaded.load_earlier.Goals as goal
 
 pub returns-clause-shown : goal.returns-clause-shown
 returns-clause-shown g c = λ honest s at.
     let run = c.load_front.ensures.kept in
-    is_before g.D.Disk at run honest c.in_ok-desktop.desktop (c.in_ok-desktop.ensures.shown honest)
-    c.event_at.ensures.kept
-    (c.in_ok-event.ensures.last (run.still honest) s (still_last g.D.Disk at run honest))
+    is_earlier g.D.Disk at run honest c.in_ok-desktop.desktop c.requires.some (c.in_ok-desktop.ensures.shown honest)
+    c.read_events.ensures.kept
+    (c.in_ok-events.ensures.others (run.still honest) s (still_up_to g.D.Disk at run honest))
 
 pub returns-in_err-desktop-clause-stops : goal.returns-in_err-desktop-clause-stops
 returns-in_err-desktop-clause-stops g c = λ honest s at.
@@ -22,17 +22,17 @@ returns-in_err-desktop-clause-stops g c = λ honest s at.
     (λ is. c.load_front.ensures.foreign (was ∙ ap (λ e. Err e) is) honest)
     (λ n is. c.load_front.ensures.damaged n (was ∙ ap (λ e. Err e) is) honest))
 
-pub returns-in_err-event-clause-stops : goal.returns-in_err-event-clause-stops
-returns-in_err-event-clause-stops g c = λ honest s at.
+pub returns-in_err-events-clause-stops : goal.returns-in_err-events-clause-stops
+returns-in_err-events-clause-stops g c = λ honest s at.
     let run = c.load_front.ensures.kept in
-    let p = err_from_is_err_and c.from_residual-in_err-event.result c.from_residual-in_err-event.ensures.1 in
-    let was : c.event_at.result ≡ Err p.0 = cc (p.1, p.2, c.in_err-event.was) in
+    let p = err_from_is_err_and c.from_residual-in_err-events.result c.from_residual-in_err-events.ensures.1 in
+    let was : c.read_events.result ≡ Err p.0 = cc (p.1, p.2, c.in_err-events.was) in
     subst (λ r. IfErr r OfDesktop) (sym p.1)
-    (stops_behind p.0 (IfErr-at_err OfReplay was c.event_at.ensures.faults.errors)
-    (λ n is. c.event_at.ensures.damaged n (was ∙ ap (λ e. Err e) is) (run.still honest) s
-    (still_last g.D.Disk at run honest)))
+    (stops_behind p.0 (IfErr-at_err OfReplay was c.read_events.ensures.faults.errors)
+    (λ n is. c.read_events.ensures.damaged n (was ∙ ap (λ e. Err e) is) (run.still honest) s
+    (still_up_to g.D.Disk at run honest)))
 
 pub returns-clause-told : goal.returns-clause-told
 returns-clause-told g c =
-    live_stays g.D.Disk c.in_ok-desktop.desktop c.event_at.ensures.kept (apart_nowhere c.in_ok-desktop.desktop.pages)
+    live_stays g.D.Disk c.in_ok-desktop.desktop c.read_events.ensures.kept (apart_nowhere c.in_ok-desktop.desktop.pages)
     c.in_ok-desktop.ensures.told

@@ -1,0 +1,17 @@
+use Rattle.std.proofs.Common.{◌≡◌, ◌+◌, length, take, drop}
+use Rattle.sector_disk.specs.Trail.{Nowhere}
+use Rattle.sector_disk.specs.Confined.{IsConfined}
+use Rattle.store_layout.specs.Meaning.{Standing}
+use Rattle.desk_slots.specs.Written.{IsUpTo}
+use Rattle.desk_slots.proofs.loaded.read_events.Given as goal
+
+-- nothing is written, and the events from gate k up to this one have been read
+abbrev pub invariant-loop-at : goal.invariant-loop-at
+invariant-loop-at g l = record {
+  kept : IsConfined g.D.Disk.size g.D.Disk.honest g.D.Disk.trail Nowhere l.fn.disk l.disk;
+  calm : g.D.Disk.failures l.disk ≡ g.D.Disk.failures l.fn.disk;
+  count : length l.events.items + l.k ≡ l.at;
+  others : g.D.Disk.honest l.fn.disk → (s : Standing)
+      → IsUpTo (g.D.Disk.size l.fn.disk) (g.D.Disk.trail l.fn.disk) l.slot l.end s
+      → drop l.k (take l.at s.events) ≡ l.events.items;
+}
