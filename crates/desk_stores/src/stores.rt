@@ -9,7 +9,7 @@ use host_stores::{formatted, in_locked_file, opened as opened_on};
 use sector_disk::{Disk, FILE_SECTORS, FileDisk, MemoryDisk};
 
 /// Takes the lock of a store's file for a look, beside other programs that look.
-pub(crate) fn looked_at(rt: &HostRuntime, path: &str) -> Result<LockedFile, Trouble> {
+pub fn looked_at(rt: &HostRuntime, path: &str) -> Result<LockedFile, Trouble> {
     match lock_shared(rt, path) {
         Ok(lock) => Ok(lock),
         Err(fault) => Err(Trouble::Host(fault)),

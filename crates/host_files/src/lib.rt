@@ -5,11 +5,16 @@
 ghost use Rattle.std.specs.Prelude.{◌≡◌, ◌≤◌, Ok, IfOk, length};
 
 mod locked_file;
+mod texts;
 
 pub use locked_file::LockedFile;
 use std::fs::{File, Metadata, OpenOptions, TryLockError};
 use std::io::{ErrorKind, Read};
 use std::{fs, io};
+pub use texts::{
+    files_in, is_folder, length_of, make_file, make_folder, read_input, read_whole, rename_over,
+    sync_file,
+};
 
 /// Why the host did not do what it was asked.
 #[derive(Clone, Copy, Debug, PartialEq, Eq)]
