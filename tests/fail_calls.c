@@ -6,9 +6,9 @@
    stays full. Where PART is set this call, a pread or a pwrite, doesn't fail: it moves PART bytes at most. Where KILLED
    is set it doesn't fail either: the program is killed by signal 9 in its place.
 
-   FAIL may also be a call that is no line: `open`, `flock`, `statx`, `realpath`, `link`, `rename`, `mkdir`, `write`, on
-   standard output, and `file_read` and `file_write`, on a file that was opened. In each case the file CALLS has the
-   line `failed`, `in part` or `killed` once that came. */
+   FAIL may also be a call that is no line: `open`, `flock`, `ftruncate`, `statx`, `realpath`, `link`, `rename`,
+   `mkdir`, `write`, on standard output, and `file_read` and `file_write`, on a file that was opened. In each case the
+   file CALLS has the line `failed`, `in part` or `killed` once that came. */
 #define _GNU_SOURCE
 #include <dlfcn.h>
 #include <errno.h>
@@ -63,7 +63,7 @@ static ssize_t share(const char *name, long *count, size_t size) {
     return (size_t)atol(part) < size ? atol(part) : (ssize_t)size;
 }
 
-static long reads, writes, preads, pwrites, fdatasyncs, fsyncs, opens, flocks, statxs, realpaths;
+static long reads, writes, preads, pwrites, fdatasyncs, fsyncs, opens, flocks, ftruncates, statxs, realpaths;
 static long file_reads, file_writes, links, renames, mkdirs;
 
 int open(const char *path, int flags, ...) {
@@ -75,6 +75,10 @@ int open(const char *path, int flags, ...) {
 }
 
 int flock(int file, int how) { return fails("flock", &flocks) ? -1 : syscall(SYS_flock, file, how); }
+
+int ftruncate(int file, off_t size) {
+    return fails("ftruncate", &ftruncates) ? -1 : syscall(SYS_ftruncate, file, size);
+}
 
 int statx(int folder, const char *path, int flags, unsigned mask, struct statx *found) {
     return fails("statx", &statxs) ? -1 : syscall(SYS_statx, folder, path, flags, mask, found);
