@@ -6,6 +6,7 @@ use std::alloc::{AllocError, Global};
 /// The program, with its commands.
 pub(crate) fn command<'a>(alloc: Global) -> Result<Command<'a>, AllocError> {
     let sit = Command::new(alloc, "sit")
+        .arg(flag(alloc, "unproved"))?
         .arg(wanted(alloc, "rows"))?
         .arg(Arg::new(alloc, "path").action(ArgAction::Set))?;
     let list = of_store(alloc, "list")?.arg(flag(alloc, "json"))?;

@@ -9,8 +9,12 @@ use std::alloc::{AllocError, Global};
 #[derive(Drop)]
 pub enum Order<'a> {
     /// To serve a person at a terminal with so many rows, at the desktop of a store, or at one in memory where no path
-    /// is given.
-    Sit { rows: u16, path: Option<&'a str> },
+    /// is given; with word there whether the program is unproved.
+    Sit {
+        rows: u16,
+        unproved: bool,
+        path: Option<&'a str>,
+    },
     /// To print the screen of a store as a picture.
     Picture(&'a str),
     /// To put documents of a store out.
@@ -80,6 +84,7 @@ fn short_order<'a>(name: &str, given: &ArgMatches<'a>) -> Option<Order<'a>> {
     match name {
         "sit" => Some(Order::Sit {
             rows: given.get_str("rows")?.parse::<u16>().ok()?,
+            unproved: given.get_flag("unproved"),
             path: given.get_str("path"),
         }),
         "picture" => Some(Order::Picture(given.get_str("path")?)),

@@ -14,7 +14,7 @@ ghost use Rattle.store_layout.specs.declared.layout.TheConstants.{FIRST_LAYOUT};
 ghost use Rattle.desk_journal.specs.Checkpointing.{LeavesDesktop, IsRenewed};
 ghost use Rattle.desk_journal.specs.Opening.{IsOpened, IsNoStore};
 ghost use Rattle.desk_journal.specs.Posting.{LeavesEither, IsAcknowledged, IsStarved, IsBroken, IsLast, IsWorn};
-ghost use Rattle.desk_journal.specs.Posting.{Behaves, HasRoom, IsUnusable, Needs, TurnsAway};
+ghost use Rattle.desk_journal.specs.Posting.{Behaves, HasRoom, IsUnusable, Needs, RecordsDone, TurnsAway};
 ghost use Rattle.desk_journal.specs.Migrating.{ChecksFirst};
 ghost use Rattle.command_table.specs.Versions.{version_number};
 ghost use Rattle.desk_journal.specs.Undoing.{ClosesOneGate, IsAdded, IsAt, IsLeft, IsTakenBack, LeavesUndone, OfUndo};
@@ -180,6 +180,7 @@ impl<D: Disk> Store<D> {
         ensures ok { IfOk result (λ reply. IsAcknowledged D.Disk event.now reply self.old self.new) }
         ensures memory { IsErrOf result Error.NoMemory → IsStarved D.Disk self.old self.new }
         ensures fault { IsErrOf result Error.Fault → IsBroken self.new }
+        ensures recorded { IsErrOf result Error.Fault → RecordsDone D.Disk event.now self.old self.new }
         ensures worn { IsWorn result self.old self.new }
         ensures behaves { Behaves D.Disk OfPost result self.old self.new }
         ensures first { self.old.must_reopen ≡ false → Needs self.old
@@ -207,6 +208,7 @@ impl<D: Disk> Store<D> {
         ensures ok { IfOk result (λ reply. IsAcknowledged D.Disk event.now reply self.old self.new) }
         ensures memory { IsErrOf result Error.NoMemory → IsStarved D.Disk self.old self.new }
         ensures fault { IsErrOf result Error.Fault → IsBroken self.new }
+        ensures recorded { IsErrOf result Error.Fault → RecordsDone D.Disk event.now self.old self.new }
         ensures behaves { Behaves D.Disk OfLook result self.old self.new }
         ensures added { OnOk result (IsAdded D.Disk event.now self.old self.new) }
     {

@@ -10,6 +10,7 @@ use desk_arguments::{Export, Import, Order, Refusal, order_of, words};
 use desk_documents::{
     Manner, Stop, backup, check, export_all, export_names, import, list, list_json,
 };
+use desk_session::Saying;
 use desk_stores::{Trouble, picture};
 
 /// Does what the arguments of the program ask for, and returns the status: 0 when done, 1 where a document is refused,
@@ -32,7 +33,7 @@ fn decline(rt: &HostRuntime, refusal: Refusal) -> u8 {
         Refusal::Memory => Trouble::Memory.say(rt, ""),
         Refusal::Usage => {
             let _ = eprintln!(rt;
-                "desk: usage: sit ROWS [PATH] | picture PATH | import PATH FILE.. | export PATH NAME.. | list PATH | backup PATH COPY | check PATH, in UTF-8"
+                "desk: usage: sit [--unproved] ROWS [PATH] | picture PATH | import PATH FILE.. | export PATH NAME.. | list PATH | backup PATH COPY | check PATH, in UTF-8"
             );
             2
         }
@@ -42,11 +43,16 @@ fn decline(rt: &HostRuntime, refusal: Refusal) -> u8 {
 /// Does what is ordered, and returns the status. What goes wrong is said.
 fn follow(rt: &HostRuntime, order: &Order<'_>) -> u8 {
     match order {
-        Order::Sit { rows, path: None } => sit_in_memory(rt, *rows),
         Order::Sit {
             rows,
+            path: None,
+            ..
+        } => sit_in_memory(rt, *rows),
+        Order::Sit {
+            rows,
+            unproved,
             path: Some(path),
-        } => sit_at(rt, *rows, path),
+        } => sit_at(rt, *rows, path, greeting(*unproved)),
         Order::Picture(path) => told(rt, path, picture(rt, path)),
         other => follow_over_documents(rt, other),
     }
@@ -88,6 +94,15 @@ fn done(rt: &HostRuntime, path: &str, outcome: Result<(), Stop>) -> u8 {
     match outcome {
         Ok(()) => 0,
         Err(stop) => stop.say(rt, path),
+    }
+}
+
+/// How a sitting over a store in a file begins.
+fn greeting(unproved: bool) -> Saying {
+    if unproved {
+        Saying::Unproved
+    } else {
+        Saying::Greeting
     }
 }
 

@@ -18,35 +18,35 @@ pub(crate) fn sit_in_memory(rt: &HostRuntime, rows: u16) -> u8 {
 }
 
 /// Serves a person at the desktop of the store in a file, which is made where there is none, and returns the status.
-pub(crate) fn sit_at(rt: &HostRuntime, rows: u16, path: &str) -> u8 {
+pub(crate) fn sit_at(rt: &HostRuntime, rows: u16, path: &str, greeting: Saying) -> u8 {
     match lock_alone(rt, path) {
-        Ok(_lock) => sit_at_locked(rt, rows, path),
-        Err(HostFault::Missing) => sit_at_new(rt, rows, path),
+        Ok(_lock) => sit_at_locked(rt, rows, path, greeting),
+        Err(HostFault::Missing) => sit_at_new(rt, rows, path, greeting),
         Err(fault) => Trouble::Host(fault).say(rt, path),
     }
 }
 
 /// The same, while the file is locked.
-fn sit_at_locked(rt: &HostRuntime, rows: u16, path: &str) -> u8 {
+fn sit_at_locked(rt: &HostRuntime, rows: u16, path: &str, greeting: Saying) -> u8 {
     match opened(rt, path) {
-        Ok(store) => kept(rt, path, sit(rt, rows, store, Saying::Greeting)),
+        Ok(store) => kept(rt, path, sit(rt, rows, store, greeting)),
         Err(trouble) => trouble.say(rt, path),
     }
 }
 
 /// The same, where there is no file yet. The store is made under another name, and gets its own when it is whole: so
 /// there is a whole store or none, whenever the making is stopped.
-fn sit_at_new(rt: &HostRuntime, rows: u16, path: &str) -> u8 {
+fn sit_at_new(rt: &HostRuntime, rows: u16, path: &str, greeting: Saying) -> u8 {
     match new_file(rt, path) {
-        Ok(made) => sit_at_made(rt, rows, made.name.as_str(), path),
+        Ok(made) => sit_at_made(rt, rows, made.name.as_str(), path, greeting),
         Err(trouble) => trouble.say(rt, path),
     }
 }
 
 /// The same, while the file under the other name is locked.
-fn sit_at_made(rt: &HostRuntime, rows: u16, made: &str, path: &str) -> u8 {
+fn sit_at_made(rt: &HostRuntime, rows: u16, made: &str, path: &str, greeting: Saying) -> u8 {
     match make(rt, made, path) {
-        Ok(store) => kept(rt, path, sit(rt, rows, store, Saying::Greeting)),
+        Ok(store) => kept(rt, path, sit(rt, rows, store, greeting)),
         Err(trouble) => trouble.say(rt, path),
     }
 }

@@ -3,3 +3,4 @@ pub mod Scenes
 pub mod Serving
 pub mod Surviving
 pub mod Sitting
+pub mod Files

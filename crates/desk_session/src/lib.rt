@@ -12,5 +12,5 @@ mod serving;
 
 pub use desk_sitting::Saying;
 pub use ending::SittingEnd;
-pub use laws::sittings_survive;
+pub use laws::{sittings_survive, sittings_survive_in_files};
 pub use serving::{MOST_TURNS, serve};

@@ -8,7 +8,7 @@ use Rattle.event_bytes.specs.declared.keys.Keys.TheVariants.{MiddleRight, Right,
 use Rattle.terminal_presses.specs.declared.action.Click.{Click}
 use Rattle.terminal_presses.specs.declared.action.Click.TheVariants.{Mark, Keys}
 use Rattle.desk_sitting.specs.declared.saying.Saying.{Saying}
-use Rattle.desk_sitting.specs.declared.saying.Saying.TheVariants.{Nothing, Greeting, InMemory, Refused, CutShort}
+use Rattle.desk_sitting.specs.declared.saying.Saying.TheVariants.{Nothing, Greeting, Unproved, InMemory, Refused, CutShort}
 use Rattle.desk_sitting.specs.declared.saying.Saying.TheVariants.{Worn, Unread, Unfinished, TooNarrow}
 
 -- why an event is refused, by the code of the refusal from 0 on
@@ -62,6 +62,7 @@ click_words (Keys keys) = keys_words keys
 unfoldable pub words : Saying → List ℕ
 words Nothing = []
 words Greeting = codes "Middle button, or F2 and then a click, calls the word there; Ctrl-Q leaves"
+words Unproved = codes "Compiled, not proved yet: ./prove does it. F2+click calls a word; Ctrl-Q leaves"
 words InMemory = codes "This desktop is in memory: when you leave (Ctrl-Q) it is gone."
 words (Refused code) = reason code
 words (CutShort typed code) = cut_short typed code

@@ -14,6 +14,8 @@ pub enum Saying {
     Nothing,
     /// How to go on.
     Greeting,
+    /// How to go on, and that the program isn't proved.
+    Unproved,
     /// The desktop is gone when the person leaves.
     InMemory,
     /// An event was refused, with this code.
@@ -130,6 +132,9 @@ impl Saying {
             Saying::Nothing => line(b""),
             Saying::Greeting => line(
                 b"Middle button, or F2 and then a click, calls the word there; Ctrl-Q leaves",
+            ),
+            Saying::Unproved => line(
+                b"Compiled, not proved yet: ./prove does it. F2+click calls a word; Ctrl-Q leaves",
             ),
             Saying::InMemory => line(
                 b"This desktop is in memory: when you leave (Ctrl-Q) it is gone.",
