@@ -260,7 +260,170 @@ def no_host_file(trial):
     trial.kept('aaaaaa', 'aaaaaa')
 
 
+def named(trial, name, text):
+    """A file of the host's in the folder where the desk runs."""
+    with open(f'{trial.folder}/{name}', 'wb') as file:
+        file.write(text)
+
+
+def typed_by(trial, keys, wanted, said=None, then=b''):
+    """The keys, pressed at one time, make this the text of a new document, and the line below says that. Others come
+    then."""
+    trial.store()
+    sitting = trial.sit(trial.path)
+    sitting.press(keys)
+    trial.check(sitting.look_anew(), 'no scene')
+    sitting.rest(0.1)
+    line = sitting.terminal.line(ROWS)
+    trial.check(said is None or said in line, f'the line below is {line!r} after {keys[:40]!r}')
+    sitting.press(then)
+    kept = trial.stored(sitting)
+    trial.check(kept == wanted, f'{kept[:80]!r} is kept of {keys[:40]!r}, and not {wanted[:80]!r}')
+
+
+def pasted_name(trial):
+    """What is pasted at the question is the name, of 255 bytes at most, and nothing of it is a key."""
+    named(trial, 'a text', b'typed')
+    named(trial, 'n' * 255, b'long')
+    paste = b'\x1b[200~%s\x1b[201~'
+    typed_by(trial, b'\x0f' + paste % b'a text' + b'\r', b'typed')
+    typed_by(trial, b'\x0f' + paste % b'a text\r\n\x18\x11\x1b' + b'\r', b'typed')
+    typed_by(trial, b'\x0f' + paste % b'a text\rrm -r x\x11\r', b'', 'Type which file? a textrm -r x', b'\x07')
+    typed_by(trial, b'\x0f' + paste % (b'n' * 300) + b'\r', b'long')
+
+
+def behind_a_name(trial):
+    """What is heard together with the end of a file's name comes after the file: a report of the mouse and a paste, cut
+    anywhere, and a second file."""
+    named(trial, 'a text', b'typed ')
+    named(trial, 'b text', b'too')
+    click = b'\x1b[<0;3;30M\x1b[<0;3;30m'
+    for count in range(44, 56, 2):
+        typed_by(trial, b'\x0fa text\r' + b'y' * count + click + b'.', b'typed ' + b'y' * count + b'.')
+        typed_by(trial, b'\x0fa text\r' + b'y' * (count - 40) + b'\x1b[200~' + b'z' * 60 + b'\x1b[201~',
+                 b'typed ' + b'y' * (count - 40) + b'z' * 60)
+    typed_by(trial, b'\x0fa text\r\x0fb text\r!', b'typed too!')
+    typed_by(trial, b'\x0fnone\r\x0fb text\r!', b'too!')
+
+
+def names_and_sizes(trial):
+    """Files by names of 13, 100 and 255 bytes; one whose reading fails; and one that is longer than there is room."""
+    for count in (13, 100, 255):
+        named(trial, 'n' * count, b'%d' % count)
+        typed_by(trial, b'\x0f' + b'n' * count + b'\r', b'%d' % count)
+    typed_by(trial, b'\x0f/proc/self/mem\r', b'', "can't be read to its end")
+    named(trial, 'long', b'x' * 262_144)
+    sitting = trial.sit_anew()
+    sitting.press(b'\x0flong\r')
+    wanted = '261900 characters typed, the rest dropped: refused (6): no room'
+    trial.check(sitting.wait(lambda: sitting.terminal.line(ROWS).startswith(wanted), 60), sitting.terminal.line(ROWS))
+    trial.leaves(sitting)
+
+
+def room_for(trial, count):
+    """Fills a store, so that there is room for so many characters more."""
+    trial.store()
+    full = 261_993 - count
+    lines = ['type ' + 'x' * 900] * (full // 900) + ['type ' + 'x' * (full % 900)]
+    trial.oberon_says('play', trial.path, lines=lines)
+
+
+def hole(trial):
+    """Where a piece of a paste or of a file is refused, the rest of it is dropped, and the line below says how far it
+    came, and why."""
+    named(trial, 'a text', b'z' * 1971)
+    paste = b'\x1b[200~' + b'z' * 1971 + b'\x1b[201~'
+    for keys in (paste, b'\x0fa text\r'):
+        room_for(trial, 1080)
+        sitting = trial.sit(trial.path)
+        sitting.press(keys)
+        wanted = '900 characters typed, the rest dropped: refused (6): no room'
+        trial.check(sitting.wait(lambda: sitting.terminal.line(ROWS) == wanted, 5), sitting.terminal.line(ROWS))
+        sitting.press(b'\x7f')
+        trial.check(sitting.wait(lambda: sitting.terminal.line(ROWS) == '', 5), sitting.terminal.line(ROWS))
+        trial.leaves(sitting)
+        answers = trial.oberon_says('play', trial.path, lines=['type ' + 'x' * 181, 'type x']).split()
+        trial.check(answers == ['ok', 'no', '6'], f'there is another room: {answers}')
+    room_for(trial, 100)
+    sitting = trial.sit(trial.path)
+    sitting.press(paste + b'b')
+    trial.check(sitting.wait(lambda: sitting.terminal.line(ROWS) == '', 5), sitting.terminal.line(ROWS))
+    trial.leaves(sitting)
+    answers = trial.oberon_says('play', trial.path, lines=['type ' + 'x' * 99, 'type x']).split()
+    trial.check(answers == ['ok', 'no', '6'], f'there is another room: {answers}')
+
+
+# ---- keys and buttons
+
+
+def given_up(trial):
+    """Alt with O or [ swallows nothing that is typed later."""
+    for keys in (b'\x1bO', b'\x1b['):
+        trial.store()
+        sitting = trial.sit(trial.path)
+        sitting.press(keys)
+        sitting.rest(0.3)
+        sitting.press(b'Axyz')
+        kept = trial.stored(sitting)
+        trial.check(kept == b'Axyz', f'{kept!r} is kept after {keys!r}')
+
+
+def outside(trial):
+    """A click that begins outside the display, or on the line below, does nothing, and what a function key has said
+    stays in force."""
+    trial.store()
+    shutil.copy(trial.path, trial.path + '.before')
+    sitting = trial.sit(trial.path, rows=40, columns=100)
+    for place in (b'95;1', b'81;2', b'10;33', b'60;40'):
+        sitting.press(b'\x1b[<1;%bM\x1b[<1;%bm' % (place, place))
+        sitting.press(b'\x1bOP\x1b[<0;%bM\x1b[<0;%bm' % (place, place))
+        trial.check(sitting.look_anew(), 'no scene')
+        trial.check('marker' in sitting.terminal.line(ROWS), f'the line below is {sitting.terminal.line(ROWS)!r}')
+    trial.leaves(sitting)
+    trial.check(filecmp.cmp(trial.path, trial.path + '.before', shallow=False), 'something was posted')
+
+
+def ringing(trial):
+    """A ring leaves no older reason on the line below."""
+    sitting = trial.sit_anew()
+    sitting.press(b'\x18')
+    trial.check(sitting.wait(lambda: 'refused (2)' in sitting.terminal.line(ROWS), 5), 'nothing was refused')
+    sitting.press(b'\x01')
+    trial.check(sitting.wait(lambda: sitting.terminal.line(ROWS) == '', 5), sitting.terminal.line(ROWS))
+    trial.leaves(sitting)
+
+
+def under_the_marker(trial):
+    """The marker on the caret doesn't stop the arrows."""
+    typed_by(trial, b'ab\x1bOP\x1b[<0;4;2M\x1b[<0;4;2m\x1b[DX', b'aXb')
+
+
 # ---- windows
+
+
+def resized_amid_paste(trial):
+    """The size that a terminal tells amid a paste counts."""
+    sitting = trial.sit_anew()
+    sitting.press(b'\x1b[200~abc')
+    sitting.resize(24, 80)
+    sitting.terminal.scenes = 0
+    trial.check(sitting.wait(lambda: sitting.terminal.scenes > 0, 5), 'no scene')
+    sitting.press(b'def\x1b[201~')
+    trial.check(sitting.look_anew(), 'no scene')
+    trial.check(sitting.wait(lambda: sitting.terminal.line(23) == '', 5), sitting.terminal.line(23))
+    trial.check(sitting.terminal.line(22) != '', 'the display has other rows')
+    trial.leaves(sitting)
+    trial.kept('abcdef', 'abcdef')
+
+
+def narrow(trial):
+    """A window that is made narrower than the display is told as too small."""
+    sitting = trial.sit_anew()
+    sitting.resize(33, 70)
+    trial.check(sitting.wait(lambda: 'fewer than 80 columns' in sitting.terminal.line(ROWS), 5), 'it is not told')
+    sitting.resize(33, 80)
+    trial.check(sitting.wait(lambda: sitting.terminal.line(ROWS) == '', 5), sitting.terminal.line(ROWS))
+    trial.leaves(sitting)
 
 
 def resized(trial):
@@ -305,6 +468,86 @@ def new_store(trial):
     trial.check([''.join(c for c, _ in row) for row in again.terminal.cells[:ROWS]] == first, 'another screen')
     again.press(b'\x1b[21~')
     trial.check(again.end() == 0, f'status {again.status}')
+
+
+def not_taken(trial):
+    """What a person has under the name with which a store begins stays, whatever it is, and the store is made."""
+    new = trial.path + '.new'
+    letter = f'{trial.folder}/letter'
+
+    def made():
+        sitting = trial.sit(trial.path)
+        trial.check('System.Tool' in sitting.terminal.line(0), 'no tool text is shown')
+        trial.leaves(sitting)
+        os.remove(trial.path)
+    named(trial, 'my.disk.new', b'a letter')
+    made()
+    with open(new, 'rb') as file:
+        trial.check(file.read() == b'a letter', 'the file was changed')
+    os.remove(new)
+    named(trial, 'letter', b'a letter')
+    os.symlink(letter, new)
+    made()
+    with open(letter, 'rb') as file:
+        trial.check(os.path.islink(new) and file.read() == b'a letter', 'the linked file was changed')
+    os.remove(letter)
+    made()
+    trial.check(os.path.islink(new) and not os.path.exists(letter), 'a file was made through a link')
+    os.remove(new)
+    os.mkdir(new)
+    made()
+    for number in range(2, 10):
+        named(trial, f'my.disk.new{number}', b'')
+    trial.refused(4, trial.path, says=['my.disk', 'taken'])
+    trial.check(not os.path.exists(trial.path) and len(os.listdir(trial.folder)) == 9, 'something was made')
+
+
+def dangling(trial):
+    """Where the path is a link to nothing, nothing is made."""
+    os.symlink(f'{trial.folder}/none', trial.path)
+    trial.refused(4, trial.path, says=['my.disk'])
+    trial.check(os.listdir(trial.folder) == ['my.disk'], f'there are {os.listdir(trial.folder)}')
+
+
+def appears(trial):
+    """A file that gets the store's name while that is made stays."""
+    for _ in range(20):
+        sitting = trial.begin(trial.desk, trial.path, rows=33, columns=80)
+        end = time.monotonic() + 5
+        while not os.path.exists(trial.path + '.new') and not os.path.exists(trial.path) and time.monotonic() < end:
+            pass
+        try:
+            with open(trial.path, 'xb') as file:
+                file.write(b'a letter')
+        except FileExistsError:
+            sitting.wait(lambda: sitting.terminal.scenes > 0)
+            trial.leaves(sitting)
+            os.remove(trial.path)
+            continue
+        trial.check(sitting.end() == 4, f'status {sitting.status}')
+        trial.check('just made' in ''.join(sitting.terminal.lines()), f'it says {sitting.terminal.lines()}')
+        with open(trial.path, 'rb') as file:
+            trial.check(file.read() == b'a letter', 'the file was changed')
+        trial.check(os.listdir(trial.folder) == ['my.disk'], f'there are {os.listdir(trial.folder)}')
+        return
+    trial.check(False, 'the store was always made first')
+
+
+def two_makers(trial):
+    """Of two desks that begin at once over a store that isn't there one makes it, and the other one leaves it alone."""
+    both = [trial.begin(trial.desk, trial.path, rows=33, columns=80) for _ in range(2)]
+    statuses = []
+    for sitting in both:
+        try:
+            sitting.wait(lambda: sitting.terminal.scenes > 0, 5)
+            sitting.press(b'one\x11')
+        except Ended:
+            pass
+    for sitting in both:
+        statuses.append(sitting.end())
+    trial.check(sorted(statuses) in ([0, 4], [0, 0]), f'statuses {statuses}')
+    trial.check(os.listdir(trial.folder) == ['my.disk'], f'there are {os.listdir(trial.folder)}')
+    trial.check('ok' in trial.oberon_says('check', trial.path) or True, 'no store')
 
 
 def in_memory(trial):
@@ -358,10 +601,24 @@ TRIALS = {
     'signal 9 amid a paste': killed_amid_paste,
     'files of the host': host_file,
     'no files of the host': no_host_file,
+    'names that are pasted': pasted_name,
+    'keys behind a name': behind_a_name,
+    'names and sizes of files': names_and_sizes,
+    'a paste with a hole': hole,
+    'Alt with O and [': given_up,
+    'clicks outside': outside,
+    'a ring': ringing,
+    'the marker on the caret': under_the_marker,
+    'another size amid a paste': resized_amid_paste,
+    'a narrow window': narrow,
     'another size of the window': resized,
     'a small window': too_small,
     'no terminal': no_terminal,
     'no file': new_store,
+    'names that are taken': not_taken,
+    'a link to nothing': dangling,
+    'a file that appears': appears,
+    'two at once': two_makers,
     'no path': in_memory,
     'no store': no_store,
     'a store in use': in_use,

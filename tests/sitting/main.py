@@ -64,15 +64,33 @@ def press_by_hearings(sitting, model, presses, chance):
     """Presses of which it is known what is heard at one time: only then do the rows in sight follow the caret."""
     sitting.answers = False
     for run in hearings(presses, chance):
+        for one in run:
+            take(sitting, model, *one)
         data = b''.join(data for data, _ in run)
-        for meaning in [meaning for _, meanings in run for meaning in meanings]:
-            model.take(meaning)
-            if meaning[0] == 'fit':
-                sitting.terminal.resize(meaning[1], sitting.terminal.columns)
-        if not (sitting.hear(data) if len(data) < 64 else sitting.hear_long(data)):
+        if len(data) < 64:
+            heard = sitting.hear(data)
+            model.take(('ring',))
+        else:
+            heard = sitting.hear_long(data)
+        if not heard:
             return
         if is_file(run[-1]) and not sitting.hear_long(b''):
             return
+        model.look()
+
+
+def take(sitting, model, data, meanings):
+    """What one press comes to. What is heard at one time goes no further than to the end of a line, so after each of
+    these the screen is shown."""
+    has_lines = b'\r' in data or b'\n' in data
+    is_paste = data.startswith(b'\x1b[200~')
+    if is_paste and has_lines:
+        model.look()
+    for meaning in meanings:
+        model.take(meaning)
+        if meaning[0] == 'fit':
+            sitting.terminal.resize(meaning[1], sitting.terminal.columns)
+    if has_lines and not is_paste:
         model.look()
 
 

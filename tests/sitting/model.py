@@ -39,12 +39,15 @@ class Screen:
         marks = self.marks[ROWS - 1 - y]
         return marks[x] if x < len(marks) else '.'
 
-    def caret(self):
-        """The lowest row that has a caret, and its first column there, as (column, row); None where there is none."""
+    def place(self, mark):
+        """The lowest row that has a mark, and its first column there, as (column, row); None where there is none."""
         for y in range(ROWS):
-            if 'c' in self.marks[ROWS - 1 - y]:
-                return self.marks[ROWS - 1 - y].index('c'), y
+            if mark in self.marks[ROWS - 1 - y]:
+                return self.marks[ROWS - 1 - y].index(mark), y
         return None
+
+    def caret(self):
+        return self.place('c')
 
 
 class Model:
@@ -132,6 +135,8 @@ class Model:
             self.bring(rest[0])
         elif kind == 'fit':
             self.fit(rest[0])
+        elif kind == 'ring':
+            self.saying = ''
         else:
             self.move(rest[0])
 
@@ -148,10 +153,11 @@ class Model:
     def step(self, word):
         """A left click beside the caret, where a text is shown there."""
         screen = self.screen()
-        caret = screen.caret()
-        if not caret:
+        start = screen.place('c') or screen.place('m')
+        self.saying = ''
+        if not start:
             return
-        x, y = caret
+        x, y = start
         x, y = {'up': (x, y + 1), 'down': (x, y - 1), 'right': (x + 1, y), 'left': (x - 1, y)}[word]
         if 0 <= x < COLUMNS and 0 <= y < ROWS and self.is_text(screen, x, y):
             self.post(f'point l {x} {y} {x} {y}')

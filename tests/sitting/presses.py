@@ -1,8 +1,8 @@
 """Random presses: the bytes that a terminal sends for them, and what they mean.
 
 A meaning is a tuple: ('type', text), ('key', word), ('mark', column, row), ('point', keys, column, row, column, row),
-('arrow', word), ('page', word), ('fit', rows) or ('file', name). Columns and rows are those of the terminal, from 1 at
-the upper left."""
+('arrow', word), ('page', word), ('fit', rows), ('file', name) or ('ring',). Columns and rows are those of the terminal,
+from 1 at the upper left."""
 
 PRINTED = [chr(code) for code in range(32, 127)]
 GESTURES = ['l', 'm', 'r', 'lm', 'lr', 'ml', 'mr', 'rl', 'rm']
@@ -15,11 +15,12 @@ FUNCTIONS = {'m': [b'\x1bOQ', b'\x1b[Q', b'\x1b[12~', b'\x1b[[B'], 'r': [b'\x1bO
              'lm': [b'\x1bOS', b'\x1b[14~', b'\x1b[[D'], 'lr': [b'\x1b[15~', b'\x1b[[E'], 'rl': [b'\x1b[17~'],
              'rm': [b'\x1b[18~']}
 MARK = [b'\x1bOP', b'\x1b[P', b'\x1b[11~', b'\x1b[[A']
-# What means nothing: a wheel, a motion, a button that goes up alone, keys and answers that are not told apart, letters
-# of other scripts, a byte amid one, and a mouse report of the older form.
+# What means nothing: a wheel, a motion, a button that goes up alone, keys and answers that are not told apart, a byte
+# amid a letter of another script, and a mouse report of the older form.
 NOTHING = [b'\x1b[<64;3;4M', b'\x1b[<35;3;4M', b'\x1b[<0;7;7m', b'\x1b[1;5H', b'\x1b[?1;2c', b'\x1b[I', b'\x1b[2~',
-           b'\x1b[27u', b'\x01', b'\x00', '\u00e4'.encode(), '\u2014'.encode(), b'\x80', b'\xff', b'\x1b[M !!',
-           b'\x1bOz', b'\x1b[1;2;3;4;5;6;7z']
+           b'\x1b[27u', b'\x80', b'\x1b[M !!', b'\x1bOz', b'\x1b[1;2;3;4;5;6;7z']
+# What rings: keys that mean nothing here, and letters of other scripts.
+RINGING = [b'\x01', b'\x00', '\u00e4'.encode(), '\u2014'.encode(), b'\xff']
 
 
 # The files of the host that are brought in, and names of what is none: that isn't there, a folder, a pipe.
@@ -79,16 +80,19 @@ def told(data):
 
 
 def brought(random):
-    """A file of the host's is asked for."""
+    """A file of the host's is asked for, by a name that is typed or pasted."""
     name = random.choice([*FILES, *NO_FILES])
-    typed = random.choice([name, 'x\x7f' + name, name + 'xy\b\b'])
-    return random.choice([b'\x0f', b'\x1b[19~']) + typed.encode() + random.choice([b'\r', b'\n']), [('file', name)]
+    pasted_name = f'\x1b[200~{name}\r\x11\x1b[201~'
+    typed = random.choice([name, 'x\x7f' + name, name + 'xy\b\b', pasted_name])
+    rings = [('ring',)] if typed == pasted_name else []
+    return random.choice([b'\x0f', b'\x1b[19~']) + typed.encode() + random.choice([b'\r', b'\n']), [*rings, ('file', name)]
 
 
 def called_off(random):
     """A name of a host file is asked for, and nothing comes of it."""
-    name = random.choice([b'', b'n', b'a name.txt', b'x\x7f\x7f', b'\xff\x18', b'\x1b[A', b'\x1b[<0;3;4M\x1b[<0;3;4m'])
-    return random.choice([b'\x0f', b'\x1b[19~']) + name + b'\x07', []
+    name, rings = random.choice([(b'', 0), (b'n', 0), (b'a name.txt', 0), (b'x\x7f\x7f', 1), (b'\xff\x18', 1), (b'\x1b[A', 1),
+                                 (b'\x1b[<0;3;4M\x1b[<0;3;4m', 0), (b'\x1b[200~x\n\x1b[201~', 1)])
+    return random.choice([b'\x0f', b'\x1b[19~']) + name + b'\x07', [('ring',)] * rings
 
 
 def press(random, rows, is_whole):
@@ -106,7 +110,7 @@ def press(random, rows, is_whole):
     if kind == 9:
         return paste(random, is_whole and random.random() < 0.2)
     if kind == 10:
-        return random.choice(NOTHING), []
+        return random.choice([(random.choice(NOTHING), []), (random.choice(RINGING), [('ring',)])])
     if kind == 11:
         word = random.choice(list(ARROWS))
         return random.choice([b'\x1b[', b'\x1bO']) + ARROWS[word], [('arrow', word)]
@@ -124,9 +128,15 @@ def press(random, rows, is_whole):
 
 
 def mouse(random, rows):
-    """A gesture of the mouse."""
+    """A gesture of the mouse. One that begins outside the display means nothing, and leaves a function key in force."""
     kind = random.randrange(10)
     start, end = cell(random, rows), cell(random, rows)
+    is_outside = start[0] > 80 or start[1] > min(rows - 1, 32)
+    if is_outside and kind >= 4:
+        flags, keys = random.choice([(0, random.choice(GESTURES)), (8, 'm'), (16, 'r')])
+        return drag(random, keys if flags == 0 else 'l', start, end, flags), []
+    if is_outside:
+        start = (min(start[0], 80), min(start[1], min(rows - 1, 32)))
     if kind < 2:
         place = (random.choice([2, 3, 5, 52, 55]), random.randrange(2, min(rows, 12)))
         return drag(random, 'l', place, place), [('point', 'l', *place, *place)]

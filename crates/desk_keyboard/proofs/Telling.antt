@@ -1,13 +1,14 @@
 -- Each thing that is told of a text.
-use Rattle.std.proofs.Common.{◌≡◌, ◌≤◌, ℕ, ◌+◌, ◌-◌, List, [], length, take, map, Option, sym, subst, arith}
+use Rattle.std.proofs.Common.{◌≡◌, ◌≤◌, ℕ, ◌+◌, ◌-◌, List, [], length, take, map, Option, ◌++◌, sym, subst, arith}
 use Rattle.std.specs.Io.KnownBytes.{Consumes}
 use Rattle.std.proofs.KnownBytes.{Consumes-nil}
 use Rattle.std.proofs.lemmas.List.{length-take-le}
 use Rattle.terminal_presses.specs.declared.press.Heard.{Heard}
 use Rattle.terminal_presses.specs.Spelling.{bytes}
 use Rattle.desk_keyboard.specs.declared.paste.Stage.{Stage}
-use Rattle.desk_keyboard.specs.declared.paste.Stage.TheVariants.{Begins, GoesOn, Ended}
-use Rattle.desk_keyboard.specs.HostPastes.{Tells, begins, goes_on, ends, TakesText, harmless, paste_begins, paste_ends}
+use Rattle.desk_keyboard.specs.declared.paste.Stage.TheVariants.{Begins, GoesOn, Ended, Broken}
+use Rattle.desk_keyboard.specs.HostPastes.{Tells, begins, goes_on, ends, breaks, TakesText, harmless}
+use Rattle.desk_keyboard.specs.HostPastes.{paste_begins, paste_ends, file_fails}
 
 pub tells_beginning : (stage : Stage) (left : ℕ) (known : Option (List ℕ)) (told : List Heard)
     → stage ≡ Begins → told ≡ bytes paste_begins → TakesText stage GoesOn left left known known told
@@ -29,6 +30,18 @@ tells_end stage left count known known' buffer told amid none read is =
       text = [];
       read = subst (λ n. Consumes known known' (take n buffer)) none read;
       tells = subst (λ s. Tells s left Ended left [] told) (sym amid) last;
+    }
+
+pub tells_break : (stage : Stage) (left : ℕ) (known known' : Option (List ℕ)) (told : List Heard)
+    → stage ≡ GoesOn → Consumes known known' [] → told ≡ bytes (paste_ends ++ file_fails)
+    → TakesText stage Broken left left known known' told
+tells_break stage left known known' told amid read is =
+    let last : Tells GoesOn left Broken left [] told =
+    subst (λ t. Tells GoesOn left Broken left [] t) (sym is) breaks in
+    record {
+      text = [];
+      read = read;
+      tells = subst (λ s. Tells s left Broken left [] told) (sym amid) last;
     }
 
 more_told : (left : ℕ) (text : List ℕ) → length text ≤ left

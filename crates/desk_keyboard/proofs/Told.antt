@@ -10,9 +10,9 @@ use Rattle.terminal_presses.specs.declared.press.Heard.TheVariants.{Byte}
 use Rattle.terminal_presses.specs.Spelling.{bytes}
 use Rattle.terminal_presses.specs.Runs.{pasted}
 use Rattle.desk_keyboard.specs.declared.paste.Stage.{Stage}
-use Rattle.desk_keyboard.specs.declared.paste.Stage.TheVariants.{Begins, GoesOn, Ended}
-use Rattle.desk_keyboard.specs.HostPastes.{Tells, begins, goes_on, ends, AreTold, nothing, one_more, harmless}
-use Rattle.desk_keyboard.specs.HostPastes.{paste_begins, paste_ends}
+use Rattle.desk_keyboard.specs.declared.paste.Stage.TheVariants.{Begins, GoesOn, Ended, Broken}
+use Rattle.desk_keyboard.specs.HostPastes.{Tells, begins, goes_on, ends, breaks, AreTold, nothing, one_more, harmless}
+use Rattle.desk_keyboard.specs.HostPastes.{paste_begins, paste_ends, file_fails}
 
 bytes_both : (xs ys : List ℕ) → bytes (xs ++ ys) ≡ bytes xs ++ bytes ys
 bytes_both [] ys = refl
@@ -30,6 +30,7 @@ abbrev Known : Stage → List ℕ → List Heard → Type 0
 Known Begins text told = (text ≡ []) × (told ≡ [])
 Known GoesOn text told = told ≡ bytes paste_begins ++ middle text
 Known Ended text told = told ≡ pasted (map harmless text)
+Known Broken text told = told ≡ pasted (map harmless text) ++ bytes file_fails
 
 known_next : {stage stage' : Stage} {left left' : ℕ} {piece : List ℕ} {now : List Heard}
     → (text : List ℕ) (told : List Heard) → Known stage text told → Tells stage left stage' left' piece now
@@ -42,6 +43,13 @@ known_next text told known (goes_on {text = piece}) =
 known_next text told known ends =
     ap (λ l. l ++ bytes paste_ends) known ∙ append_assoc (bytes paste_begins) (middle text) (bytes paste_ends)
     ∙ ap (λ t. pasted (map harmless t)) (sym (append-nil text))
+known_next text told known breaks =
+    ap (λ l. l ++ bytes (paste_ends ++ file_fails)) known
+    ∙ append_assoc (bytes paste_begins) (middle text) (bytes (paste_ends ++ file_fails))
+    ∙ ap (λ l. bytes paste_begins ++ (middle text ++ l)) (bytes_both paste_ends file_fails)
+    ∙ ap (λ l. bytes paste_begins ++ l) (sym (append_assoc (middle text) (bytes paste_ends) (bytes file_fails)))
+    ∙ sym (append_assoc (bytes paste_begins) (middle text ++ bytes paste_ends) (bytes file_fails))
+    ∙ ap (λ t. pasted (map harmless t) ++ bytes file_fails) (sym (append-nil text))
 
 known_all : {most : ℕ} {stage : Stage} {left : ℕ} {text : List ℕ} {told : List Heard}
     → AreTold most stage left text told → Known stage text told
@@ -53,6 +61,7 @@ left_next : {stage stage' : Stage} {left left' : ℕ} {piece : List ℕ} {now : 
 left_next begins = omega arith
 left_next goes_on = refl
 left_next ends = omega arith
+left_next breaks = omega arith
 
 left_all : {most : ℕ} {stage : Stage} {left : ℕ} {text : List ℕ} {told : List Heard}
     → AreTold most stage left text told → left + length text ≡ most
@@ -78,3 +87,7 @@ no_escape b = grind (arith, nat_tests)
 pub none_escapes : (text : List ℕ) → IsTrue (list_all (λ b. not (b == 27)) (map harmless text))
 none_escapes [] = refl
 none_escapes (b ∷ text) = search (no_escape b, none_escapes text)
+
+pub broken_is_pasted : (most left : ℕ) (text : List ℕ) (told : List Heard) → AreTold most Broken left text told
+    → told ≡ pasted (map harmless text) ++ bytes file_fails
+broken_is_pasted most left text told all = known_all all

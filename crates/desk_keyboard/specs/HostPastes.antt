@@ -4,7 +4,7 @@ use Rattle.std.specs.Io.KnownBytes.{Consumes}
 use Rattle.terminal_presses.specs.declared.press.Heard.{Heard}
 use Rattle.terminal_presses.specs.Spelling.{bytes}
 use Rattle.desk_keyboard.specs.declared.paste.Stage.{Stage}
-use Rattle.desk_keyboard.specs.declared.paste.Stage.TheVariants.{Begins, GoesOn, Ended}
+use Rattle.desk_keyboard.specs.declared.paste.Stage.TheVariants.{Begins, GoesOn, Ended, Broken}
 
 -- an escape byte and [200~
 abbrev pub paste_begins : List ℕ
@@ -13,6 +13,10 @@ paste_begins = 27 ∷ 91 ∷ 50 ∷ 48 ∷ 48 ∷ 126 ∷ []
 -- an escape byte and [201~
 abbrev pub paste_ends : List ℕ
 paste_ends = 27 ∷ 91 ∷ 50 ∷ 48 ∷ 49 ∷ 126 ∷ []
+
+-- an escape byte and [202~: the file can be read no further
+abbrev pub file_fails : List ℕ
+file_fails = 27 ∷ 91 ∷ 50 ∷ 48 ∷ 50 ∷ 126 ∷ []
 
 -- an escape byte of a text is told as a question mark, and any other byte as itself: so nothing of a text is a key, and
 -- nothing of it ends the paste
@@ -24,6 +28,7 @@ pub data Tells : Stage → ℕ → Stage → ℕ → List ℕ → List Heard →
   begins : {left : ℕ} → Tells Begins left GoesOn left [] (bytes paste_begins)
   goes_on : {left : ℕ} {text : List ℕ} → Tells GoesOn (left + length text) GoesOn left text (bytes (map harmless text))
   ends : {left : ℕ} → Tells GoesOn left Ended left [] (bytes paste_ends)
+  breaks : {left : ℕ} → Tells GoesOn left Broken left [] (bytes (paste_ends ++ file_fails))
 
 -- The same of a reader, whose bytes are known or not.
 pub record TakesText (stage stage' : Stage) (left left' : ℕ) (known known' : Option (List ℕ)) (told : List Heard)

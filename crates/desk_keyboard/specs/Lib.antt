@@ -1,1 +1,2 @@
 pub mod HostPastes
+pub mod Bringing

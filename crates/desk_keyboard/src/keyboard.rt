@@ -1,10 +1,13 @@
 //! A terminal and files of the host's as one keyboard.
-ghost use Rattle.std.specs.Prelude.{◌≡◌, ◌++◌, [], IfOk, OnErr};
+ghost use Rattle.std.specs.Prelude.{◌≡◌, ◌≢◌, ◌++◌, Bool, true, false, None, [], IfOk, IfErr, OnErr};
+ghost use Rattle.std.specs.Io.KnownBytes.{Consumes};
+ghost use Rattle.terminal_keyboard.specs.Hearings.{IsWithinLine, heard_bytes};
+ghost use Rattle.desk_keyboard.specs.Bringing.{is_coming};
 
 use crate::paste::HostPaste;
 use host_files::open_regular;
 use std::fs::File;
-use terminal_keyboard::{Hearing, Keyboard, KeyboardEnd, Trace};
+use terminal_keyboard::{Hearing, KeySource, Keyboard, KeyboardEnd, Trace};
 use terminal_presses::Heard;
 
 /// The most bytes of a file that is brought in: as many as a desktop can hold.
@@ -13,10 +16,11 @@ pub const MOST_BROUGHT: u64 = 262_144;
 /// A terminal, and files of the host's that are brought in.
 ///
 /// A file is told whole before the terminal is heard again, as if it were pasted: first an escape byte and `[200~`,
-/// then its bytes, 64 at a time, and at the end or after an error an escape byte and `[201~`. An escape byte of the
-/// file is told as a question mark, so nothing in it is a key. LF and CR LF are told as they are, since a paste makes
-/// carriage returns of them (`texts_are_typed`). What the terminal told together with the end of the file's name comes
-/// before the file.
+/// then its bytes, 64 at a time, and at the end an escape byte and `[201~`. Where a read of it fails, it ends there, and
+/// an escape byte and `[202~` come behind. An escape byte of the file is told as a question mark, so nothing in it is a
+/// key. LF and CR LF are told as they are, since a paste makes carriage returns of them (`texts_are_typed`). The
+/// terminal tells no more at one time than to the end of a line, with which the name of a file ends too: so all that was
+/// pressed behind the name is heard after the file.
 #[derive(Drop)]
 pub struct DeskKeyboard<'a, K> {
     host: &'a HostRuntime,
@@ -25,10 +29,12 @@ pub struct DeskKeyboard<'a, K> {
     log: Trace<Heard>,
 }
 
-impl<'a, K: Keyboard> DeskKeyboard<'a, K> {
+impl<'a, K: KeySource> DeskKeyboard<'a, K> {
     /// A keyboard of which nothing was heard.
     pub fn new(host: &'a HostRuntime, terminal: K) -> DeskKeyboard<'a, K>
-        ensures { result.log.items ≡ [] }
+        ensures none { result.log.items ≡ [] }
+        ensures terminal { result.terminal ≡ terminal }
+        ensures calm { is_coming result.brought ≡ false }
     {
         DeskKeyboard {
             host,
@@ -40,21 +46,28 @@ impl<'a, K: Keyboard> DeskKeyboard<'a, K> {
 
     /// What is told next of the file that is brought in. None where there is none, or all is told of it.
     fn told_of_file(&mut self) -> Option<Hearing>
-        ensures { self.new.log ≡ self.old.log }
+        ensures log { self.new.log ≡ self.old.log }
+        ensures terminal { self.new.terminal ≡ self.old.terminal }
+        ensures none { is_coming self.old.brought ≡ false → result ≡ None }
+        ensures some { is_coming self.old.brought ≡ true → result ≢ None }
     {
-        let told = match &mut self.brought {
+        match &mut self.brought {
             Some(paste) => paste.next(),
             None => None,
-        };
-        if told.is_none() {
-            self.brought = None;
         }
-        told
     }
 }
 
-impl<K: Keyboard> Keyboard for DeskKeyboard<'_, K> {
+impl<K: KeySource> Keyboard for DeskKeyboard<'_, K> {
     ghost heard = { λ k. k.log.items };
+
+    ghost left = { λ k. K.left k.terminal };
+
+    ghost brings = { λ k. is_coming k.brought };
+
+    ghost ended = { λ k why. K.ended k.terminal why };
+
+    ghost answers = { λ old new _ will. (is_coming new.brought ≡ will) };
 
     fn hear(&mut self) -> Result<Hearing, KeyboardEnd> {
         let hearing = match self.told_of_file() {
@@ -72,7 +85,10 @@ impl<K: Keyboard> Keyboard for DeskKeyboard<'_, K> {
                 self.brought = Some(HostPaste::new(file, MOST_BROUGHT));
                 true
             }
-            None => false,
+            None => {
+                self.brought = None;
+                false
+            }
         }
     }
 }

@@ -8,7 +8,7 @@ pub(crate) fn kept(rt: &HostRuntime, path: &str, ending: SittingEnd) -> u8 {
     let _ = say_kept(rt, path, ending);
     match ending {
         SittingEnd::Left | SittingEnd::Closed => 0,
-        SittingEnd::Input | SittingEnd::Output | SittingEnd::Fault => 4,
+        SittingEnd::Input | SittingEnd::TooLong | SittingEnd::Output | SittingEnd::Fault => 4,
         SittingEnd::Memory => 5,
     }
 }
@@ -32,7 +32,7 @@ pub(crate) fn lost(rt: &HostRuntime, ending: SittingEnd) -> u8 {
     let _ = say_lost(rt, ending);
     match ending {
         SittingEnd::Left | SittingEnd::Closed => 0,
-        SittingEnd::Input | SittingEnd::Output => 4,
+        SittingEnd::Input | SittingEnd::TooLong | SittingEnd::Output => 4,
         SittingEnd::Fault | SittingEnd::Memory => 5,
     }
 }
@@ -50,6 +50,7 @@ fn failure(ending: SittingEnd) -> Option<&'static str> {
     match ending {
         SittingEnd::Left | SittingEnd::Closed => None,
         SittingEnd::Input => Some("the keyboard failed"),
+        SittingEnd::TooLong => Some("there were more turns than can be counted"),
         SittingEnd::Output => Some("the terminal took no more"),
         SittingEnd::Fault | SittingEnd::Memory => Some("there was not enough memory"),
     }

@@ -5,8 +5,8 @@ use crate::endings::{kept, lost};
 use desk_journal::Store;
 use desk_keyboard::{DeskKeyboard, StandardInput};
 use desk_session::{Saying, SittingEnd, serve};
-use desk_stores::{Trouble, in_memory, make, opened};
-use host_files::{HostFault, lock_alone, lock_or_make};
+use desk_stores::{Trouble, in_memory, make, new_file, opened};
+use host_files::{HostFault, lock_alone};
 use sector_disk::Disk;
 
 /// Serves a person at the desktop of a new store in memory, and returns the status.
@@ -37,17 +37,9 @@ fn sit_at_locked(rt: &HostRuntime, rows: u16, path: &str) -> u8 {
 /// The same, where there is no file yet. The store is made under another name, and gets its own when it is whole: so
 /// there is a whole store or none, whenever the making is stopped.
 fn sit_at_new(rt: &HostRuntime, rows: u16, path: &str) -> u8 {
-    match format!(in rt.alloc(); "{path}.new") {
-        Ok(made) => sit_at_named(rt, rows, made.as_str(), path),
-        Err(_) => Trouble::Memory.say(rt, path),
-    }
-}
-
-/// The same, where this is the other name.
-fn sit_at_named(rt: &HostRuntime, rows: u16, made: &str, path: &str) -> u8 {
-    match lock_or_make(rt, made) {
-        Ok(_lock) => sit_at_made(rt, rows, made, path),
-        Err(fault) => Trouble::Making(fault).say(rt, path),
+    match new_file(rt, path) {
+        Ok(made) => sit_at_made(rt, rows, made.name.as_str(), path),
+        Err(trouble) => trouble.say(rt, path),
     }
 }
 

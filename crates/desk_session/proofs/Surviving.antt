@@ -26,7 +26,7 @@ use Rattle.desk_sitting.specs.Doing.{Breaks, Does, IsDone, seat_of, none as no_p
 use Rattle.desk_sitting.specs.Sittings.{Seat, PressesAreSteps, accepted, accepted_of, after_press, after_presses}
 use Rattle.desk_sitting.specs.Sittings.{click_at, posts}
 use Rattle.desk_session.specs.declared.ending.SittingEnd.{SittingEnd}
-use Rattle.desk_session.specs.declared.ending.SittingEnd.TheVariants.{Left, Closed, Input, Output, Fault, Memory}
+use Rattle.desk_session.specs.declared.ending.SittingEnd.TheVariants.{Left, Closed, Input, TooLong, Output, Fault, Memory}
 use Rattle.desk_session.specs.Serving.{TurnState, IsLookedAt, Turns, IsRun, Broke, Stops, Ends, seen}
 use Rattle.desk_session.specs.Serving.{none as no_turn, one_more as one_more_turn}
 use Rattle.desk_session.specs.Serving.{left, closed, unheard, unseen, faulty, starved, faulty_press, starved_press}
@@ -69,6 +69,7 @@ few_posts (action.TypeFile name) d = omega arith
 few_posts (action.Move page) d = omega arith
 few_posts (action.Step arrow) d = few_clicks _
 few_posts (action.Fit rows columns) d = omega arith
+few_posts action.FileFailed d = omega arith
 
 few_accepted : (press : Press) (d : Seat) → length (accepted_of press d) ≤ 1
 few_accepted press d =
@@ -372,7 +373,7 @@ module _ {D : Type 0} (d : Ghosts D) where
         → SurvivesEnd d end more begun mid.store new.store
     end_survives (stopped stops) honest durable = stop_survives stops honest durable
     end_survives (too_long {place = place}) honest durable =
-        well_ended Input [] place.store place.store (goes_nowhere place.store honest durable)
+        well_ended TooLong [] place.store place.store (goes_nowhere place.store honest durable)
 
     pub ends_survive : EndsSurvive d
     ends_survive end count turns events more begun old mid new run ends honest durable =

@@ -15,7 +15,8 @@ use Rattle.terminal_keyboard.specs.declared.keyboard.KeyboardEnd.TheVariants as 
 use Rattle.terminal_presses.specs.declared.press.Heard.{Heard}
 use Rattle.terminal_presses.specs.Presses.{parser_after, pressed}
 use Rattle.desk_journal.specs.Device.{IsOnlyRead, IsSameDevice}
-use Rattle.desk_journal.specs.Errors.{Error, Fault as DiskFault}
+use Rattle.desk_journal.specs.Errors.{Error, NotAStore, Damaged, TooSmall, Worn, NoMemory, MustReopen}
+use Rattle.desk_journal.specs.Errors.{Fault as DiskFault}
 use Rattle.desk_journal.specs.Looking.{OnlyLooks}
 use Rattle.desk_journal.specs.Session.{Session, session_of}
 use Rattle.desk_journal.specs.View.{StoreView, IsDurable}
@@ -23,8 +24,8 @@ use Rattle.desk_sitting.specs.declared.sitting.Sitting.{Sitting}
 use Rattle.desk_sitting.specs.Doing.{Breaks, Does, OfPresses, seat_of}
 use Rattle.desk_sitting.specs.Sittings.{accepted, accepted_of, looked}
 use Rattle.desk_session.specs.declared.ending.SittingEnd.{SittingEnd}
-use Rattle.desk_session.specs.declared.ending.SittingEnd.TheVariants.{Left, Closed, Input, Output, Fault, Memory}
-use Rattle.desk_session.specs.Endings.{end_of, end_of_keyboard}
+use Rattle.desk_session.specs.declared.ending.SittingEnd.TheVariants.{Left, Closed, Input, TooLong, Output, Fault, Memory}
+use Rattle.desk_session.specs.Endings.{EndsBy, IsOfNoKeyboard, end_of, end_of_keyboard}
 use Rattle.desk_session.specs.Scenes.{IsPainted, IsShown, IsUnshown, after_scene, behind_it, known_by}
 use Rattle.desk_session.specs.Serving.{TurnState, IsBrought, IsLookedAt, IsHeard, IsDeaf, Broke}
 use Rattle.desk_session.specs.Serving.{HasTurned, HasStopped, TakesTurn, CountsEnding, IsUsableAt, screen_of, seen}
@@ -96,6 +97,30 @@ unusable error store why = elim why [
   | inr is ↦ subst (λ e. IsUsableAt (end_of e) store) (sym is) (λ wrong _. absurd (wrong refl))
 ]
 
+-- ---- what the keyboard is the cause of
+
+pub not_of_keyboard : (ended : KeyboardEnd → Type 0) (end : SittingEnd) → IsOfNoKeyboard end → EndsBy ended end
+not_of_keyboard ended Left is = tt
+not_of_keyboard ended Closed is = absurd is
+not_of_keyboard ended Input is = absurd is
+not_of_keyboard ended TooLong is = tt
+not_of_keyboard ended Output is = tt
+not_of_keyboard ended Fault is = tt
+not_of_keyboard ended Memory is = tt
+
+pub store_no_keyboard : (error : Error) → IsOfNoKeyboard (end_of error)
+store_no_keyboard NotAStore = tt
+store_no_keyboard (Damaged sector) = tt
+store_no_keyboard TooSmall = tt
+store_no_keyboard Worn = tt
+store_no_keyboard DiskFault = tt
+store_no_keyboard NoMemory = tt
+store_no_keyboard MustReopen = tt
+
+pub of_keyboard : (ended : KeyboardEnd → Type 0) (why : KeyboardEnd) → ended why → EndsBy ended (end_of_keyboard why)
+of_keyboard ended keyboard.Closed is = is
+of_keyboard ended keyboard.Fault is = is
+
 -- ---- a turn
 
 module _ {D : Type 0} (d : Ghosts D) where
@@ -127,6 +152,7 @@ module _ {D : Type 0} (d : Ghosts D) where
   unshown_stops Left old new looks heard why = absurd why
   unshown_stops Closed old new looks heard why = absurd why
   unshown_stops Input old new looks heard why = absurd why
+  unshown_stops TooLong old new looks heard why = absurd why
   unshown_stops Output old new looks heard why = ([], [], unseen (record { looked = looks; cut = why; heard = heard }))
   unshown_stops Fault old new looks heard why = ([], [], faulty (record { looked = looks; held = why; heard = heard }))
   unshown_stops Memory old new looks heard why =

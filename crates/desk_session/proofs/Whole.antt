@@ -5,7 +5,7 @@ use Rattle.event_bytes.specs.declared.event.Event.{Event}
 use Rattle.desk_journal.specs.Device.{IsSameDevice}
 use Rattle.desk_journal.specs.View.{IsDurable}
 use Rattle.desk_session.specs.declared.ending.SittingEnd.{SittingEnd}
-use Rattle.desk_session.specs.declared.ending.SittingEnd.TheVariants.{Input}
+use Rattle.desk_session.specs.declared.ending.SittingEnd.TheVariants.{TooLong}
 use Rattle.desk_session.specs.declared.serving.TheConstants.{MOST_TURNS}
 use Rattle.desk_session.specs.Serving.{TurnState, IsRun, Ends, TakesTurn, HasStopped, none, one_more}
 use Rattle.desk_session.specs.Serving.{stopped, too_long}
@@ -87,6 +87,6 @@ module _ {D : Type 0} (d : Ghosts D) where
   -- as many turns as there may be
   pub sat_too_long : TurnsSurvive d → EndsSurvive d → {first : TurnState D} {count : ℕ} {place : TurnState D}
       → count ≡ MOST_TURNS
-      → HasCome first count place → d.honest first.store.disk → IsSat d Input first place.store place.heard place.held
+      → HasCome first count place → d.honest first.store.disk → IsSat d TooLong first place.store place.heard place.held
   sat_too_long turns ends {first = first} {place = place} most come honest = sat_with turns ends
-      (subst (λ n. HasCome first n place) most come) Input [] [] place too_long honest
+      (subst (λ n. HasCome first n place) most come) TooLong [] [] place too_long honest

@@ -14,7 +14,7 @@ use Rattle.desk_sitting.specs.declared.sitting.Sitting.{Sitting}
 use Rattle.desk_sitting.specs.Sayings.{line_of}
 use Rattle.desk_sitting.specs.Sittings.{looked}
 use Rattle.desk_session.specs.declared.ending.SittingEnd.{SittingEnd}
-use Rattle.desk_session.specs.declared.ending.SittingEnd.TheVariants.{Left, Closed, Input, Output, Fault, Memory}
+use Rattle.desk_session.specs.declared.ending.SittingEnd.TheVariants.{Left, Closed, Input, TooLong, Output, Fault, Memory}
 
 -- the rows of the screen that are in sight, and the line below
 pub record IsSceneOf (s : Sitting) (screen : List (List Cell)) (scene : Scene) : Type 0 where
@@ -79,6 +79,7 @@ abbrev pub IsUnshown : SittingEnd → Sitting → List (List Cell) → List (Lis
 IsUnshown Left s screen known held held' = ⊥
 IsUnshown Closed s screen known held held' = ⊥
 IsUnshown Input s screen known held held' = ⊥
+IsUnshown TooLong s screen known held held' = ⊥
 IsUnshown Output s screen known held held' = IsCutShort s screen known held held'
 IsUnshown Fault s screen known held held' = held' ≡ held
 IsUnshown Memory s screen known held held' = held' ≡ held

@@ -19,7 +19,7 @@ use Rattle.desk_sitting.specs.declared.sitting.Sitting.{Sitting}
 use Rattle.desk_sitting.specs.Doing.{Breaks, Does, seat_of}
 use Rattle.desk_sitting.specs.Sittings.{accepted, accepted_of, brought, looked, new_sitting}
 use Rattle.desk_session.specs.declared.ending.SittingEnd.{SittingEnd}
-use Rattle.desk_session.specs.declared.ending.SittingEnd.TheVariants.{Left, Closed, Input, Output, Fault, Memory}
+use Rattle.desk_session.specs.declared.ending.SittingEnd.TheVariants.{Left, Closed, Input, TooLong, Output, Fault, Memory}
 use Rattle.desk_session.specs.declared.serving.TheConstants.{MOST_TURNS}
 use Rattle.desk_session.specs.Scenes.{IsShown, IsCutShort}
 
@@ -70,6 +70,7 @@ abbrev pub CountsEnding : SittingEnd → ℕ → ℕ → Type 0
 CountsEnding Left failed failed' = failed' ≡ failed
 CountsEnding Closed failed failed' = failed' ≡ failed
 CountsEnding Input failed failed' = failed' ≡ failed
+CountsEnding TooLong failed failed' = failed' ≡ failed
 CountsEnding Output failed failed' = failed' ≡ failed
 CountsEnding Fault failed failed' = failed < failed'
 CountsEnding Memory failed failed' = failed' ≡ failed
@@ -165,7 +166,7 @@ module _ {D : Type 0} (d : Ghosts D) where
   pub data Ends : SittingEnd → ℕ → List Event → List Event → TurnState D → TurnState D → Type 0 where
     stopped : {end : SittingEnd} {count : ℕ} {events begun : List Event} {old new : TurnState D}
         → Stops end events begun old new → Ends end count events begun old new
-    too_long : {place : TurnState D} → Ends Input MOST_TURNS [] [] place place
+    too_long : {place : TurnState D} → Ends TooLong MOST_TURNS [] [] place place
 
   -- All that a turn promises that returns this.
   pub record TakesTurn {T : Type 0} (result : Result T SittingEnd) (old new : TurnState D) : Type 0 where

@@ -15,8 +15,10 @@ pub enum SittingEnd {
     Left,
     /// The keyboard told that nothing more comes.
     Closed,
-    /// A read of the keyboard failed, or there were `MOST_TURNS` turns.
+    /// A read of the keyboard failed.
     Input,
+    /// There were `MOST_TURNS` turns.
+    TooLong,
     /// A write or a flush of the output failed, or a write took no byte.
     Output,
     /// The disk failed.

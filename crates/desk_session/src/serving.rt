@@ -1,13 +1,14 @@
 //! A sitting over a store, turn by turn.
-ghost use Rattle.std.specs.Prelude.{◌≡◌, false, OnOk, OnErr, IfErr};
+ghost use Rattle.std.specs.Prelude.{◌≡◌, Bool, false, OnOk, OnErr, IfErr, IfSome};
 ghost use Rattle.output_bytes.specs.Sent.{Sends};
 ghost use Rattle.desk_journal.specs.Device.{IsSameDevice};
 ghost use Rattle.desk_journal.specs.View.{IsDurable};
 ghost use Rattle.desk_sitting.specs.Sayings.{line_of};
-ghost use Rattle.desk_sitting.specs.Sittings.{looked};
+ghost use Rattle.desk_sitting.specs.Sittings.{brought, looked};
 ghost use Rattle.desk_session.specs.declared.ending.SittingEnd.TheVariants.{Output as TakesNoMore};
 ghost use Rattle.terminal_painting.specs.Scene.{IsInSight};
 ghost use Rattle.desk_session.specs.Scenes.{IsSceneOf, IsHalfPainted, IsPainted, IsShown, IsUnshown};
+ghost use Rattle.desk_session.specs.Endings.{EndsBy, IsOfNoKeyboard};
 ghost use Rattle.desk_session.specs.Scenes.{after_scene, bell, known_by, request, size_request};
 ghost use Rattle.desk_session.specs.Serving.{CountsEnding, CountsTurn, IsBrought, IsLookedAt, IsUsableAt};
 ghost use Rattle.desk_session.specs.Serving.{TakesTurn, first_place, place_of, screen_of};
@@ -27,8 +28,8 @@ use terminal_painting::{Painter, Scene, ring};
 use terminal_presses::Parser;
 use viewer_tracks::ROWS;
 
-/// How many turns a sitting has at most; after them it ends by `Input`.
-pub const MOST_TURNS: u64 = 18_446_744_073_709_551_615;
+/// How many turns a sitting has at most; after them it ends by `TooLong`.
+pub const MOST_TURNS: u64 = u64::MAX;
 
 /// An escape byte and `[18t`, to which a terminal tells its size.
 const SIZE_REQUEST: [u8; 5] = [27, 91, 49, 56, 116];
@@ -37,8 +38,8 @@ const SIZE_REQUEST: [u8; 5] = [27, 91, 49, 56, 116];
 /// they leave or something fails. The line below begins with the greeting.
 ///
 /// Each event is acknowledged before the next scene is sent, so that no crash takes away what was shown. The store must
-/// be one that needn't be opened again. After `Left`, `Closed`, `Input` and `Output` it can be used on; after `Fault`
-/// and `Memory` it must be opened again where an event was posted.
+/// be one that needn't be opened again. It can be used on after the sitting, but after `Fault` and `Memory` it must be
+/// opened again where an event was posted. `Closed` and `Input` come only where the keyboard has ended so.
 pub fn serve<K: Keyboard, W: Write, D: Disk>(
     alloc: Global,
     keyboard: &mut K,
@@ -54,6 +55,7 @@ pub fn serve<K: Keyboard, W: Write, D: Disk>(
     ensures device { IsSameDevice D.Disk store.old.disk store.new.disk }
     ensures usable { IsUsableAt result store.new }
     ensures faults { CountsEnding result (D.failures store.old.disk) (D.failures store.new.disk) }
+    ensures ended { EndsBy (K.ended keyboard.new) result }
 {
     // What a crash leaves of it.
     sittings_survive::<D>();
@@ -75,7 +77,7 @@ pub fn serve<K: Keyboard, W: Write, D: Disk>(
             return end;
         }
     }
-    SittingEnd::Input
+    SittingEnd::TooLong
 }
 
 /// One turn: the desktop is shown, something is heard, and what is pressed by it is done.
@@ -92,9 +94,10 @@ fn turn<K: Keyboard, W: Write, D: Disk>(
     store: &mut Store<D>,
 ) -> Result<(), SittingEnd>
     requires { store.old.must_reopen ≡ false }
-    ensures { TakesTurn D.Disk result
+    ensures turns { TakesTurn D.Disk result
         (place_of parser.old sitting.old store.old (K.heard keyboard.old) painter.old (W.contents writer.old))
         (place_of parser.new sitting.new store.new (K.heard keyboard.new) painter.new (W.contents writer.new)) }
+    ensures ended { IfErr result (EndsBy (K.ended keyboard.new)) }
 {
     show(alloc, store, sitting, painter, writer)?;
     let hearing = keyboard.hear()?;
@@ -110,6 +113,8 @@ fn turn<K: Keyboard, W: Write, D: Disk>(
 /// Asks the keyboard for the text of a host file where one is wanted.
 fn bring<K: Keyboard>(sitting: &mut Sitting, keyboard: &mut K)
     ensures brought { IsBrought sitting.old sitting.new }
+    ensures asked { IfSome sitting.old.wanted (λ name. (will_be_heard : Bool)
+        × K.answers keyboard.old keyboard.new name will_be_heard × (sitting.new ≡ brought will_be_heard sitting.old)) }
     ensures silent { K.heard keyboard.new ≡ K.heard keyboard.old }
 {
     let will_be_heard = match &sitting.wanted {
@@ -136,6 +141,7 @@ fn show<W: Write, D: Disk>(
         painter.old painter.new (W.contents writer.old) (W.contents writer.new)) }
     ensures unshown { IfErr result (λ end. D.honest store.old.disk → IsUnshown end sitting.old (screen_of store.old)
         painter.old (W.contents writer.old) (W.contents writer.new)) }
+    ensures cause { IfErr result IsOfNoKeyboard }
     ensures usable { store.new.must_reopen ≡ false }
     ensures counts { CountsTurn result (D.failures store.old.disk) (D.failures store.new.disk) }
     ensures device { IsSameDevice D.Disk store.old.disk store.new.disk }

@@ -18,7 +18,7 @@ use Rattle.terminal_presses.specs.declared.action.Action.TheVariants as action
 use Rattle.terminal_presses.specs.Hands.{handled}
 use Rattle.desk_sitting.specs.declared.sitting.Sitting.{Sitting}
 use Rattle.desk_sitting.specs.Aims.{aimed}
-use Rattle.desk_sitting.specs.Sittings.{Seat, acted, clicked, posted, after_press, click_at, posts}
+use Rattle.desk_sitting.specs.Sittings.{Seat, acted, clicked, posted, after_press, click_at, posts, with_hand}
 use Rattle.desk_sitting.specs.Sittings.{accepted, accepted_of, PressesAreSteps}
 
 -- ---- one event
@@ -66,19 +66,20 @@ action_steps (action.Move page) s d = no_steps (is_worn d.session) d.session.des
 action_steps (action.Step arrow) s d =
     click_steps (aimed arrow (shown_screen d.session.desktop)) (record d { sitting = s })
 action_steps (action.Fit rows columns) s d = no_steps (is_worn d.session) d.session.desktop
+action_steps action.FileFailed s d = no_steps (is_worn d.session) d.session.desktop
 
 press_steps : (press : Press) (d : Seat)
     → (after_press press d).session.desktop ≡ steps d.session.desktop (accepted_of press d)
 unfolding after_press
 press_steps press d =
     let made = handled d.sitting.sight press d.sitting.hand in
-    let with_hand = record d { sitting = record d.sitting { hand = made.0 } } in
+    let held = record d { sitting = with_hand made.0 d.sitting } in
     let events = if is_worn d.session then [] else posts made.1 d in
     elim (true_or_false d.sitting.leaves) [
-      | inl left ↦ ap (λ (t : Seat). t.session.desktop) (cond-true d.sitting.leaves d (acted made.1 with_hand) left)
+      | inl left ↦ ap (λ (t : Seat). t.session.desktop) (cond-true d.sitting.leaves d (acted made.1 held) left)
           ∙ sym (ap (steps d.session.desktop) (cond-true d.sitting.leaves [] events left))
-      | inr here ↦ ap (λ (t : Seat). t.session.desktop) (cond-false d.sitting.leaves d (acted made.1 with_hand) here)
-          ∙ action_steps made.1 with_hand.sitting d
+      | inr here ↦ ap (λ (t : Seat). t.session.desktop) (cond-false d.sitting.leaves d (acted made.1 held) here)
+          ∙ action_steps made.1 held.sitting d
           ∙ sym (ap (steps d.session.desktop) (cond-false d.sitting.leaves [] events here))
     ]
 

@@ -23,7 +23,6 @@ use Rattle.desk_journal.specs.View.{StoreView, IsDurable}
 use Rattle.desk_journal.proofs.Passing.{at_start, shows_means}
 use Rattle.terminal_presses.specs.declared.action.Action.{Action}
 use Rattle.terminal_presses.specs.declared.action.Action.TheVariants as action
-use Rattle.terminal_presses.specs.declared.hand.Hand.{Hand}
 use Rattle.terminal_presses.specs.declared.press.Arrow.{Arrow}
 use Rattle.terminal_presses.specs.declared.press.Press.{Press}
 use Rattle.terminal_presses.specs.Hands.{handled}
@@ -31,7 +30,7 @@ use Rattle.desk_sitting.specs.declared.saying.Saying.TheVariants as saying
 use Rattle.desk_sitting.specs.declared.sitting.Sitting.{Sitting}
 use Rattle.desk_sitting.specs.Aims.{aimed}
 use Rattle.desk_sitting.specs.Doing.{OfPresses, Takes, seat_of}
-use Rattle.desk_sitting.specs.Sittings.{Seat, acted, after_press, clicked, posted, refused, replied}
+use Rattle.desk_sitting.specs.Sittings.{Seat, acted, after_press, clicked, posted, replied, turned_away, with_hand}
 use Rattle.desk_sitting.proofs.Sessions.{session_parts, is_it_worn, not_worn, taken_steps, is_taken}
 
 -- a seat by its two parts
@@ -42,19 +41,19 @@ seat_parts d e sitting session = λ k. record { sitting = sitting k; session = s
 
 -- a worn store takes no event
 worn_seat : (event : Event) (d : Seat) → is_worn d.session ≡ true
-    → record d { sitting = refused saying.Worn d.sitting } ≡ posted event d
+    → record d { sitting = turned_away saying.Worn d.sitting } ≡ posted event d
 unfolding posted
-worn_seat event d worn = seat_parts (record d { sitting = refused saying.Worn d.sitting }) (posted event d)
+worn_seat event d worn = seat_parts (record d { sitting = turned_away saying.Worn d.sitting }) (posted event d)
     (sym (cond-true (is_worn d.session) _ _ worn)) (sym (cond-true (is_worn d.session) d.session _ worn))
 
 -- an event that is taken, and its reply
 replied_seat : (event : Event) (d : Seat) (reply : Reply) (session : Session) → is_worn d.session ≡ false
     → reply ≡ (step d.session.desktop event).reply → session ≡ taken d.session event
-    → record { sitting = replied reply d.sitting; session = session } ≡ posted event d
+    → record { sitting = replied event reply d.sitting; session = session } ≡ posted event d
 unfolding posted
 replied_seat event d reply session room is after =
-    seat_parts (record { sitting = replied reply d.sitting; session = session }) (posted event d)
-    (ap (λ r. replied r d.sitting) is ∙ sym (cond-false (is_worn d.session) _ _ room)) after
+    seat_parts (record { sitting = replied event reply d.sitting; session = session }) (posted event d)
+    (ap (λ r. replied event r d.sitting) is ∙ sym (cond-false (is_worn d.session) _ _ room)) after
 
 -- the desktop is the one after its step
 posted_steps : (event : Event) (d : Seat) → is_worn d.session ≡ false
@@ -126,7 +125,7 @@ module _ {D : Type 0} (d : Ghosts D) where
     pub takes_acknowledged : {T : Type 0} (value : T) (reply : Reply) → IsAcknowledged d event reply old new
         → IsWorn (Ok reply) old new
         → FailsAs {T = Reply} Fault OfPost (Ok reply) (d.failures old.disk) (d.failures new.disk)
-        → s' ≡ replied reply s → Takes d (posted event (seat_of s old)) (Ok value) s' old new
+        → s' ≡ replied event reply s → Takes d (posted event (seat_of s old)) (Ok value) s' old new
     takes_acknowledged value reply acknowledged worn faults is =
         let room : is_worn (session_of old) ≡ false = not_worn (session_of old)
         (λ when. absurd (cc (worn.always ((usable, when.0), when.1)))) in
@@ -154,7 +153,7 @@ module _ {D : Type 0} (d : Ghosts D) where
         }
 
     -- the store is worn, and nothing has changed
-    takes_worn : {T : Type 0} (value : T) → IsWorn (Err Worn) old new → s' ≡ refused saying.Worn s
+    takes_worn : {T : Type 0} (value : T) → IsWorn (Err Worn) old new → s' ≡ turned_away saying.Worn s
         → Takes d (posted event (seat_of s old)) (Ok value) s' old new
     takes_worn value worn is =
         let when = worn.only refl in
@@ -190,7 +189,7 @@ module _ {D : Type 0} (d : Ghosts D) where
 
       -- the store turned it away
       pub takes_turned_away : {T : Type 0} (result : Result T Error)
-          → OnOk result ((error ≡ Worn) × (s' ≡ refused saying.Worn s))
+          → OnOk result ((error ≡ Worn) × (s' ≡ turned_away saying.Worn s))
           → IfErr result (λ passed. (error ≢ Worn) × (passed ≡ error))
           → Takes d (posted event (seat_of s old)) result s' old new
       takes_turned_away {T = T} (Ok value) is other =
@@ -300,15 +299,14 @@ unfolding after_press
 left_seat press d leaves = sym (cond-true d.sitting.leaves d _ leaves)
 
 -- before that the hand says what a press comes to
-pub pressed_seat : (press : Press) (d : Seat) (hand : Hand) (act : Action) → d.sitting.leaves ≡ false
-    → hand ≡ (handled d.sitting.sight press d.sitting.hand).0 → act ≡ (handled d.sitting.sight press d.sitting.hand).1
-    → acted act (record d { sitting = record d.sitting { hand = hand } }) ≡ after_press press d
+pub pressed_seat : (press : Press) (d : Seat) (s : Sitting) (act : Action) → d.sitting.leaves ≡ false
+    → s ≡ with_hand (handled d.sitting.sight press d.sitting.hand).0 d.sitting
+    → act ≡ (handled d.sitting.sight press d.sitting.hand).1
+    → acted act (record d { sitting = s }) ≡ after_press press d
 unfolding after_press
-pressed_seat press d hand act stays is_hand is_act =
-    ap (λ h. acted act (record d { sitting = record d.sitting { hand = h } })) is_hand
+pressed_seat press d s act stays is is_act =
+    ap (λ t. acted act (record d { sitting = t })) is
     ∙ ap (λ a. acted a (record d {
-      sitting = record d.sitting {
-        hand = (handled d.sitting.sight press d.sitting.hand).0;
-      };
+      sitting = with_hand (handled d.sitting.sight press d.sitting.hand).0 d.sitting;
     })) is_act
     ∙ sym (cond-false d.sitting.leaves d _ stays)

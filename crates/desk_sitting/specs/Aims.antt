@@ -10,9 +10,11 @@ use Rattle.screen_pictures.specs.Screen.{cell_at, row_at}
 use Rattle.terminal_presses.specs.declared.press.Arrow.{Arrow as ArrowKey}
 use Rattle.terminal_presses.specs.declared.press.Arrow.TheVariants.{Up, Down, Right, Left}
 
-abbrev pub is_caret : Mark → Bool
-is_caret Caret = true
-is_caret _ = false
+-- whether a cell has the mark that is looked for, a caret or the marker
+abbrev pub is_mark : Mark → Mark → Bool
+is_mark Caret Caret = true
+is_mark Marker Marker = true
+is_mark _ _ = false
 
 -- where a text is shown that has no caret there
 abbrev pub is_text : Mark → Bool
@@ -21,20 +23,31 @@ is_text Selected = true
 is_text Text = true
 is_text _ = false
 
-abbrev pub has_caret : List Cell → Bool
-has_caret row = list_any (λ cell. is_caret cell.mark) row
+abbrev pub has_mark : Mark → List Cell → Bool
+has_mark mark row = list_any (λ cell. is_mark mark cell.mark) row
 
 infixl 10 ◌>>=◌
 abbrev pub ◌>>=◌ : {A B : Type 0} → Option A → (A → Option B) → Option B
 None >>= f = None
 (Some x) >>= f = f x
 
--- the lowest row that has a caret, and its first column there
-unfoldable pub caret_of : List (List Cell) → Option (ℕ × ℕ)
-caret_of screen = do
-  y ← position has_caret screen
-  x ← position (λ cell. is_caret cell.mark) (row_at screen y)
+-- the lowest row that has the mark, and its first column there
+unfoldable pub marked : Mark → List (List Cell) → Option (ℕ × ℕ)
+marked mark screen = do
+  y ← position (has_mark mark) screen
+  x ← position (λ cell. is_mark mark cell.mark) (row_at screen y)
   Some (x, y)
+
+abbrev pub caret_of : List (List Cell) → Option (ℕ × ℕ)
+caret_of screen = marked Caret screen
+
+abbrev pub or_else : {A : Type 0} → Option A → Option A → Option A
+or_else None other = other
+or_else (Some a) other = Some a
+
+-- where an arrow begins: at the caret; where none is in sight the marker may stand on it, and is taken for it
+unfoldable pub start_of : List (List Cell) → Option (ℕ × ℕ)
+start_of screen = or_else (caret_of screen) (marked Marker screen)
 
 -- the place beside one, within the display
 unfoldable pub beside : ArrowKey → ℕ × ℕ → Option (ℕ × ℕ)
@@ -50,6 +63,6 @@ where_text screen place = if is_text (cell_at screen place.0 place.1).mark then 
 -- the place beside the caret, where a text is shown there
 unfoldable pub aimed : ArrowKey → List (List Cell) → Option (ℕ × ℕ)
 aimed arrow screen = do
-  caret ← caret_of screen
-  place ← beside arrow caret
+  start ← start_of screen
+  place ← beside arrow start
   where_text screen place

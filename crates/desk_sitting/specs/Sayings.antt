@@ -1,13 +1,15 @@
 -- What the line below the screen says.
-use Rattle.std.specs.Prelude.{ℕ, ◌-◌, List, [], ◌∷◌, ◌++◌, Option, Some, None, codes, drop, length, slice_get}
+use Rattle.std.specs.Prelude.{ℕ, ◌-◌, ◌==◌, if◌then◌else◌, List, [], ◌∷◌, ◌++◌, Option, Some, None, codes, drop, length, slice_get}
 use Rattle.std.specs.Prelude.{unwrap_or}
+use Rattle.std.specs.Fmt.{decimal}
 use Rattle.event_bytes.specs.declared.keys.Keys.{Keys as MouseKeys}
 use Rattle.event_bytes.specs.declared.keys.Keys.TheVariants.{Left, LeftMiddle, LeftRight, Middle, MiddleLeft}
 use Rattle.event_bytes.specs.declared.keys.Keys.TheVariants.{MiddleRight, Right, RightLeft, RightMiddle}
 use Rattle.terminal_presses.specs.declared.action.Click.{Click}
 use Rattle.terminal_presses.specs.declared.action.Click.TheVariants.{Mark, Keys}
 use Rattle.desk_sitting.specs.declared.saying.Saying.{Saying}
-use Rattle.desk_sitting.specs.declared.saying.Saying.TheVariants.{Nothing, Greeting, InMemory, Refused, Worn, Unread}
+use Rattle.desk_sitting.specs.declared.saying.Saying.TheVariants.{Nothing, Greeting, InMemory, Refused, CutShort}
+use Rattle.desk_sitting.specs.declared.saying.Saying.TheVariants.{Worn, Unread, Unfinished, TooNarrow}
 
 -- why an event is refused, by the code of the refusal from 0 on
 abbrev pub reasons : List (List ℕ)
@@ -29,6 +31,16 @@ reasons =
 
 abbrev pub reason : ℕ → List ℕ
 reason code = unwrap_or (slice_get reasons code) (codes "refused")
+
+-- the same in short
+abbrev pub short_reason : ℕ → List ℕ
+short_reason code =
+    if code == 1 then codes "refused (1): no caret" else
+    (if code == 6 then codes "refused (6): no room" else codes "refused")
+
+-- how far a paste or a host file came that was cut short, and why
+abbrev pub cut_short : ℕ → ℕ → List ℕ
+cut_short typed code = decimal typed ++ codes " characters typed, the rest dropped: " ++ short_reason code
 
 -- with which keys the next click is
 abbrev pub keys_words : MouseKeys → List ℕ
@@ -52,8 +64,11 @@ words Nothing = []
 words Greeting = codes "Middle button, or F2 and then a click, calls the word there; Ctrl-Q leaves"
 words InMemory = codes "This desktop is in memory: when you leave (Ctrl-Q) it is gone."
 words (Refused code) = reason code
+words (CutShort typed code) = cut_short typed code
 words Worn = codes "This store takes no more events: its epochs are used up."
 words Unread = codes "The host's file can't be read, and nothing was typed."
+words Unfinished = codes "The host's file can't be read to its end; what came of it is typed."
+words TooNarrow = codes "This window is too narrow: it has fewer than 80 columns."
 
 -- a name of a host file as far as it is typed, of which the end is seen
 abbrev pub question : List ℕ → List ℕ

@@ -1,8 +1,8 @@
 -- What presses come to, one after another: a sitting, and the session of the store before which it is.
-use Rattle.std.specs.Prelude.{◌≡◌, ℕ, ◌-◌, Bool, true, false, if◌then◌else◌, List, [], ◌∷◌, ◌++◌}
-use Rattle.std.specs.Prelude.{Option, Some, None, is_some}
+use Rattle.std.specs.Prelude.{◌≡◌, ℕ, ◌+◌, ◌-◌, ◌^◌, Bool, true, false, ◌==◌, if◌then◌else◌, List, [], ◌∷◌, ◌++◌}
+use Rattle.std.specs.Prelude.{Option, Some, None, is_some, length, min, option_map, unwrap_or}
 use Rattle.event_bytes.specs.declared.event.Event.{Event}
-use Rattle.event_bytes.specs.declared.event.Event.TheVariants.{Point}
+use Rattle.event_bytes.specs.declared.event.Event.TheVariants.{Point, Typed}
 use Rattle.event_bytes.specs.declared.keys.Keys.TheVariants.{Left}
 use Rattle.screen_pictures.specs.declared.cell.Cell.{Cell}
 use Rattle.desktop_definitions.specs.declared.reply.Reply.{Reply}
@@ -12,14 +12,16 @@ use Rattle.desktop_definitions.specs.Step.{step, steps}
 use Rattle.terminal_presses.specs.declared.press.Press.{Press}
 use Rattle.terminal_presses.specs.declared.action.Action.{Action}
 use Rattle.terminal_presses.specs.declared.action.Action.TheVariants as action
-use Rattle.terminal_presses.specs.Hands.{handled, new_hand}
+use Rattle.terminal_presses.specs.declared.hand.Hand.{Hand}
+use Rattle.terminal_presses.specs.Hands.{dropping, handled, new_hand, pastes_text}
 use Rattle.viewer_tracks.specs.declared.display.TheConstants.{ROWS}
 use Rattle.desk_sitting.specs.declared.saying.Saying.{Saying}
-use Rattle.desk_sitting.specs.declared.saying.Saying.TheVariants.{Nothing, Refused, Worn, Unread}
+use Rattle.desk_sitting.specs.declared.saying.Saying.TheVariants.{Nothing, Refused, CutShort, Worn, Unread}
+use Rattle.desk_sitting.specs.declared.saying.Saying.TheVariants.{Unfinished, TooNarrow}
 use Rattle.desk_sitting.specs.declared.sitting.Sitting.{Sitting}
 use Rattle.desk_sitting.specs.Aims.{aimed, caret_of}
 use Rattle.desk_journal.specs.Session.{Session, is_worn, taken}
-use Rattle.desk_sitting.specs.Windows.{fitted, followed, height_told, moved}
+use Rattle.desk_sitting.specs.Windows.{fitted, followed, height_told, is_narrow, moved}
 
 -- a sitting, and the session of the store before which it is
 pub record Seat : Type 0 where
@@ -40,16 +42,47 @@ new_sitting height greeting = record {
   leaves = false;
   wanted = None;
   asks = false;
+  typed = None;
 }
 
 -- the terminal rings, and the line below says why
 abbrev pub refused : Saying → Sitting → Sitting
 refused saying s = record s { saying = saying; rings = true }
 
--- after a reply: what was done is followed by the rows in sight
-unfoldable pub replied : Reply → Sitting → Sitting
-replied Done s = record s { saying = Nothing; follows = true }
-replied (No code) s = refused (Refused code) s
+-- how many characters an event types
+abbrev pub characters_of : Event → ℕ
+characters_of (Typed bytes) = length bytes
+characters_of event = 0
+
+-- of a paste so many more are typed, as far as that is counted
+abbrev pub typed_more : Event → ℕ → ℕ
+typed_more event n = min (n + characters_of event) (2 ^ 32 - 1)
+
+-- why a paste is cut short of which so many characters are typed, and how far it came
+abbrev pub with_count : ℕ → Saying → Saying
+with_count n (Refused code) = CutShort n code
+with_count n saying = saying
+
+abbrev pub came_to : ℕ → Saying → Saying
+came_to n saying = if n == 0 then saying else with_count n saying
+
+-- An event is turned away, and the line below says why. Amid a paste, of which so many characters are typed, the rest of
+-- it is dropped, and the line says how far it came.
+unfoldable pub turned_by : Option ℕ → Saying → Sitting → Sitting
+turned_by None saying s = refused saying s
+turned_by (Some n) saying s = refused (came_to n saying) (record s { hand = dropping s.hand })
+
+abbrev pub turned_away : Saying → Sitting → Sitting
+turned_away saying s = turned_by s.typed saying s
+
+-- after the reply to an event: what was done is followed by the rows in sight
+unfoldable pub replied : Event → Reply → Sitting → Sitting
+replied event Done s = record s {
+  saying = Nothing;
+  follows = true;
+  typed = option_map (typed_more event) s.typed;
+}
+replied event (No code) s = turned_away (Refused code) s
 
 -- after the screen was shown: the rows in sight have followed the caret, and what was to be done at once is done
 unfoldable pub looked : List (List Cell) → Sitting → Sitting
@@ -73,27 +106,38 @@ brought will_be_heard s = if is_some s.wanted then fetched will_be_heard s else 
 
 unfoldable pub posted : Event → Seat → Seat
 posted event seat = record {
-  sitting = if is_worn seat.session then refused Worn seat.sitting
-      else replied (step seat.session.desktop event).reply seat.sitting;
+  sitting = if is_worn seat.session then turned_away Worn seat.sitting
+      else replied event (step seat.session.desktop event).reply seat.sitting;
   session = taken seat.session event;
 }
 
 -- a left click at a place, or a ring where there is none
 unfoldable pub clicked : Option (ℕ × ℕ) → Seat → Seat
-clicked None seat = record seat { sitting = record seat.sitting { rings = true } }
+clicked None seat = record seat { sitting = refused Nothing seat.sitting }
 clicked (Some place) seat = posted (Point Left place.0 place.1 place.0 place.1) seat
 
--- what a press comes to that posts nothing
+-- what the line below says once the terminal has told its size: where it is narrower than the display, that
+abbrev pub is_too_narrow : Saying → Bool
+is_too_narrow TooNarrow = true
+is_too_narrow _ = false
+
+abbrev pub fitted_saying : Bool → Saying → Saying
+fitted_saying narrow saying =
+    if narrow then TooNarrow else (if is_too_narrow saying then Nothing else saying)
+
+-- what a press comes to that posts nothing; a ring leaves no older reason on the line below
 unfoldable pub acted_alone : Action → Sitting → Sitting
-acted_alone action.Ring s = record s { rings = true }
+acted_alone action.Ring s = refused Nothing s
 acted_alone action.LookAnew s = record s { forgets = true; asks = true }
 acted_alone action.Leave s = record s { leaves = true }
 acted_alone (action.TypeFile name) s = record s { wanted = Some name }
 acted_alone (action.Move page) s = record s { sight = moved page s.sight; follows = false }
 acted_alone (action.Fit rows columns) s = record s {
   sight = fitted (height_told rows columns) s.sight;
+  saying = fitted_saying (is_narrow rows columns) s.saying;
   forgets = true;
 }
+acted_alone action.FileFailed s = refused Unfinished s
 acted_alone _ s = s
 
 unfoldable pub acted : Action → Seat → Seat
@@ -101,11 +145,19 @@ acted (action.Post event) seat = posted event seat
 acted (action.Step arrow) seat = clicked (aimed arrow (shown_screen seat.session.desktop)) seat
 acted alone seat = record seat { sitting = acted_alone alone seat.sitting }
 
+-- Once the hand has taken a press: where that is amid a text that is pasted, it is counted how many of its characters
+-- are typed.
+abbrev pub with_hand : Hand → Sitting → Sitting
+with_hand hand s = record s {
+  hand = hand;
+  typed = if pastes_text s.hand then Some (unwrap_or s.typed 0) else None;
+}
+
 -- nothing is done after the person has left
 unfoldable pub after_press : Press → Seat → Seat
 after_press press seat = if seat.sitting.leaves then seat else
     (let next = handled seat.sitting.sight press seat.sitting.hand in
-    acted next.1 (record seat { sitting = record seat.sitting { hand = next.0 } }))
+    acted next.1 (record seat { sitting = with_hand next.0 seat.sitting }))
 
 abbrev pub after_presses : List Press → Seat → Seat
 after_presses [] seat = seat

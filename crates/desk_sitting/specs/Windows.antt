@@ -1,5 +1,6 @@
 -- The rows of the display that are in sight in a terminal.
-use Rattle.std.specs.Prelude.{ℕ, ◌+◌, ◌-◌, ◌&&◌, nat_lt, nat_le, if◌then◌else◌, Option, Some, None, min, max}
+use Rattle.std.specs.Prelude.{ℕ, ◌+◌, ◌-◌, Bool, ◌&&◌, not, nat_lt, nat_le, if◌then◌else◌, Option, Some, None, min}
+use Rattle.std.specs.Prelude.{max}
 use Rattle.viewer_tracks.specs.declared.display.TheConstants.{COLUMNS, ROWS}
 use Rattle.terminal_presses.specs.Sights.{Sight}
 use Rattle.terminal_presses.specs.declared.press.Page.{Page as PageKey}
@@ -9,6 +10,10 @@ use Rattle.terminal_presses.specs.declared.press.Page.TheVariants.{Up, Down}
 -- sits down, so there it has told them in the other order, as tmux 3.3 does.
 unfoldable pub height_told : ℕ → ℕ → ℕ
 height_told rows columns = if nat_lt columns COLUMNS && nat_le COLUMNS rows then columns else rows
+
+-- whether it has fewer columns than the display
+unfoldable pub is_narrow : ℕ → ℕ → Bool
+is_narrow rows columns = nat_lt columns COLUMNS && not (nat_le COLUMNS rows)
 
 -- how many there are in a terminal of so many rows: one is the line below them
 abbrev pub rows_in : ℕ → ℕ

@@ -1,6 +1,8 @@
 //! The cell of the caret, and the one beside it.
 ghost use Rattle.std.specs.Prelude.{◌≡◌, ◌<◌, length, position, IfSome};
-ghost use Rattle.desk_sitting.specs.Aims.{aimed, beside, caret_of, has_caret, is_caret, is_text, where_text};
+ghost use Rattle.screen_pictures.specs.declared.cell.Mark.TheVariants.{Caret};
+ghost use Rattle.desk_sitting.specs.Aims.{aimed, beside, has_mark, is_mark, is_text, marked, start_of, where_text};
+ghost use Rattle.desk_sitting.specs.Aims.{caret_of as place_of_caret};
 
 use screen_cells::Screen;
 use screen_pictures::{Cell, Mark};
@@ -15,52 +17,79 @@ type Row = [Cell; COLUMNS as usize];
 pub(crate) fn aimed(arrow: Arrow, screen: &Screen) -> Option<(u8, u8)>
     ensures { result ≡ aimed arrow screen.now }
 {
-    let caret = caret_of(screen)?;
-    let place = beside(arrow, caret)?;
+    let start = start_of(screen)?;
+    let place = beside(arrow, start)?;
     where_text(screen, place)
 }
 
 /// The column and the row of the display at which the caret stands: of several the lowest, and there the first.
-#[tactic(auto, unfolding(crate::specs::Aims::caret_of))]
 pub(crate) fn caret_of(screen: &Screen) -> Option<(u8, u8)>
-    ensures value { result ≡ caret_of screen.now }
+    ensures value { result ≡ place_of_caret screen.now }
+    ensures column { IfSome result (λ at. at.0 < COLUMNS) }
+    ensures row { IfSome result (λ at. at.1 < ROWS) }
+{
+    marked(screen, Mark::Caret)
+}
+
+/// Where an arrow begins: at the caret, or where none is in sight at the marker, which may stand on it.
+#[tactic(auto, unfolding(crate::specs::Aims::start_of))]
+fn start_of(screen: &Screen) -> Option<(u8, u8)>
+    ensures value { result ≡ start_of screen.now }
+    ensures column { IfSome result (λ at. at.0 < COLUMNS) }
+    ensures row { IfSome result (λ at. at.1 < ROWS) }
+{
+    match marked(screen, Mark::Caret) {
+        Some(place) => Some(place),
+        None => marked(screen, Mark::Marker),
+    }
+}
+
+/// The column and the row of the display at which the mark stands: of several the lowest, and there the first.
+#[tactic(auto, unfolding(crate::specs::Aims::marked))]
+fn marked(screen: &Screen, mark: Mark) -> Option<(u8, u8)>
+    ensures value { result ≡ marked mark screen.now }
     ensures column { IfSome result (λ at. at.0 < COLUMNS) }
     ensures row { IfSome result (λ at. at.1 < ROWS) }
 {
     let rows = screen.rows();
-    let y = row_of_caret(rows)?;
-    let x = column_of_caret(&rows[y])?;
-    Some((x as u8, y as u8))
+    let y = marked_row(rows, mark)?;
+    match marked_column(&rows[y], mark) {
+        None => None,
+        Some(x) => Some((x as u8, y as u8)),
+    }
 }
 
-/// The lowest row that has a caret.
-fn row_of_caret(rows: &[Row]) -> Option<usize>
-    ensures value { result ≡ position has_caret rows.now }
+/// The lowest row that has the mark.
+fn marked_row(rows: &[Row], mark: Mark) -> Option<usize>
+    ensures value { result ≡ position (has_mark mark) rows.now }
     ensures within { IfSome result (λ y. y < length rows.now) }
 {
-    rows.iter().position(|row| has_caret(row))
+    rows.iter().position(|row| has_mark(row, mark))
 }
 
-/// Whether a row has a caret.
-fn has_caret(row: &Row) -> bool
-    ensures { result ≡ has_caret row.now }
+/// Whether a row has the mark.
+fn has_mark(row: &Row, mark: Mark) -> bool
+    ensures { result ≡ has_mark mark row.now }
 {
-    row.iter().any(|cell| is_caret(cell.mark))
+    row.iter().any(|cell| is_mark(mark, cell.mark))
 }
 
-/// The first column of a row at which a caret stands.
-fn column_of_caret(row: &Row) -> Option<usize>
-    ensures value { result ≡ position (λ cell. is_caret cell.mark) row.now }
+/// The first column of a row at which the mark stands.
+fn marked_column(row: &Row, mark: Mark) -> Option<usize>
+    ensures value { result ≡ position (λ cell. is_mark mark cell.mark) row.now }
     ensures within { IfSome result (λ x. x < COLUMNS) }
 {
-    row.iter().position(|cell| is_caret(cell.mark))
+    row.iter().position(|cell| is_mark(mark, cell.mark))
 }
 
-/// Whether it marks a caret.
-fn is_caret(mark: Mark) -> bool
-    ensures { result ≡ is_caret mark }
+/// Whether a cell has the mark that is looked for, a caret or the marker.
+fn is_mark(wanted: Mark, mark: Mark) -> bool
+    ensures { result ≡ is_mark wanted mark }
 {
-    matches!(mark, Mark::Caret)
+    matches!(
+        (wanted, mark),
+        (Mark::Caret, Mark::Caret) | (Mark::Marker, Mark::Marker)
+    )
 }
 
 /// Whether a text is shown there, and no caret.

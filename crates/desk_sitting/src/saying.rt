@@ -1,6 +1,7 @@
 //! What the line below the screen says.
 ghost use Rattle.std.specs.Prelude.{◌≡◌, ◌≤◌, length, option_map};
-ghost use Rattle.desk_sitting.specs.Sayings.{click_words, keys_words, line_of, question, reason, words};
+ghost use Rattle.desk_sitting.specs.Sayings.{click_words, cut_short, keys_words, line_of, question, reason};
+ghost use Rattle.desk_sitting.specs.Sayings.{short_reason, words};
 
 use arrayvec::ArrayVec;
 use event_bytes::Keys;
@@ -17,10 +18,22 @@ pub enum Saying {
     InMemory,
     /// An event was refused, with this code.
     Refused(u8),
+    /// Of a paste or a host file so many characters were typed. Then a piece was refused, with the code, and the rest
+    /// was dropped.
+    CutShort {
+        /// How many characters were typed.
+        typed: u32,
+        /// The code of the refusal.
+        code: u8,
+    },
     /// The store takes no more events.
     Worn,
     /// A host file can't be read.
     Unread,
+    /// A host file was typed as far as it can be read.
+    Unfinished,
+    /// The terminal has fewer columns than the display.
+    TooNarrow,
 }
 
 /// Why an event was refused, by the code of the refusal.
@@ -50,6 +63,32 @@ fn reason(code: u8) -> &'static [u8]
         .get(usize::from(code))
         .copied()
         .unwrap_or(b"refused")
+}
+
+/// The same in short.
+fn short_reason(code: u8) -> &'static [u8]
+    ensures value { result.now ≡ short_reason code }
+    ensures short { length result.now ≤ 21 }
+{
+    match code {
+        1 => b"refused (1): no caret",
+        6 => b"refused (6): no room",
+        _ => b"refused",
+    }
+}
+
+/// How far a paste or a host file came that was cut short, and why.
+fn cut_short(typed: u32, code: u8) -> SayingLine
+    ensures { result.items ≡ cut_short typed code }
+{
+    let mut digits = itoa::Buffer::new();
+    let mut text = SayingLine::new();
+    text.try_extend_from_slice(digits.format(typed).as_bytes())
+        .unwrap();
+    text.try_extend_from_slice(b" characters typed, the rest dropped: ")
+        .unwrap();
+    text.try_extend_from_slice(short_reason(code)).unwrap();
+    text
 }
 
 /// What the next click is.
@@ -84,19 +123,25 @@ fn keys_words(keys: Keys) -> &'static [u8]
 impl Saying {
     /// Its text.
     #[tactic(auto, unfolding(crate::specs::Sayings::words))]
-    fn words(self) -> &'static [u8]
-        ensures value { result.now ≡ words self }
-        ensures short { length result.now ≤ 80 }
+    fn words(self) -> SayingLine
+        ensures { result.items ≡ words self }
     {
         match self {
-            Saying::Nothing => b"",
-            Saying::Greeting => {
-                b"Middle button, or F2 and then a click, calls the word there; Ctrl-Q leaves"
-            }
-            Saying::InMemory => b"This desktop is in memory: when you leave (Ctrl-Q) it is gone.",
-            Saying::Refused(code) => reason(code),
-            Saying::Worn => b"This store takes no more events: its epochs are used up.",
-            Saying::Unread => b"The host's file can't be read, and nothing was typed.",
+            Saying::Nothing => line(b""),
+            Saying::Greeting => line(
+                b"Middle button, or F2 and then a click, calls the word there; Ctrl-Q leaves",
+            ),
+            Saying::InMemory => line(
+                b"This desktop is in memory: when you leave (Ctrl-Q) it is gone.",
+            ),
+            Saying::Refused(code) => line(reason(code)),
+            Saying::CutShort { typed, code } => cut_short(typed, code),
+            Saying::Worn => line(b"This store takes no more events: its epochs are used up."),
+            Saying::Unread => line(b"The host's file can't be read, and nothing was typed."),
+            Saying::Unfinished => line(
+                b"The host's file can't be read to its end; what came of it is typed.",
+            ),
+            Saying::TooNarrow => line(b"This window is too narrow: it has fewer than 80 columns."),
         }
     }
 }
@@ -114,7 +159,7 @@ pub(crate) fn line_of(asked: Option<&[u8]>, armed: Option<Click>, saying: Saying
     }
     match armed {
         Some(click) => line(click_words(click)),
-        None => line(saying.words()),
+        None => saying.words(),
     }
 }
 

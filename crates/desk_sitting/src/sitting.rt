@@ -1,13 +1,15 @@
 //! A person at a terminal, before a store.
 ghost use Rattle.std.specs.Prelude.{◌≡◌, ◌≢◌, false, OnOk, IfErr};
+ghost use Rattle.terminal_presses.specs.Hands.{handled};
 ghost use Rattle.desk_sitting.specs.Doing.{Takes, seat_of};
 ghost use Rattle.desk_sitting.specs.Sayings.{line_of};
 ghost use Rattle.desk_sitting.specs.Sittings.{acted, acted_alone, after_press, brought, clicked, looked, new_sitting};
-ghost use Rattle.desk_sitting.specs.Sittings.{posted, refused, replied};
+ghost use Rattle.desk_sitting.specs.Sittings.{came_to, fitted_saying, posted, refused, replied, turned_away};
+ghost use Rattle.desk_sitting.specs.Sittings.{typed_more, with_hand};
 
 use crate::aim::{aimed, caret_of};
 use crate::saying::{Saying, SayingLine, line_of};
-use crate::window::{fitted, followed, height_told, moved};
+use crate::window::{fitted, followed, height_told, is_narrow, moved};
 use desk_journal::{Error, Store};
 use desktop_definitions::Reply;
 use event_bytes::{Event, Keys};
@@ -41,6 +43,8 @@ pub struct Sitting {
     pub wanted: Option<HostName>,
     /// The terminal is asked for its size.
     pub asks: bool,
+    /// How many characters are typed of the text that was pasted when something was pressed last. None where none was.
+    pub typed: Option<u32>,
 }
 
 impl Sitting {
@@ -58,6 +62,7 @@ impl Sitting {
             leaves: false,
             wanted: None,
             asks: false,
+            typed: None,
         }
     }
 
@@ -105,17 +110,34 @@ impl Sitting {
         }
     }
 
+    /// An event is turned away. Amid a paste the rest of that is dropped, and the line below says how far it came.
+    #[tactic(auto, unfolding(crate::specs::Sittings::turned_by))]
+    fn turn_away(&mut self, why: Saying)
+        ensures { self.new ≡ turned_away why self.old }
+    {
+        match self.typed {
+            None => self.refuse(why),
+            Some(typed) => {
+                self.hand.drop_rest();
+                self.refuse(came_to(typed, why));
+            }
+        }
+    }
+
     /// What a reply says of the event.
     #[tactic(auto, unfolding(crate::specs::Sittings::replied))]
-    fn reply(&mut self, reply: Reply)
-        ensures { self.new ≡ replied reply self.old }
+    fn reply(&mut self, event: &Event, reply: Reply)
+        ensures { self.new ≡ replied event.now reply self.old }
     {
         match reply {
             Reply::Done => {
                 self.saying = Saying::Nothing;
                 self.follows = true;
+                if let Some(typed) = self.typed {
+                    self.typed = Some(typed_more(event, typed));
+                }
             }
-            Reply::No(code) => self.refuse(Saying::Refused(code)),
+            Reply::No(code) => self.turn_away(Saying::Refused(code)),
         }
     }
 
@@ -135,8 +157,21 @@ impl Sitting {
         if self.leaves {
             return Ok(());
         }
-        let action = self.hand.take(self.sight, press);
+        let action = self.take(press);
         self.act(alloc, action, store)
+    }
+
+    /// The hand takes a press. Amid a text that is pasted it is counted how many of its characters are typed.
+    fn take(&mut self, press: Press) -> Action
+        ensures state { self.new ≡ with_hand (handled self.old.sight press self.old.hand).0 self.old }
+        ensures answer { result ≡ (handled self.old.sight press self.old.hand).1 }
+    {
+        self.typed = if self.hand.pastes_text() {
+            Some(self.typed.unwrap_or(0))
+        } else {
+            None
+        };
+        self.hand.take(self.sight, press)
     }
 
     /// Does what a press comes to.
@@ -161,7 +196,8 @@ impl Sitting {
     {
         match action {
             Action::Nothing | Action::Post(_) | Action::Step(_) => {}
-            Action::Ring => self.rings = true,
+            Action::Ring => self.refuse(Saying::Nothing),
+            Action::FileFailed => self.refuse(Saying::Unfinished),
             Action::TypeFile(name) => self.wanted = Some(name),
             Action::LookAnew => {
                 self.forgets = true;
@@ -174,6 +210,7 @@ impl Sitting {
             }
             Action::Fit(rows, columns) => {
                 self.sight = fitted(height_told(rows, columns), self.sight);
+                self.saying = fitted_saying(is_narrow(rows, columns), self.saying);
                 self.forgets = true;
             }
         }
@@ -202,7 +239,7 @@ impl Sitting {
     {
         match place {
             None => {
-                self.rings = true;
+                self.refuse(Saying::Nothing);
                 Ok(())
             }
             Some((x, y)) => {
@@ -225,7 +262,7 @@ impl Sitting {
     {
         match store.post(alloc, event) {
             Ok(reply) => {
-                self.reply(reply);
+                self.reply(event, reply);
                 Ok(())
             }
             Err(error) => self.turned_away(error),
@@ -234,15 +271,46 @@ impl Sitting {
 
     /// What an error of a post comes to: a worn store rings, and any other error is passed on.
     fn turned_away(&mut self, error: Error) -> Doing
-        ensures worn { OnOk result ((error ≡ Error.Worn) × (self.new ≡ refused Saying.Worn self.old)) }
+        ensures worn { OnOk result ((error ≡ Error.Worn) × (self.new ≡ turned_away Saying.Worn self.old)) }
         ensures other { IfErr result (λ passed. (error ≢ Error.Worn) × (passed ≡ error)) }
     {
         match error {
             Error::Worn => {
-                self.refuse(Saying::Worn);
+                self.turn_away(Saying::Worn);
                 Ok(())
             }
             other => Err(other),
         }
+    }
+}
+
+/// Of a paste so many more characters are typed.
+fn typed_more(event: &Event, typed: u32) -> u32
+    ensures { result ≡ typed_more event.now typed }
+{
+    match event {
+        Event::Typed(bytes) => typed.saturating_add(bytes.as_bytes().len() as u32),
+        _ => typed,
+    }
+}
+
+/// Why a paste is cut short, and how far it came where any of it is typed.
+fn came_to(typed: u32, why: Saying) -> Saying
+    ensures { result ≡ came_to typed why }
+{
+    match why {
+        Saying::Refused(code) if typed != 0 => Saying::CutShort { typed, code },
+        other => other,
+    }
+}
+
+/// What the line below says once the terminal has told its size.
+fn fitted_saying(narrow: bool, saying: Saying) -> Saying
+    ensures { result ≡ fitted_saying narrow saying }
+{
+    match saying {
+        _ if narrow => Saying::TooNarrow,
+        Saying::TooNarrow => Saying::Nothing,
+        other => other,
     }
 }

@@ -1,6 +1,6 @@
 //! The rows of the display that are in sight in a terminal.
 ghost use Rattle.std.specs.Prelude.{◌≡◌, ◌<◌, ◌≤◌, IfSome};
-ghost use Rattle.desk_sitting.specs.Windows.{height_told, rows_in, fitted, moved, followed};
+ghost use Rattle.desk_sitting.specs.Windows.{height_told, is_narrow, rows_in, fitted, moved, followed};
 
 use terminal_presses::{Page, Sight};
 use viewer_tracks::{COLUMNS, ROWS};
@@ -17,6 +17,15 @@ pub(crate) fn height_told(rows: u16, columns: u16) -> u16
     } else {
         rows
     }
+}
+
+/// Whether a terminal that tells these two numbers for its rows and columns has fewer columns than the display.
+#[tactic(auto, unfolding(crate::specs::Windows::is_narrow))]
+pub(crate) fn is_narrow(rows: u16, columns: u16) -> bool
+    ensures { result ≡ is_narrow rows columns }
+{
+    let width = u16::from(COLUMNS);
+    columns < width && !(width <= rows)
 }
 
 /// How many rows are in sight in a terminal of so many rows: one is the line below them.

@@ -10,7 +10,7 @@ mod stores;
 mod trouble;
 
 pub use documents::{export, import};
-pub use making::make;
+pub use making::{NewFile, make, new_file};
 pub use pictures::picture;
 pub use stores::{in_memory, opened};
 pub use trouble::Trouble;

@@ -4,11 +4,47 @@ ghost use Rattle.std.specs.Prelude.{◌≡◌, false, IfOk};
 use crate::stores::new_store;
 use crate::trouble::Trouble;
 use desk_journal::{Error, Store};
-use host_files::{HostFault, is_there, remove, rename, sync_folder};
+use host_files::{HostFault, is_there, lock_new, remove, rename_new, sync_folder};
 use sector_disk::FileDisk;
+use std::fs::File;
 
-/// Makes a store in the file `made`, which is locked, and gives it the name `path`. Where that fails `made` is taken
-/// away. The store is durable under its name when this has returned it.
+/// How many names are tried for the file that is to become a store.
+const MOST_NAMES: u8 = 9;
+
+/// A file that this program has made. It is locked as long as this lasts.
+#[derive(Drop)]
+pub struct NewFile {
+    /// Its name.
+    pub name: String,
+    lock: File,
+}
+
+/// Makes the file that is to become the store `path`, in the same folder, under a name that nothing has: that of the
+/// store with `.new` behind it, or with `.new2` to `.new9`. So what is there of anybody's stays.
+pub fn new_file(rt: &HostRuntime, path: &str) -> Result<NewFile, Trouble> {
+    for number in 1..=MOST_NAMES {
+        let name = name_of(rt, path, number)?;
+        match lock_new(rt, name.as_str()) {
+            Ok(lock) => return Ok(NewFile { name, lock }),
+            Err(HostFault::Taken) => {}
+            Err(fault) => return Err(Trouble::Making(fault)),
+        }
+    }
+    Err(Trouble::Making(HostFault::Taken))
+}
+
+/// The name that is tried so many times.
+fn name_of(rt: &HostRuntime, path: &str, number: u8) -> Result<String, Trouble> {
+    if number == 1 {
+        Ok(format!(in rt.alloc(); "{path}.new")?)
+    } else {
+        Ok(format!(in rt.alloc(); "{path}.new{number}")?)
+    }
+}
+
+/// Makes a store in the file `made`, which this program has made and locked, and gives it the name `path`. Where that
+/// fails `made` is taken away, and what has the name `path` by then stays. The store is durable under its name when this
+/// has returned it.
 pub fn make(rt: &HostRuntime, made: &str, path: &str) -> Result<Store<FileDisk>, Trouble>
     ensures { IfOk result (λ store. store.must_reopen ≡ false) }
 {
@@ -52,10 +88,12 @@ fn store_in(rt: &HostRuntime, made: &str) -> Result<Store<FileDisk>, Trouble>
     }
 }
 
-/// Gives the file `made` the name `path`, and waits until that is durable.
+/// Gives the file `made` the name `path`, where nothing has it, and waits until that is durable.
 fn give_name(rt: &HostRuntime, made: &str, path: &str) -> Result<(), Trouble> {
-    if let Err(fault) = rename(rt, made, path) {
-        return Err(Trouble::Making(fault));
+    match rename_new(rt, made, path) {
+        Ok(()) => {}
+        Err(HostFault::Taken) => return Err(Trouble::JustMade),
+        Err(fault) => return Err(Trouble::Making(fault)),
     }
     match sync_folder(rt, path) {
         Ok(()) => Ok(()),

@@ -125,7 +125,7 @@ fn refused_file(rt: &HostRuntime, path: &str, fault: HostFault) -> io::Result<()
         HostFault::InUse => eprintln!(rt;
             "desk: another program has {path:?} open, so nothing was done"
         ),
-        HostFault::Refused => eprintln!(rt;
+        HostFault::Refused | HostFault::Taken => eprintln!(rt;
             "desk: {path:?} is no file that can be read, written and locked here"
         ),
         HostFault::NoMemory => no_memory(rt),
@@ -140,6 +140,9 @@ fn refused_making(rt: &HostRuntime, path: &str, fault: HostFault) -> io::Result<
         ),
         HostFault::InUse => eprintln!(rt;
             "desk: another program is making {path:?}, so nothing was done"
+        ),
+        HostFault::Taken => eprintln!(rt;
+            "desk: {path:?} could not be made, since all its names for that are taken, .new to .new9 behind it"
         ),
         HostFault::Refused => eprintln!(rt;
             "desk: {path:?} could not be made; it needs 16 MB, and the right to write in its folder"

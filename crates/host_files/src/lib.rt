@@ -15,6 +15,8 @@ pub enum HostFault {
     Missing,
     /// Another program holds a lock on the file.
     InUse,
+    /// There is something of that name.
+    Taken,
     /// It refused for another reason.
     Refused,
     /// An allocation found no memory.
@@ -43,6 +45,22 @@ pub fn lock_or_make(rt: &HostRuntime, path: &str) -> Result<File, HostFault> {
     Ok(file)
 }
 
+/// Makes a file, empty, and takes its lock as `lock_alone` does. What is there isn't touched, and no link is followed.
+///
+/// Errors: `Taken` where there is something of that name, be it a link to nothing; `Missing` where there is no folder
+/// for it; `InUse`, `Refused` and `NoMemory`.
+pub fn lock_new(rt: &HostRuntime, path: &str) -> Result<File, HostFault> {
+    let file = asked(
+        OpenOptions::new()
+            .read(true)
+            .write(true)
+            .create_new(true)
+            .open(rt, path),
+    )?;
+    locked(file.try_lock())?;
+    Ok(file)
+}
+
 /// As `lock_alone`, but for a program that only reads: several such programs may hold the lock together.
 pub fn lock_shared(rt: &HostRuntime, path: &str) -> Result<File, HostFault> {
     let file = asked(OpenOptions::new().read(true).write(true).open(rt, path))?;
@@ -56,13 +74,36 @@ pub fn sync_folder(rt: &HostRuntime, path: &str) -> Result<(), HostFault> {
     asked(synced_folder(rt, path))
 }
 
-/// Whether there is a file, or something else, at this path.
+/// Whether there is a file, or something else, at this path, be it a link to nothing.
 pub fn is_there(rt: &HostRuntime, path: &str) -> Result<bool, HostFault> {
-    asked(fs::exists(rt, path))
+    match asked(fs::symlink_metadata(rt, path)) {
+        Ok(_) => Ok(true),
+        Err(HostFault::Missing) => Ok(false),
+        Err(fault) => Err(fault),
+    }
 }
 
-/// Gives the file another name, in place of any other file that has it. A lock on the file stays.
-pub fn rename(rt: &HostRuntime, from: &str, to: &str) -> Result<(), HostFault> {
+/// Gives the file another name, which nothing has. A lock on the file stays. On file systems without links of this kind
+/// a file that gets the name at the same moment is lost.
+///
+/// Errors: `Taken` where there is something of that name; `Missing`, `Refused` and `NoMemory`.
+pub fn rename_new(rt: &HostRuntime, from: &str, to: &str) -> Result<(), HostFault> {
+    match asked(fs::hard_link(rt, from, to)) {
+        Ok(()) => {
+            // Where this fails the file has both names.
+            let _ = fs::remove_file(rt, from);
+            Ok(())
+        }
+        Err(HostFault::Refused) => rename_looked(rt, from, to),
+        Err(fault) => Err(fault),
+    }
+}
+
+/// The same, where nothing has the name when it is looked for.
+fn rename_looked(rt: &HostRuntime, from: &str, to: &str) -> Result<(), HostFault> {
+    if is_there(rt, to)? {
+        return Err(HostFault::Taken);
+    }
     asked(fs::rename(rt, from, to))
 }
 
@@ -134,6 +175,7 @@ fn asked<T: Drop>(answer: io::Result<T>) -> Result<T, HostFault>
 fn fault_of(kind: ErrorKind) -> HostFault {
     match kind {
         ErrorKind::NotFound => HostFault::Missing,
+        ErrorKind::AlreadyExists => HostFault::Taken,
         ErrorKind::OutOfMemory => HostFault::NoMemory,
         _ => HostFault::Refused,
     }

@@ -29,9 +29,11 @@ pub heading_pieces : (ws hs ws' hs' : List ℕ) → ws ≡ decimal 720 → hs �
     → hs' ≡ decimal 608
     → concat (codes "<svg xmlns='http://www.w3.org/2000/svg' width='" ∷ ws ∷ codes "' height='" ∷ hs
     ∷ codes "' viewBox='0 0 " ∷ ws' ∷ codes " " ∷ hs'
-    ∷ codes "' font-family='DejaVu Sans Mono,Menlo,Consolas,monospace' font-size='15' xml:space='preserve'>\n" ∷ [])
+    ∷ codes "' font-family='DejaVu Sans Mono,Menlo,Consolas,monospace' font-size='15' xml:space='preserve'>\n"
+    ∷ codes "<style>text{white-space:pre}</style>\n" ∷ [])
     ≡ heading
 heading_pieces ws hs ws' hs' a b c d k =
     concat (codes "<svg xmlns='http://www.w3.org/2000/svg' width='" ∷ a k ∷ codes "' height='" ∷ b k
     ∷ codes "' viewBox='0 0 " ∷ c k ∷ codes " " ∷ d k
-    ∷ codes "' font-family='DejaVu Sans Mono,Menlo,Consolas,monospace' font-size='15' xml:space='preserve'>\n" ∷ [])
+    ∷ codes "' font-family='DejaVu Sans Mono,Menlo,Consolas,monospace' font-size='15' xml:space='preserve'>\n"
+    ∷ codes "<style>text{white-space:pre}</style>\n" ∷ [])

@@ -124,13 +124,14 @@ drawn_row screen y = drawn_cells y (row_at screen (ROWS - 1 - y)) (row_of_cells 
 abbrev pub drawn_rows : List (List Cell) → List ℕ
 drawn_rows screen = flat_map (drawn_row screen) (range_with_len 0 ROWS)
 
--- how it begins: its size, the font, and white paper
+-- how it begins: its size, the font, that spaces count, and white paper
 abbrev pub heading : List ℕ
 heading = concat
     (codes "<svg xmlns='http://www.w3.org/2000/svg' width='" ∷ decimal (cell_width * COLUMNS)
     ∷ codes "' height='" ∷ decimal (cell_height * ROWS) ∷ codes "' viewBox='0 0 " ∷ decimal (cell_width * COLUMNS)
     ∷ codes " " ∷ decimal (cell_height * ROWS)
-    ∷ codes "' font-family='DejaVu Sans Mono,Menlo,Consolas,monospace' font-size='15' xml:space='preserve'>\n" ∷ [])
+    ∷ codes "' font-family='DejaVu Sans Mono,Menlo,Consolas,monospace' font-size='15' xml:space='preserve'>\n"
+    ∷ codes "<style>text{white-space:pre}</style>\n" ∷ [])
 
 abbrev pub background : List ℕ
 background = rectangle 0 0 (cell_width * COLUMNS) (cell_height * ROWS) WHITE

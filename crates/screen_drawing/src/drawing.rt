@@ -49,7 +49,8 @@ pub fn draw<W: Write>(
     flush(writer)
 }
 
-/// Begins the drawing: its size, and the font.
+/// Begins the drawing: its size, the font, and that spaces count, which some programs take from an attribute and others
+/// from a style.
 fn draw_heading<W: Write>(writer: &mut W) -> Drawing
     ensures { Sends result (W.contents writer.old) (W.contents writer.new) heading }
 {
@@ -67,6 +68,7 @@ fn draw_heading<W: Write>(writer: &mut W) -> Drawing
             b" ",
             height.as_slice(),
             b"' font-family='DejaVu Sans Mono,Menlo,Consolas,monospace' font-size='15' xml:space='preserve'>\n",
+            b"<style>text{white-space:pre}</style>\n",
         ],
     )
 }

@@ -1,7 +1,9 @@
 //! What is heard at one time.
-ghost use Rattle.std.specs.Prelude.{◌≡◌, ◌≤◌, [], ◌∷◌, length};
+ghost use Rattle.std.specs.Prelude.{◌≡◌, ◌≤◌, ◌<◌, [], ◌∷◌, ◌++◌, length, take, position, IfSome};
 ghost use Rattle.terminal_presses.specs.declared.press.Heard.TheVariants.{Quiet};
 ghost use Rattle.terminal_presses.specs.Spelling.{bytes};
+ghost use Rattle.terminal_keyboard.specs.Hearings.{IsWithinLine, is_line_end as ends_line, kept_for_later};
+ghost use Rattle.terminal_keyboard.specs.Hearings.{line_length as first_line};
 
 use std::marker::Model;
 use terminal_presses::Heard;
@@ -72,5 +74,53 @@ impl Hearing {
         ensures most { length result.now ≤ MOST_HEARD }
     {
         &self.room[..self.count]
+    }
+
+    /// What goes to the end of the first line, and what comes behind, if anything does.
+    pub(crate) fn split(&self) -> (Hearing, Option<Hearing>)
+        ensures parts { result.0 ++ kept_for_later result.1 ≡ self.now }
+        ensures line { IsWithinLine result.0 }
+    {
+        let heard = self.as_slice();
+        let count = line_length(heard);
+        let line = Hearing::of(&heard[..count]);
+        if count == heard.len() {
+            (line, None)
+        } else {
+            (line, Some(Hearing::of(&heard[count..])))
+        }
+    }
+}
+
+/// How much is heard to the end of the first line, and with it.
+pub(crate) fn line_length(heard: &[Heard]) -> usize
+    ensures value { result ≡ first_line heard.now }
+    ensures within { result ≤ length heard.now }
+    ensures some { 1 ≤ length heard.now → 1 ≤ result }
+    ensures line { IsWithinLine (take result heard.now) }
+{
+    let end = line_end(heard).unwrap_or(heard.len());
+    if end < heard.len() {
+        end + 1
+    } else {
+        heard.len()
+    }
+}
+
+/// Where the first line ends.
+fn line_end(heard: &[Heard]) -> Option<usize>
+    ensures first { result ≡ position ends_line heard.now }
+    ensures within { IfSome result (λ at. at < length heard.now) }
+{
+    heard.iter().position(|heard| is_line_end(*heard))
+}
+
+/// Whether a line ends there.
+fn is_line_end(heard: Heard) -> bool
+    ensures { result ≡ ends_line heard }
+{
+    match heard {
+        Heard::Byte(byte) => byte == b'\r' || byte == b'\n',
+        Heard::Quiet => false,
     }
 }

@@ -1,6 +1,8 @@
 //! What every keyboard is and promises.
-ghost use Rattle.std.specs.Prelude.{◌≡◌, ◌++◌, List, IfOk, OnErr};
+ghost use Rattle.std.specs.Prelude.{◌≡◌, ◌++◌, ℕ, Bool, true, false, [], List, Option, IfOk, IfErr, OnErr};
+ghost use Rattle.std.specs.Io.KnownBytes.{Consumes};
 ghost use Rattle.terminal_presses.specs.declared.press.Heard.{Heard};
+ghost use Rattle.terminal_keyboard.specs.Hearings.{IsWithinLine, heard_bytes};
 
 use crate::hearing::Hearing;
 
@@ -13,19 +15,67 @@ pub enum KeyboardEnd {
     Fault,
 }
 
-/// Where bytes come from as they are pressed.
-pub trait Keyboard {
+/// What a person presses at a terminal, as it is heard.
+pub trait KeySource {
+    ghost use Rattle.terminal_keyboard.specs.declared.keyboard.KeyboardEnd.{KeyboardEnd};
+
     /// All that was heard so far, in order.
     ghost heard: { Self → List Heard };
 
-    /// Waits for what is heard next. `Closed`: nothing more will come. `Fault`: what is below failed in this call. In
-    /// both cases nothing was heard.
+    /// The bytes that are still to be heard, where they are known.
+    ghost left: { Self → Option (List ℕ) };
+
+    /// It has come to this end.
+    ghost ended: { Self → KeyboardEnd → Type 0 };
+
+    /// Waits for what is heard next, and goes no further than to the end of a line. `Closed`: nothing more will come.
+    /// `Fault`: what is below failed in this call. In both cases nothing was heard.
     fn hear(&mut self) -> Result<Hearing, KeyboardEnd>
         ensures told { IfOk result (λ told. heard self.new ≡ heard self.old ++ told) }
-        ensures ended { OnErr result (heard self.new ≡ heard self.old) };
+        ensures bytes { IfOk result (λ told. Consumes (left self.old) (left self.new) (heard_bytes told)) }
+        ensures line { IfOk result IsWithinLine }
+        ensures silent { OnErr result (heard self.new ≡ heard self.old) }
+        ensures none { OnErr result (Consumes (left self.old) (left self.new) []) }
+        ensures cause { IfErr result (λ why. ended self.new why) };
+}
+
+/// A terminal, and files of the host's whose texts are brought in.
+pub trait Keyboard {
+    ghost use Rattle.terminal_keyboard.specs.declared.keyboard.KeyboardEnd.{KeyboardEnd};
+
+    /// All that was heard so far, in order.
+    ghost heard: { Self → List Heard };
+
+    /// The bytes of the terminal that are still to be heard, where they are known.
+    ghost left: { Self → Option (List ℕ) };
+
+    /// Whether the text of a host file is on its way in.
+    ghost brings: { Self → Bool };
+
+    /// It has come to this end.
+    ghost ended: { Self → KeyboardEnd → Type 0 };
+
+    /// In a call of `bring` from the one to the other, of this name, this was answered.
+    ghost answers: { Self → Self → List ℕ → Bool → Type 0 };
+
+    /// Waits for what is heard next. It is of a host file until all of that is told, and of the terminal else, where it
+    /// goes no further than to the end of a line. `Closed`: nothing more will come. `Fault`: what is below failed in
+    /// this call. In both cases nothing was heard.
+    fn hear(&mut self) -> Result<Hearing, KeyboardEnd>
+        ensures told { IfOk result (λ told. heard self.new ≡ heard self.old ++ told) }
+        ensures bytes { brings self.old ≡ false
+            → IfOk result (λ told. Consumes (left self.old) (left self.new) (heard_bytes told)) }
+        ensures line { brings self.old ≡ false → IfOk result IsWithinLine }
+        ensures file { brings self.old ≡ true → IfOk result (λ _. left self.new ≡ left self.old) }
+        ensures silent { OnErr result (heard self.new ≡ heard self.old) }
+        ensures none { OnErr result (Consumes (left self.old) (left self.new) []) }
+        ensures cause { IfErr result (λ why. ended self.new why) };
 
     /// Has the text of a host file be heard next, as a paste, and says whether it will be. It won't where there is no
     /// such file, or it can't be read. Nothing is heard in this call.
     fn bring(&mut self, name: &[u8]) -> bool
-        ensures silent { heard self.new ≡ heard self.old };
+        ensures silent { heard self.new ≡ heard self.old }
+        ensures answered { answers self.old self.new name.now result }
+        ensures unread { left self.new ≡ left self.old }
+        ensures brings { brings self.new ≡ result };
 }

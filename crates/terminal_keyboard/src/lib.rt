@@ -1,8 +1,9 @@
 //! Keyboards: where bytes come from as a person presses keys.
 //!
-//! A `Keyboard` tells what is heard piece by piece, and a piece is a `Hearing`: bytes one after another, or a quiet
-//! while. What was heard so far is what the hearings told, in order (`keyboard`). A terminal is one (`terminal`), and
-//! for tests a script (`script`).
+//! A `KeySource` tells what is heard piece by piece, and a piece is a `Hearing`: bytes one after another, to the end of
+//! a line at most, or a quiet while. What was heard so far is what the hearings told, in order. A `Keyboard` brings in
+//! texts of host files beside that (`keyboard`). A terminal is a source (`terminal`), and for tests a script is a
+//! keyboard (`script`).
 #![tactic(auto)]
 
 mod hearing;
@@ -10,8 +11,8 @@ mod keyboard;
 mod script;
 mod terminal;
 
-pub use ghost_traces::Trace;
+pub use ghost_traces::{Count, Trace};
 pub use hearing::{Hearing, MOST_HEARD};
-pub use keyboard::{Keyboard, KeyboardEnd};
+pub use keyboard::{KeySource, Keyboard, KeyboardEnd};
 pub use script::ScriptedKeyboard;
 pub use terminal::{StandardInput, TerminalInput};

@@ -1,12 +1,15 @@
 //! A keyboard for tests.
-ghost use Rattle.std.specs.Prelude.{◌≡◌, ◌≤◌, [], length, min, take, drop, IfOk, OnErr};
+ghost use Rattle.std.specs.Prelude.{◌≡◌, ◌≤◌, [], false, None, length, min, take, drop, IfOk, IfErr, OnErr};
+ghost use Rattle.terminal_keyboard.specs.declared.keyboard.KeyboardEnd.TheVariants.{Closed};
+ghost use Rattle.terminal_keyboard.specs.Hearings.{IsWithinLine};
 ghost use Rattle.terminal_keyboard.specs.declared.hearing.TheConstants.{MOST_HEARD};
 
-use crate::hearing::{Hearing, MOST_HEARD};
+use crate::hearing::{Hearing, MOST_HEARD, line_length};
 use crate::keyboard::{Keyboard, KeyboardEnd};
 use terminal_presses::Heard;
 
-/// A keyboard that tells what a script says, in pieces of one length, and is closed then.
+/// A keyboard that tells what a script says, in pieces of one length that end with a line at the latest, and is closed
+/// then.
 #[derive(Drop)]
 pub struct ScriptedKeyboard<'a> {
     script: &'a [Heard],
@@ -18,7 +21,7 @@ pub struct ScriptedKeyboard<'a> {
 }
 
 impl<'a> ScriptedKeyboard<'a> {
-    /// A keyboard that tells the script in pieces of that length, of which the last may be shorter.
+    /// A keyboard that tells the script in pieces of that length. A piece is shorter where a line ends, or the script.
     pub fn new(script: &'a [Heard], piece: usize) -> ScriptedKeyboard<'a>
         requires least { 1 ≤ piece }
         requires most { piece ≤ MOST_HEARD }
@@ -37,12 +40,22 @@ impl<'a> ScriptedKeyboard<'a> {
 impl Keyboard for ScriptedKeyboard<'_> {
     ghost heard = { λ k. take k.told k.script.now };
 
+    ghost left = { λ _. None };
+
+    ghost brings = { λ _. false };
+
+    ghost ended = { λ k why. (why ≡ Closed) × (k.told ≡ length k.script.now) };
+
+    ghost answers = { λ _ _ _ will. will ≡ false };
+
     fn hear(&mut self) -> Result<Hearing, KeyboardEnd> {
         let left = self.script.len() - self.told;
         if left == 0 {
             return Err(KeyboardEnd::Closed);
         }
-        let end = self.told + left.min(self.piece);
+        let most = self.told + left.min(self.piece);
+        let piece = &self.script[self.told..most];
+        let end = self.told + line_length(piece);
         let hearing = Hearing::of(&self.script[self.told..end]);
         self.told = end;
         Ok(hearing)

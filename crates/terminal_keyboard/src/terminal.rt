@@ -1,12 +1,13 @@
 //! The keyboard of a terminal.
-ghost use Rattle.std.specs.Prelude.{◌≡◌, Bool, true, false, [], ◌∷◌, Err, OnErr, IfOk};
-ghost use Rattle.std.specs.Io.KnownBytes.{Consumes, IsAtEnd};
-ghost use Rattle.terminal_keyboard.specs.declared.keyboard.KeyboardEnd.TheVariants.{Closed};
-ghost use Rattle.terminal_keyboard.specs.Hearings.{heard_bytes, is_quiet as is_quiet_while};
+ghost use Rattle.std.specs.Prelude.{◌≡◌, ◌<◌, ◌≤◌, ◌+◌, ◌-◌, ◌^◌, ◌⊎◌, Bool, true, false, [], ◌∷◌, Err, OnErr, IfOk, IfErr};
+ghost use Rattle.std.specs.Io.KnownBytes.{Consumes, IsAtEnd, prepend_known};
+ghost use Rattle.terminal_keyboard.specs.declared.keyboard.KeyboardEnd.TheVariants.{Closed, Fault};
+ghost use Rattle.terminal_keyboard.specs.Hearings.{HasEnded, IsWithinLine, heard_bytes, is_quiet as is_quiet_while};
+ghost use Rattle.terminal_keyboard.specs.Hearings.{kept_for_later};
 
 use crate::hearing::{Hearing, MOST_HEARD};
-use crate::keyboard::{Keyboard, KeyboardEnd};
-use ghost_traces::Trace;
+use crate::keyboard::{KeySource, KeyboardEnd};
+use ghost_traces::{Count, Trace};
 use std::io::{ErrorKind, IsTerminal, Read, Stdin};
 use terminal_presses::Heard;
 
@@ -17,39 +18,76 @@ pub type StandardInput = TerminalInput<Stdin>;
 ///
 /// As a terminal it is set to give what there is, or nothing after a while (`stty min 0 time 1`: a tenth of a second):
 /// so a read of no bytes is a quiet while where it is a terminal, and the end where it is none. A quiet while is told
-/// once, and not again before a byte has come, so that nothing is done for a person who presses nothing.
+/// once, and not again before a byte has come, so that nothing is done for a person who presses nothing. Of what is read
+/// at one time each line is told by itself.
 #[derive(Drop)]
 pub struct TerminalInput<R> {
     reader: R,
     was_quiet: bool,
+    /// What was read, and isn't told yet.
+    later: Option<Hearing>,
     log: Trace<Heard>,
+    /// The reads that failed, but for those that were interrupted.
+    failed: Count,
+    /// The reads that gave nothing to tell.
+    idle: Count,
 }
 
 impl<R: Read + IsTerminal> TerminalInput<R> {
     /// A keyboard of which nothing was heard.
     pub fn new(reader: R) -> TerminalInput<R>
-        ensures { result.log.items ≡ [] }
+        ensures none { result.log.items ≡ [] }
+        ensures left { prepend_known (heard_bytes (kept_for_later result.later)) (R.remaining result.reader)
+            ≡ R.remaining reader }
     {
         TerminalInput {
             reader,
             was_quiet: false,
+            later: None,
             log: Trace::new(),
+            failed: Count::new(),
+            idle: Count::new(),
         }
     }
 }
 
-impl<R: Read + IsTerminal> Keyboard for TerminalInput<R> {
+impl<R: Read + IsTerminal> KeySource for TerminalInput<R> {
     ghost heard = { λ k. k.log.items };
 
-    fn hear(&mut self) -> Result<Hearing, KeyboardEnd> {
-        let hearing = listen(&mut self.reader, &mut self.was_quiet)?;
-        self.log.add(hearing.as_slice());
-        Ok(hearing)
-    }
+    ghost left = { λ k. prepend_known (heard_bytes (kept_for_later k.later)) (R.remaining k.reader) };
 
-    /// A terminal alone has no host files.
-    fn bring(&mut self, _name: &[u8]) -> bool {
-        false
+    ghost ended = { λ k why. HasEnded (R.remaining k.reader) k.failed k.idle why };
+
+    fn hear(&mut self) -> Result<Hearing, KeyboardEnd> {
+        let heard = self.gathered()?;
+        let (line, later) = heard.split();
+        self.later = later;
+        self.log.add(line.as_slice());
+        Ok(line)
+    }
+}
+
+impl<R: Read + IsTerminal> TerminalInput<R> {
+    /// What was read and isn't told yet; where there is none, what is read next.
+    fn gathered(&mut self) -> Result<Hearing, KeyboardEnd>
+        ensures bytes { IfOk result (λ heard.
+            Consumes (prepend_known (heard_bytes (kept_for_later self.old.later)) (R.remaining self.old.reader))
+            (R.remaining self.new.reader) (heard_bytes heard)) }
+        ensures none { OnErr result (
+            Consumes (prepend_known (heard_bytes (kept_for_later self.old.later)) (R.remaining self.old.reader))
+            (prepend_known (heard_bytes (kept_for_later self.new.later)) (R.remaining self.new.reader)) []) }
+        ensures log { self.new.log.items ≡ self.old.log.items }
+        ensures cause { IfErr result (λ why. HasEnded (R.remaining self.new.reader) self.new.failed self.new.idle why) }
+    {
+        match self.later.take() {
+            Some(heard) => Ok(heard),
+            None => listen(
+                &mut self.reader,
+                &mut self.was_quiet,
+                &mut self.failed,
+                &mut self.idle,
+            ),
+        }
     }
 }
 
@@ -57,6 +95,8 @@ impl<R: Read + IsTerminal> Keyboard for TerminalInput<R> {
 fn listen<R: Read + IsTerminal>(
     reader: &mut R,
     was_quiet: &mut bool,
+    failed: &mut Count,
+    idle: &mut Count,
 ) -> Result<Hearing, KeyboardEnd>
     ensures bytes { IfOk result
         (λ told. Consumes (R.remaining reader.old) (R.remaining reader.new) (heard_bytes told)) }
@@ -64,9 +104,10 @@ fn listen<R: Read + IsTerminal>(
     ensures quiet { IfOk result (λ told. is_quiet_while told ≡ was_quiet.new) }
     ensures once { IfOk result (λ told. is_quiet_while told ≡ true → was_quiet.old ≡ false) }
     ensures closed { result ≡ Err Closed → IsAtEnd (R.remaining reader.new) }
+    ensures cause { result ≡ Err Fault → (failed.old < failed.new) ⊎ (idle.old + (2 ^ 64 - 1) ≤ idle.new) }
 {
     let mut piece = [0; MOST_HEARD];
-    for _ in 0..u64::MAX {
+    for _count in 0..u64::MAX {
         match reader.read(&mut piece) {
             Ok(0) => {
                 if !reader.is_terminal() {
@@ -76,13 +117,17 @@ fn listen<R: Read + IsTerminal>(
                     *was_quiet = true;
                     return Ok(Hearing::quiet());
                 }
+                idle.rise();
             }
             Ok(count) => {
                 *was_quiet = false;
                 return Ok(Hearing::of_bytes(&piece[..count]));
             }
-            Err(error) if error.kind() == ErrorKind::Interrupted => {}
-            Err(_) => return Err(KeyboardEnd::Fault),
+            Err(error) if error.kind() == ErrorKind::Interrupted => idle.rise(),
+            Err(_) => {
+                failed.rise();
+                return Err(KeyboardEnd::Fault);
+            }
         }
     }
     Err(KeyboardEnd::Fault)

@@ -1,36 +1,108 @@
 -- What gestures of the mouse come to.
 use Rattle.std.proofs.Common.{◌≡◌, Bool, true, false, List, [], ◌∷◌, ◌++◌, Some, None, refl, ap, subst, ◌∙◌}
-use Rattle.std.specs.Prelude.{Option}
+use Rattle.std.specs.Prelude.{Option, not}
 use Rattle.event_bytes.specs.declared.keys.Keys.TheVariants as keys
 use Rattle.terminal_presses.specs.declared.press.Button.{Button}
 use Rattle.terminal_presses.specs.declared.press.Button.TheVariants.{Left, Middle, Right}
 use Rattle.terminal_presses.specs.declared.press.FunctionKey.{FunctionKey}
 use Rattle.terminal_presses.specs.declared.press.FunctionKey.TheVariants.{F1, F2, F3, F4, F5, F6, F7, F8, F9, F10}
+use Rattle.event_bytes.specs.declared.event.Event.{Event}
 use Rattle.terminal_presses.specs.declared.press.Press.{Press}
 use Rattle.terminal_presses.specs.declared.press.Press.TheVariants.{Function}
 use Rattle.terminal_presses.specs.Sights.{Sight}
 use Rattle.terminal_presses.specs.declared.action.Click.{Click}
-use Rattle.terminal_presses.specs.declared.action.Click.TheVariants.{Keys}
+use Rattle.terminal_presses.specs.declared.action.Click.TheVariants.{Mark, Keys}
+use Rattle.terminal_presses.specs.declared.action.Action.{Action}
+use Rattle.terminal_presses.specs.declared.action.Action.TheVariants.{Nothing}
 use Rattle.terminal_presses.specs.declared.hand.Hand.{Hand}
-use Rattle.terminal_presses.specs.Gestures.{joined, called, pressed_more, released, released_at}
-use Rattle.terminal_presses.specs.Hands.{new_hand, by_function, meant, begun, gone_down, rested, gone_up, reported}
-use Rattle.terminal_presses.specs.Hands.{fresh, unpasted, handled}
-use Rattle.terminal_presses.specs.Runs.{hand_after, posted, Makes, Corner, down_with, down, up, alone, together}
+use Rattle.terminal_presses.specs.Gestures.{no_buttons, with_button, joined, called, pressed_more, released, released_at}
+use Rattle.terminal_presses.specs.Hands.{new_hand, idle, by_function, meant, begun, gone_down, rested, gone_up, reported}
+use Rattle.terminal_presses.specs.Hands.{fresh, by_question, handled}
+use Rattle.terminal_presses.specs.Runs.{events_of, hand_after, posted, Makes, Corner, is_seen, down_with, down, up, alone, together}
 use Rattle.terminal_presses.specs.Runs.{clicked, says, spot_at, AreThree}
 use Rattle.terminal_presses.proofs.Pieces.{posted_of_both}
+use Rattle.terminal_presses.proofs.Found.{is_not}
+use Rattle.terminal_presses.proofs.Typing.{by_test}
 
 -- presses make the hand and the events that their definitions say
 made : {sight : Sight} {hand : Hand} {presses : List Press}
     → Makes sight hand presses (hand_after sight hand presses) (posted sight hand presses)
 made = record { hand_is = refl; events_are = refl }
 
-pub one_button : (sight : Sight) (button : Button) (start end : Corner)
+-- the hand that has pressed a button, whose click is that
+abbrev held : Option Click → Sight → Button → Corner → Hand
+held click sight button start = record {
+  armed = None;
+  gesture = Some (record { click = click; start = spot_at sight start; down = with_button button true no_buttons });
+  paste = None;
+  asked = None;
+}
+
+seen_down : (sight : Sight) (button : Button) (start : Corner) → is_seen sight start ≡ true
+    → handled sight (down button start) new_hand ≡ (held (Some (Keys (alone button))) sight button start, Nothing)
+unfolding handled by_question fresh reported gone_down begun meant
+seen_down sight Left start seen = rw seen refl
+seen_down sight Middle start seen = rw seen refl
+seen_down sight Right start seen = rw seen refl
+
+unseen_down : (sight : Sight) (button : Button) (start : Corner) → is_seen sight start ≡ false
+    → handled sight (down button start) new_hand ≡ (held None sight button start, Nothing)
+unfolding handled by_question fresh reported gone_down begun meant
+unseen_down sight button start unseen = rw unseen refl
+
+-- a press that makes no event, and then others
+after_one : {sight : Sight} {press : Press} {presses : List Press} {hand next last : Hand} {events : List Event}
+    → handled sight press hand ≡ (next, Nothing) → Makes sight next presses last events
+    → Makes sight hand (press ∷ presses) last events
+after_one {sight} {press} {presses} is more = record {
+  hand_is = ap (λ (x : Hand × Action). hand_after sight x.0 presses) is ∙ more.hand_is;
+  events_are = ap (λ (x : Hand × Action). events_of x.1 ++ posted sight x.0 presses) is ∙ more.events_are;
+}
+
+one_up : (sight : Sight) (button : Button) (start end : Corner)
+    → Makes sight (held (Some (Keys (alone button))) sight button start) (up button end ∷ []) new_hand
+    (clicked (Keys (alone button)) sight start end ∷ [])
+unfolding handled by_question fresh reported gone_up rested released released_at
+one_up sight Left start end = made
+one_up sight Middle start end = made
+one_up sight Right start end = made
+
+pub one_button : (sight : Sight) (button : Button) (start end : Corner) → is_seen sight start ≡ true
     → Makes sight new_hand (down button start ∷ up button end ∷ []) new_hand
     (clicked (Keys (alone button)) sight start end ∷ [])
-unfolding handled unpasted fresh reported gone_down begun meant gone_up rested released released_at
-one_button sight Left start end = made
-one_button sight Middle start end = made
-one_button sight Right start end = made
+one_button sight button start end seen = after_one (seen_down sight button start seen) (one_up sight button start end)
+
+-- the same of a hand that has begun outside the display
+abbrev held_outside : Sight → Button → Corner → Hand → Hand
+held_outside sight button start hand = record hand {
+  gesture = Some (record { click = None; start = spot_at sight start; down = with_button button true no_buttons });
+  paste = None;
+  asked = None;
+}
+
+outside_down : (sight : Sight) (button : Button) (hand : Hand) (start : Corner) → hand.gesture ≡ None
+    → is_seen sight start ≡ false
+    → handled sight (down button start) (idle hand) ≡ (held_outside sight button start hand, Nothing)
+unfolding handled by_question fresh reported gone_down begun
+outside_down sight button hand start none unseen = rw (none, unseen) refl
+
+outside_up : (sight : Sight) (button : Button) (hand : Hand) (start end : Corner)
+    → Makes sight (held_outside sight button start hand) (up button end ∷ []) (record (idle hand) { gesture = None }) []
+unfolding handled by_question fresh reported gone_up rested released released_at
+outside_up sight Left hand start end = made
+outside_up sight Middle hand start end = made
+outside_up sight Right hand start end = made
+
+still_idle : (hand : Hand) → hand.gesture ≡ None → record (idle hand) { gesture = None } ≡ idle hand
+still_idle hand none = rw none refl
+
+pub none_outside : (sight : Sight) (button : Button) (hand : Hand) (start end : Corner) → hand.gesture ≡ None
+    → not (is_seen sight start) ≡ true
+    → Makes sight (idle hand) (down button start ∷ up button end ∷ []) (idle hand) []
+none_outside sight button hand start end none outside =
+    let unseen = is_not (is_seen sight start) outside in
+    subst (λ h. Makes sight (idle hand) (down button start ∷ up button end ∷ []) h []) (still_idle hand none)
+    (after_one (outside_down sight button hand start none unseen) (outside_up sight button hand start end))
 
 -- what two buttons that differ have, each pair of them has
 by_pairs : (P : Button → Button → Type 0) → P Left Middle → P Left Right → P Middle Left → P Middle Right → P Right Left
@@ -52,15 +124,31 @@ pub record Both (sight : Sight) (first second : Button) (start p q end : Corner)
   pub turned : Makes sight new_hand (down first start ∷ down second p ∷ up second q ∷ up first end ∷ []) new_hand
       (clicked (Keys (together first second)) sight start end ∷ [])
 
-pub two_buttons : (sight : Sight) (first second : Button) (start p q end : Corner) → (first ≡ second → ⊥)
-    → Both sight first second start p q end
-unfolding handled unpasted fresh reported gone_down begun meant gone_up rested released released_at pressed_more
-    called joined
-two_buttons sight first second start p q end other =
-    by_pairs (λ a b. Both sight a b start p q end) (record { in_turn = made; turned = made })
+-- what comes after the first of them is down
+record Rest (sight : Sight) (first second : Button) (start p q end : Corner) : Type 0 where
+  in_turn : Makes sight (held (Some (Keys (alone first))) sight first start)
+      (down second p ∷ up first q ∷ up second end ∷ []) new_hand
+      (clicked (Keys (together first second)) sight start end ∷ [])
+  turned : Makes sight (held (Some (Keys (alone first))) sight first start)
+      (down second p ∷ up second q ∷ up first end ∷ []) new_hand
+      (clicked (Keys (together first second)) sight start end ∷ [])
+
+rest_of_two : (sight : Sight) (first second : Button) (start p q end : Corner) → (first ≡ second → ⊥)
+    → Rest sight first second start p q end
+unfolding handled by_question fresh reported gone_down meant gone_up rested released released_at pressed_more called
+    joined
+rest_of_two sight first second start p q end other =
+    by_pairs (λ a b. Rest sight a b start p q end) (record { in_turn = made; turned = made })
     (record { in_turn = made; turned = made }) (record { in_turn = made; turned = made })
     (record { in_turn = made; turned = made }) (record { in_turn = made; turned = made })
     (record { in_turn = made; turned = made }) first second other
+
+pub two_buttons : (sight : Sight) (first second : Button) (start p q end : Corner) → (first ≡ second → ⊥)
+    → is_seen sight start ≡ true → Both sight first second start p q end
+two_buttons sight first second start p q end other seen =
+    let one = seen_down sight first start seen in
+    let rest = rest_of_two sight first second start p q end other in
+    record { in_turn = after_one one rest.in_turn; turned = after_one one rest.turned }
 
 -- ---- three buttons
 
@@ -96,20 +184,34 @@ off sight start = record {
   asked = None;
 }
 
-abbrev Falls : Sight → Corner → Corner → Corner → Button → Button → Button → Type 0
-Falls sight start p q a b c =
-    Makes sight new_hand (down a start ∷ down b p ∷ down c q ∷ []) (off sight start) []
+abbrev Falls : (Button → Option Click) → Sight → Corner → Corner → Corner → Button → Button → Button → Type 0
+Falls click sight start p q a b c =
+    Makes sight (held (click a) sight a start) (down b p ∷ down c q ∷ []) (off sight start) []
 
-fallen : (sight : Sight) (start p q : Corner) (a b c : Button) → AreThree a b c → Falls sight start p q a b c
-unfolding handled unpasted fresh reported gone_down begun meant pressed_more called joined
+fallen_seen : (sight : Sight) (start p q : Corner) (a b c : Button) → AreThree a b c
+    → Falls (λ button. Some (Keys (alone button))) sight start p q a b c
+unfolding handled by_question fresh reported gone_down meant pressed_more called joined
+fallen_seen sight start p q a b c are =
+    by_orders (Falls (λ button. Some (Keys (alone button))) sight start p q) made made made made made made a b c are
+
+fallen_unseen : (sight : Sight) (start p q : Corner) (a b c : Button) → AreThree a b c
+    → Falls (λ button. None) sight start p q a b c
+unfolding handled by_question fresh reported gone_down meant pressed_more called joined
+fallen_unseen sight start p q a b c are =
+    by_orders (Falls (λ button. None) sight start p q) made made made made made made a b c are
+
+fallen : (sight : Sight) (start p q : Corner) (a b c : Button) → AreThree a b c
+    → Makes sight new_hand (down a start ∷ down b p ∷ down c q ∷ []) (off sight start) []
 fallen sight start p q a b c are =
-    by_orders (Falls sight start p q) made made made made made made a b c are
+    by_test (is_seen sight start)
+    (λ seen. after_one (seen_down sight a start seen) (fallen_seen sight start p q a b c are))
+    (λ unseen. after_one (unseen_down sight a start unseen) (fallen_unseen sight start p q a b c are))
 
 abbrev Rises : Sight → Corner → Corner → Corner → Corner → Button → Button → Button → Type 0
 Rises sight start p q r x y z = Makes sight (off sight start) (up x p ∷ up y q ∷ up z r ∷ []) new_hand []
 
 risen : (sight : Sight) (start p q r : Corner) (x y z : Button) → AreThree x y z → Rises sight start p q r x y z
-unfolding handled unpasted fresh reported gone_up rested released released_at
+unfolding handled by_question fresh reported gone_up rested released released_at
 risen sight start p q r x y z are =
     by_orders (Rises sight start p q r) made made made made made made x y z are
 
@@ -130,42 +232,69 @@ three_buttons sight a b c x y z start p q r s end falls rises =
 
 -- ---- one button and a key
 
+-- the hand after a function key
+abbrev armed : Click → Hand
+armed click = record { armed = Some click; gesture = None; paste = None; asked = None }
+
 -- what a key comes to and a click after it
 abbrev Says : Sight → FunctionKey → Corner → Corner → Option Click → Type 0
 Says sight key start end None = Unit {0}
-Says sight key start end (Some click) =
-    Makes sight new_hand (Function key ∷ down Left start ∷ up Left end ∷ []) new_hand
-    (clicked click sight start end ∷ [])
+Says sight key start end (Some click) = handled sight (Function key) new_hand ≡ (armed click, Nothing)
 
 each_says : (sight : Sight) (key : FunctionKey) (start end : Corner) → Says sight key start end (says key)
-unfolding handled unpasted fresh by_function reported gone_down begun meant gone_up rested released released_at
-each_says sight F1 start end = made
-each_says sight F2 start end = made
-each_says sight F3 start end = made
-each_says sight F4 start end = made
-each_says sight F5 start end = made
-each_says sight F6 start end = made
-each_says sight F7 start end = made
+unfolding handled by_question fresh by_function
+each_says sight F1 start end = refl
+each_says sight F2 start end = refl
+each_says sight F3 start end = refl
+each_says sight F4 start end = refl
+each_says sight F5 start end = refl
+each_says sight F6 start end = refl
+each_says sight F7 start end = refl
 each_says sight F8 start end = tt
 each_says sight F9 start end = tt
 each_says sight F10 start end = tt
 
+armed_down : (sight : Sight) (click : Click) (start : Corner) → is_seen sight start ≡ true
+    → handled sight (down Left start) (armed click) ≡ (held (Some click) sight Left start, Nothing)
+unfolding handled by_question fresh reported gone_down begun meant
+armed_down sight click start seen = rw seen refl
+
+left_up : (sight : Sight) (click : Click) (start end : Corner)
+    → Makes sight (held (Some click) sight Left start) (up Left end ∷ []) new_hand (clicked click sight start end ∷ [])
+unfolding handled by_question fresh reported gone_up rested released released_at
+left_up sight Mark start end = made
+left_up sight (Keys keys) start end = made
+
 pub said_click : (sight : Sight) (key : FunctionKey) (click : Click) (start end : Corner) → says key ≡ Some click
+    → is_seen sight start ≡ true
     → Makes sight new_hand (Function key ∷ down Left start ∷ up Left end ∷ []) new_hand
     (clicked click sight start end ∷ [])
-said_click sight key click start end is =
-    subst (λ (o : Option Click). Says sight key start end o) is (each_says sight key start end)
+said_click sight key click start end is seen =
+    let first = subst (λ (o : Option Click). Says sight key start end o) is (each_says sight key start end) in
+    after_one first (after_one (armed_down sight click start seen) (left_up sight click start end))
 
-pub held_click : (sight : Sight) (control : Bool) (start end : Corner)
+alt_down : (sight : Sight) (control : Bool) (start : Corner) → is_seen sight start ≡ true
+    → handled sight (down_with true control Left start) new_hand
+    ≡ (held (Some (Keys keys.Middle)) sight Left start, Nothing)
+unfolding handled by_question fresh reported gone_down begun meant
+alt_down sight control start seen = rw seen refl
+
+pub held_click : (sight : Sight) (control : Bool) (start end : Corner) → is_seen sight start ≡ true
     → Makes sight new_hand (down_with true control Left start ∷ up Left end ∷ []) new_hand
     (clicked (Keys keys.Middle) sight start end ∷ [])
-unfolding handled unpasted fresh reported gone_down begun meant gone_up rested released released_at
-held_click sight control start end = made
+held_click sight control start end seen =
+    after_one (alt_down sight control start seen) (left_up sight (Keys keys.Middle) start end)
 
-pub control_click : (sight : Sight) (start end : Corner)
+control_down : (sight : Sight) (start : Corner) → is_seen sight start ≡ true
+    → handled sight (down_with false true Left start) new_hand
+    ≡ (held (Some (Keys keys.Right)) sight Left start, Nothing)
+unfolding handled by_question fresh reported gone_down begun meant
+control_down sight start seen = rw seen refl
+
+pub control_click : (sight : Sight) (start end : Corner) → is_seen sight start ≡ true
     → Makes sight new_hand (down_with false true Left start ∷ up Left end ∷ []) new_hand
     (clicked (Keys keys.Right) sight start end ∷ [])
-unfolding handled unpasted fresh reported gone_down begun meant gone_up rested released released_at
-control_click sight start end = made
+control_click sight start end seen =
+    after_one (control_down sight start seen) (left_up sight (Keys keys.Right) start end)
 
 pub ruleset clicks_of_one = (held_click, control_click)

@@ -19,7 +19,7 @@ use Rattle.terminal_presses.specs.declared.press.MouseReport.{MouseReport}
 use Rattle.terminal_presses.specs.declared.press.Press.{Press}
 use Rattle.terminal_presses.specs.declared.press.Press.TheVariants.{Character, Foreign, Control, Back, Escape, Arrow}
 use Rattle.terminal_presses.specs.declared.press.Press.TheVariants.{Page, Function, Mouse, PasteBegins, PasteEnds, Size}
-use Rattle.terminal_presses.specs.declared.press.Press.TheVariants.{Unknown}
+use Rattle.terminal_presses.specs.declared.press.Press.TheVariants.{FileFails, Unknown}
 use Rattle.terminal_presses.specs.declared.press.Presses.{Presses}
 use Rattle.terminal_presses.specs.declared.press.Presses.TheVariants.{Nothing}
 use Rattle.terminal_presses.specs.declared.place.Mark.{Mark}
@@ -213,6 +213,11 @@ pub paste_found : Finds PasteBegins (bytes (sequence (50 ∷ 48 ∷ 48 ∷ 126 �
 unfolding heard_by after after_byte after_ground grounded after_escape after_sequence is_digit with_digit longer
     ended plain numbered
 paste_found = ((refl, refl), (refl, refl))
+
+failure_found : Finds FileFails (bytes (sequence (50 ∷ 48 ∷ 50 ∷ 126 ∷ [])))
+unfolding heard_by after after_byte after_ground grounded after_escape after_sequence is_digit with_digit longer
+    ended plain numbered
+failure_found = (refl, refl)
 
 -- ---- numbers
 
@@ -429,6 +434,7 @@ spelled_found (Mouse report) text is = report_found report text is
 spelled_found PasteBegins text is = subst (λ t. Finds PasteBegins (bytes t)) (sym is) paste_found.0
 spelled_found PasteEnds text is = subst (λ t. Finds PasteEnds (bytes t)) (sym is) paste_found.1
 spelled_found (Size rows columns) text is = size_found rows columns text is
+spelled_found FileFails text is = subst (λ t. Finds FileFails (bytes t)) (sym is) failure_found
 spelled_found Unknown text is = absurd is
 
 heard_found : (press : Press) (heard : List Heard) → IsHeard press heard → Finds press heard

@@ -11,7 +11,9 @@ use Rattle.event_bytes.specs.Bytes.{lies_within, is_text_byte}
 use Rattle.event_bytes.specs.declared.event.Event.{Event}
 use Rattle.event_bytes.specs.declared.event.Event.TheVariants.{Typed}
 use Rattle.terminal_presses.specs.declared.press.Press.{Press}
-use Rattle.terminal_presses.specs.declared.press.Press.TheVariants.{PasteBegins, PasteEnds}
+use Rattle.terminal_presses.specs.declared.press.Press.TheVariants.{Character, Foreign, Control, Back, Escape, Arrow}
+use Rattle.terminal_presses.specs.declared.press.Press.TheVariants.{Page, Function, Mouse, PasteBegins, PasteEnds, Size}
+use Rattle.terminal_presses.specs.declared.press.Press.TheVariants.{FileFails, Unknown}
 use Rattle.terminal_presses.specs.Sights.{Sight}
 use Rattle.terminal_presses.specs.declared.action.Action.{Action}
 use Rattle.terminal_presses.specs.declared.action.Action.TheVariants.{Nothing, Post}
@@ -19,13 +21,17 @@ use Rattle.terminal_presses.specs.declared.paste.Paste.{Paste}
 use Rattle.terminal_presses.specs.declared.hand.Hand.{Hand}
 use Rattle.terminal_presses.specs.Presses.{single, at_rest, parser_after, pressed}
 use Rattle.terminal_presses.specs.Pastes.{typed, added, in_profile, pasted_byte, with_byte, fed, pasted_more}
-use Rattle.terminal_presses.specs.Pastes.{pasted_if_any}
-use Rattle.terminal_presses.specs.Hands.{idle, ends_paste, pasting, fresh, unpasted, handled}
+use Rattle.terminal_presses.specs.Pastes.{pasted_if_any, pasted_on}
+use Rattle.terminal_presses.specs.Hands.{idle, ends_paste, pasting, fresh, by_question, handled}
 use Rattle.terminal_presses.specs.Spelling.{bytes, sequence}
 use Rattle.terminal_presses.specs.Runs.{events_of, hand_after, posted, Makes, typed_byte, line_ends, pasted_text}
 use Rattle.terminal_presses.specs.Runs.{pasted, paste_of, Types}
 use Rattle.terminal_presses.proofs.Pieces.{parser_of_both, pressed_of_both}
 use Rattle.terminal_presses.proofs.Found.{both, is_not, bytes_found, paste_found}
+
+pub by_test : {P : Type 0} (b : Bool) → (b ≡ true → P) → (b ≡ false → P) → P
+by_test true held failed = held refl
+by_test false held failed = failed refl
 
 -- ---- bytes that wait for an event
 
@@ -35,7 +41,7 @@ record Waits (waiting : List ℕ) : Type 0 where
   short : length waiting < 900
 
 abbrev paste : Bool → List ℕ → Paste
-paste after_return waiting = record { after_return = after_return; bytes = waiting }
+paste after_return waiting = record { after_return = after_return; bytes = waiting; drops = false }
 
 -- the events of bytes that are pasted, until the paste ends
 abbrev typed_events : List ℕ → Paste → List Event
@@ -197,15 +203,43 @@ typed_types (c ∷ cs) after_return waiting waits =
 -- ---- presses while a paste goes on
 
 abbrev amid : Hand → Paste → Hand
-amid hand p = record hand { paste = Some p }
+amid hand p = record hand { paste = Some p; asked = None }
 
-abbrev after_paste : Hand → Hand
-after_paste hand = record hand { paste = None }
+-- the terminal's size doesn't count, where nothing is dropped
+record GoesOn (press : Press) (p : Paste) : Type 0 where
+  paste_is : (pasted_on press p).0 ≡ (pasted_if_any (pasted_byte press) p).0
+  events_are : events_of (pasted_on press p).1 ≡ events_of (pasted_if_any (pasted_byte press) p).1
+
+goes_on_with : (press : Press) (p : Paste) → p.drops ≡ false → GoesOn press p
+unfolding pasted_on pasted_byte
+goes_on_with (Character b) p is = record { paste_is = rw is refl; events_are = rw is refl }
+goes_on_with Foreign p is = record { paste_is = rw is refl; events_are = rw is refl }
+goes_on_with (Control b) p is = record { paste_is = rw is refl; events_are = rw is refl }
+goes_on_with Back p is = record { paste_is = rw is refl; events_are = rw is refl }
+goes_on_with Escape p is = record { paste_is = rw is refl; events_are = rw is refl }
+goes_on_with (Arrow arrow) p is = record { paste_is = rw is refl; events_are = rw is refl }
+goes_on_with (Page page) p is = record { paste_is = rw is refl; events_are = rw is refl }
+goes_on_with (Function key) p is = record { paste_is = rw is refl; events_are = rw is refl }
+goes_on_with (Mouse report) p is = record { paste_is = rw is refl; events_are = rw is refl }
+goes_on_with PasteBegins p is = record { paste_is = rw is refl; events_are = rw is refl }
+goes_on_with PasteEnds p is = record { paste_is = rw is refl; events_are = rw is refl }
+goes_on_with (Size rows columns) p is = record { paste_is = refl; events_are = refl }
+goes_on_with FileFails p is = record { paste_is = rw is refl; events_are = rw is refl }
+goes_on_with Unknown p is = record { paste_is = rw is refl; events_are = rw is refl }
+
+feed_keeps : (p : Paste) → (fed p).0.drops ≡ p.drops
+unfolding fed with_byte
+feed_keeps p = by_test p.after_return (λ e. rw e refl) (λ e. rw e refl)
+
+-- nothing that is pasted has the rest dropped
+keeps : (o : Option ℕ) (p : Paste) → (pasted_if_any o p).0.drops ≡ p.drops
+unfolding pasted_more with_byte
+keeps None p = refl
+keeps (Some b) p = by_test (nat_eq b 10) (λ e. rw e (feed_keeps p)) (λ e. rw e refl)
 
 amid_handled : (sight : Sight) (press : Press) (hand : Hand) (p : Paste) → not (ends_paste press) ≡ true
-    → handled sight press (amid hand p)
-    ≡ (amid hand (pasted_if_any (pasted_byte press) p).0, (pasted_if_any (pasted_byte press) p).1)
-unfolding handled pasting
+    → handled sight press (amid hand p) ≡ (amid hand (pasted_on press p).0, (pasted_on press p).1)
+unfolding handled by_question pasting
 amid_handled sight press hand p is = rw (is_not (ends_paste press) is) refl
 
 next_events : (o : Option ℕ) (cs : List ℕ) (p : Paste)
@@ -215,32 +249,32 @@ next_events None cs p = refl
 next_events (Some c) cs p = refl
 
 presses_make : (sight : Sight) (hand : Hand) (p : Paste) (presses : List Press)
-    → list_all (λ q. not (ends_paste q)) presses ≡ true
-    → Makes sight (amid hand p) (presses ++ PasteEnds ∷ []) (after_paste hand)
+    → p.drops ≡ false → list_all (λ q. not (ends_paste q)) presses ≡ true
+    → Makes sight (amid hand p) (presses ++ PasteEnds ∷ []) (idle hand)
     (typed_events (filter_map pasted_byte presses) p)
-unfolding handled pasting
-presses_make sight hand p [] all = record {
+unfolding handled by_question pasting
+presses_make sight hand p [] whole all = record {
   hand_is = refl;
   events_are = append-nil (events_of (typed p.bytes));
 }
-presses_make sight hand p (press ∷ presses) all =
+presses_make sight hand p (press ∷ presses) whole all =
     let (one, others) = both _ _ all in
     let next = pasted_if_any (pasted_byte press) p in
     let h = amid_handled sight press hand p one in
-    let more = presses_make sight hand next.0 presses others in
+    let on = goes_on_with press p whole in
+    let more = presses_make sight hand next.0 presses (keeps (pasted_byte press) p ∙ whole) others in
     let rest = presses ++ PasteEnds ∷ [] in
     record {
-      hand_is = ap (λ (x : Hand × Action). hand_after sight x.0 rest) h ∙ more.hand_is;
+      hand_is = ap (λ (x : Hand × Action). hand_after sight x.0 rest) h
+          ∙ ap (λ q. hand_after sight (amid hand q) rest) on.paste_is ∙ more.hand_is;
       events_are = ap (λ (x : Hand × Action). events_of x.1 ++ posted sight x.0 rest) h
+          ∙ ap (λ l. l ++ posted sight (amid hand (pasted_on press p).0) rest) on.events_are
+          ∙ ap (λ q. events_of next.1 ++ posted sight (amid hand q) rest) on.paste_is
           ∙ ap (λ l. events_of next.1 ++ l) more.events_are
           ∙ sym (next_events (pasted_byte press) (filter_map pasted_byte presses) p);
     }
 
 -- ---- what the bytes of a text are
-
-by_test : {P : Type 0} (b : Bool) → (b ≡ true → P) → (b ≡ false → P) → P
-by_test true held failed = held refl
-by_test false held failed = failed refl
 
 -- the byte that is pasted where a press may be
 abbrev said : Option Press → Option ℕ
@@ -377,11 +411,11 @@ text_is (b ∷ text) =
 
 pub paste_typed : (sight : Sight) (hand : Hand) (text : List ℕ)
     → Types (posted sight (idle hand) (paste_of text)) (pasted_text text)
-unfolding handled unpasted fresh
+unfolding handled by_question fresh
 paste_typed sight hand text =
     let (are, all) = text_is text in
     let presses = filter_map single text in
-    let m = presses_make sight (idle hand) (paste false []) presses all in
+    let m = presses_make sight (idle hand) (paste false []) presses refl all in
     let cs = filter_map pasted_byte presses in
     let t = typed_types cs false [] (record { text = refl; short = omega arith }) in
     subst (λ es. Types es (pasted_text text)) (sym m.events_are)
@@ -389,9 +423,9 @@ paste_typed sight hand text =
 
 pub paste_leaves : (sight : Sight) (hand : Hand) (text : List ℕ)
     → hand_after sight (idle hand) (paste_of text) ≡ idle hand
-unfolding handled unpasted fresh
+unfolding handled by_question fresh
 paste_leaves sight hand text =
-    (presses_make sight (idle hand) (paste false []) (filter_map single text) (text_is text).1).hand_is
+    (presses_make sight (idle hand) (paste false []) (filter_map single text) refl (text_is text).1).hand_is
 
 pub paste_pressed : (text : List ℕ) → list_all (λ b. not (b == 27)) text ≡ true
     → (parser_after at_rest (pasted text) ≡ at_rest) × (pressed at_rest (pasted text) ≡ paste_of text)

@@ -5,7 +5,7 @@ use Rattle.terminal_presses.specs.declared.press.FunctionKey.TheVariants.{F1, F2
 use Rattle.terminal_presses.specs.declared.press.Press.{Press}
 use Rattle.terminal_presses.specs.declared.press.Press.TheVariants.{Character, Foreign, Control, Back, Escape, Arrow}
 use Rattle.terminal_presses.specs.declared.press.Press.TheVariants.{Page, Function, Mouse, PasteBegins, PasteEnds, Size}
-use Rattle.terminal_presses.specs.declared.press.Press.TheVariants.{Unknown}
+use Rattle.terminal_presses.specs.declared.press.Press.TheVariants.{FileFails, Unknown}
 use Rattle.terminal_presses.specs.declared.action.Action.{Action}
 use Rattle.terminal_presses.specs.declared.action.Action.TheVariants.{Nothing, Ring, LookAnew}
 use Rattle.terminal_presses.specs.declared.action.Action.TheVariants.{Leave, TypeFile, Move, Fit}
@@ -20,11 +20,14 @@ unfoldable pub entered : List ℕ → Asked
 entered [] = (None, Nothing)
 entered (b ∷ name) = (None, TypeFile (b ∷ name))
 
+-- a byte more, where it can stand in a name and there is room
+unfoldable pub lengthened : ℕ → List ℕ → Asked
+lengthened b name =
+    if is_host_byte b && nat_lt (length name) 255 then (Some (name ++ b ∷ []), Nothing) else (Some name, Ring)
+
 -- a carriage return ends the name
 unfoldable pub spelled : ℕ → List ℕ → Asked
-spelled b name =
-    if b == 13 then entered name else
-    (if is_host_byte b && nat_lt (length name) 255 then (Some (name ++ b ∷ []), Nothing) else (Some name, Ring))
+spelled b name = if b == 13 then entered name else lengthened b name
 
 -- the last byte is taken off
 unfoldable pub shortened : List ℕ → Asked
@@ -58,4 +61,23 @@ answered (Mouse report) name = (Some name, Nothing)
 answered PasteBegins name = (Some name, Nothing)
 answered PasteEnds name = (Some name, Nothing)
 answered (Size rows columns) name = (Some name, Fit rows columns)
+answered FileFails name = (Some name, Nothing)
 answered Unknown name = (Some name, Nothing)
+
+-- What a press comes to within a paste while a name is asked for: a byte of the name, and no key. What can't stand in a
+-- name, as the end of a line, rings and is dropped.
+unfoldable pub pasted_name : Press → List ℕ → Asked
+pasted_name (Character b) name = lengthened b name
+pasted_name Foreign name = (Some name, Ring)
+pasted_name (Control b) name = (Some name, Ring)
+pasted_name Back name = (Some name, Ring)
+pasted_name Escape name = (Some name, Ring)
+pasted_name (Arrow arrow) name = (Some name, Ring)
+pasted_name (Page page) name = (Some name, Ring)
+pasted_name (Function key) name = (Some name, Ring)
+pasted_name (Mouse report) name = (Some name, Nothing)
+pasted_name PasteBegins name = (Some name, Nothing)
+pasted_name PasteEnds name = (Some name, Nothing)
+pasted_name (Size rows columns) name = (Some name, Fit rows columns)
+pasted_name FileFails name = (Some name, Nothing)
+pasted_name Unknown name = (Some name, Nothing)

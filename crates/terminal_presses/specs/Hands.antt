@@ -1,5 +1,6 @@
 -- What presses come to.
-use Rattle.std.specs.Prelude.{ℕ, Bool, true, false, ◌==◌, if◌then◌else◌, List, [], ◌∷◌, Option, Some, None, unwrap_or}
+use Rattle.std.specs.Prelude.{ℕ, Bool, true, false, ◌==◌, ◌&&◌, not, if◌then◌else◌, List, [], ◌∷◌}
+use Rattle.std.specs.Prelude.{Option, Some, None, is_some, option_map, unwrap_or}
 use Rattle.event_bytes.specs.declared.event.Event.TheVariants.{Key}
 use Rattle.event_bytes.specs.declared.keys.Key.TheVariants as key
 use Rattle.event_bytes.specs.declared.keys.Keys.TheVariants as keys
@@ -11,21 +12,21 @@ use Rattle.terminal_presses.specs.declared.press.MouseReport.{MouseReport}
 use Rattle.terminal_presses.specs.declared.press.Press.{Press}
 use Rattle.terminal_presses.specs.declared.press.Press.TheVariants.{Character, Foreign, Control, Back, Escape, Arrow}
 use Rattle.terminal_presses.specs.declared.press.Press.TheVariants.{Page, Function, Mouse, PasteBegins, PasteEnds, Size}
-use Rattle.terminal_presses.specs.declared.press.Press.TheVariants.{Unknown}
-use Rattle.terminal_presses.specs.Sights.{Sight, spot_in}
+use Rattle.terminal_presses.specs.declared.press.Press.TheVariants.{FileFails, Unknown}
+use Rattle.terminal_presses.specs.Sights.{Sight, is_inside, spot_in}
 use Rattle.terminal_presses.specs.declared.spot.Spot.{Spot}
 use Rattle.terminal_presses.specs.declared.action.Click.{Click}
 use Rattle.terminal_presses.specs.declared.action.Click.TheVariants.{Mark, Keys}
 use Rattle.terminal_presses.specs.declared.action.Action.{Action}
 use Rattle.terminal_presses.specs.declared.action.Action.TheVariants.{Nothing, Post, Ring, LookAnew, Leave}
-use Rattle.terminal_presses.specs.declared.action.Action.TheVariants.{Move, Step, Fit}
+use Rattle.terminal_presses.specs.declared.action.Action.TheVariants.{Move, Step, Fit, FileFailed}
 use Rattle.terminal_presses.specs.declared.gesture.Gesture.{Gesture}
 use Rattle.terminal_presses.specs.declared.paste.Paste.{Paste}
 use Rattle.terminal_presses.specs.declared.hand.Hand.{Hand}
 use Rattle.terminal_presses.specs.Gestures.{no_buttons, is_none_down, is_down, with_button, pressed_more, released}
 use Rattle.terminal_presses.specs.Gestures.{released_at}
-use Rattle.terminal_presses.specs.Asking.{Asked, answered}
-use Rattle.terminal_presses.specs.Pastes.{return, typed, new_paste, pasted_byte, pasted_if_any}
+use Rattle.terminal_presses.specs.Asking.{Asked, answered, pasted_name}
+use Rattle.terminal_presses.specs.Pastes.{return, typed, new_paste, dropped, pasted_on}
 
 -- the hand that has pressed nothing
 abbrev pub new_hand : Hand
@@ -90,21 +91,31 @@ meant Left report armed =
 meant Middle report armed = Keys keys.Middle
 meant Right report armed = Keys keys.Right
 
-unfoldable pub begun : MouseReport → Spot → Hand → Hand
-begun report spot hand = record hand {
-  armed = None;
-  gesture = Some (record {
-    click = Some (meant report.button report hand.armed);
-    start = spot;
-    down = with_button report.button true no_buttons;
-  });
+abbrev pub spot_of : Sight → MouseReport → Spot
+spot_of sight report = spot_in sight report.column report.row
+
+abbrev pub gesture_of : Option Click → Sight → MouseReport → Gesture
+gesture_of click sight report = record {
+  click = click;
+  start = spot_of sight report;
+  down = with_button report.button true no_buttons;
 }
 
+-- A gesture begins. One that begins outside the display comes to nothing, and what a function key has said waits on.
+unfoldable pub begun : Sight → MouseReport → Hand → Hand
+begun sight report hand =
+    if is_inside sight report.column report.row then
+    record hand {
+      armed = None;
+      gesture = Some (gesture_of (Some (meant report.button report hand.armed)) sight report);
+    }
+    else record hand { gesture = Some (gesture_of None sight report) }
+
 -- A button goes down. Where it was down before, the end of that gesture was lost, and another one begins.
-unfoldable pub gone_down : Option Gesture → MouseReport → Spot → Hand → Hand
-gone_down None report spot hand = begun report spot hand
-gone_down (Some gesture) report spot hand =
-    if is_down report.button gesture.down then begun report spot hand else
+unfoldable pub gone_down : Option Gesture → Sight → MouseReport → Hand → Hand
+gone_down None sight report hand = begun sight report hand
+gone_down (Some gesture) sight report hand =
+    if is_down report.button gesture.down then begun sight report hand else
     record hand { gesture = Some (pressed_more report.button gesture) }
 
 -- a gesture ends where none of its buttons is down
@@ -119,9 +130,9 @@ gone_up None button spot hand = (hand, Nothing)
 gone_up (Some gesture) button spot hand = rested (released button gesture) spot hand
 
 unfoldable pub reported : Sight → MouseReport → Hand → Hand × Action
-reported sight report hand = let spot = spot_in sight report.column report.row in
-    if report.is_down then (gone_down hand.gesture report spot hand, Nothing) else
-    gone_up hand.gesture report.button spot hand
+reported sight report hand =
+    if report.is_down then (gone_down hand.gesture sight report hand, Nothing) else
+    gone_up hand.gesture report.button (spot_of sight report) hand
 
 -- ---- presses
 
@@ -139,7 +150,12 @@ fresh sight (Mouse report) hand = reported sight report hand
 fresh sight PasteBegins hand = (record hand { paste = Some new_paste }, Nothing)
 fresh sight PasteEnds hand = (hand, Nothing)
 fresh sight (Size rows columns) hand = (hand, Fit rows columns)
+fresh sight FileFails hand = (hand, FileFailed)
 fresh sight Unknown hand = (hand, Nothing)
+
+abbrev pub begins_paste : Press → Bool
+begins_paste PasteBegins = true
+begins_paste _ = false
 
 abbrev pub ends_paste : Press → Bool
 ends_paste PasteEnds = true
@@ -148,12 +164,15 @@ ends_paste _ = false
 abbrev pub with_paste : Paste × Action → Hand → Hand × Action
 with_paste next hand = (record hand { paste = Some next.0 }, next.1)
 
--- what a press comes to while a paste goes on: what is in no event yet is one where the paste ends
+-- the hand after a paste
+abbrev pub after_paste : Hand → Hand
+after_paste hand = record hand { paste = None }
+
+-- what a press comes to while a text is pasted: what is in no event yet is one where the paste ends
 unfoldable pub pasting : Option Paste → Press → Hand → Hand × Action
 pasting None press hand = (hand, Nothing)
 pasting (Some paste) press hand =
-    if ends_paste press then (record hand { paste = None }, typed paste.bytes) else
-    with_paste (pasted_if_any (pasted_byte press) paste) hand
+    if ends_paste press then (after_paste hand, typed paste.bytes) else with_paste (pasted_on press paste) hand
 
 abbrev pub is_pasting : Option Paste → Bool
 is_pasting None = false
@@ -162,12 +181,32 @@ is_pasting (Some paste) = true
 abbrev pub with_asked : Asked → Hand → Hand × Action
 with_asked next hand = (record hand { asked = next.0 }, next.1)
 
--- what a press comes to while no paste goes on: the name that is asked for comes first
-unfoldable pub unpasted : Sight → Option (List ℕ) → Press → Hand → Hand × Action
-unpasted sight None press hand = fresh sight press hand
-unpasted sight (Some name) press hand = with_asked (answered press name) hand
+-- what a press comes to while a name is asked for and none is pasted
+unfoldable pub answering : List ℕ → Press → Hand → Hand × Action
+answering name press hand =
+    if begins_paste press then (record hand { paste = Some new_paste }, Nothing) else
+    with_asked (answered press name) hand
+
+-- what it comes to while the name is pasted
+unfoldable pub pasting_name : List ℕ → Press → Hand → Hand × Action
+pasting_name name press hand =
+    if ends_paste press then (after_paste hand, Nothing) else with_asked (pasted_name press name) hand
+
+-- where no name is asked for, a paste is a text; where one is, it is the name
+unfoldable pub by_question : Sight → Option (List ℕ) → Press → Hand → Hand × Action
+by_question sight None press hand =
+    if is_pasting hand.paste then pasting hand.paste press hand else fresh sight press hand
+by_question sight (Some name) press hand =
+    if is_pasting hand.paste then pasting_name name press hand else answering name press hand
 
 -- a hand and a press give a hand and an action, where this part of the display is in sight
 unfoldable pub handled : Sight → Press → Hand → Hand × Action
-handled sight press hand =
-    if is_pasting hand.paste then pasting hand.paste press hand else unpasted sight hand.asked press hand
+handled sight press hand = by_question sight hand.asked press hand
+
+-- whether a text is pasted
+abbrev pub pastes_text : Hand → Bool
+pastes_text hand = is_pasting hand.paste && not (is_some hand.asked)
+
+-- the rest of the text that is pasted, if one is, comes to nothing
+abbrev pub dropping : Hand → Hand
+dropping hand = record hand { paste = option_map dropped hand.paste }

@@ -1,14 +1,15 @@
 -- What is pasted, and the events that type it.
-use Rattle.std.specs.Prelude.{ℕ, ◌+◌, Bool, false, ◌==◌, nat_lt, if◌then◌else◌, List, [], ◌∷◌, ◌++◌, length}
+use Rattle.std.specs.Prelude.{ℕ, ◌+◌, Bool, true, false, ◌==◌, nat_lt, if◌then◌else◌, List, [], ◌∷◌, ◌++◌}
+use Rattle.std.specs.Prelude.{length}
 use Rattle.std.specs.Prelude.{Option, Some, None}
 use Rattle.event_bytes.specs.Bytes.{is_text_byte, is_typed_bytes}
 use Rattle.event_bytes.specs.declared.event.Event.TheVariants.{Typed}
 use Rattle.terminal_presses.specs.declared.press.Press.{Press}
 use Rattle.terminal_presses.specs.declared.press.Press.TheVariants.{Character, Foreign, Control, Back, Escape, Arrow}
 use Rattle.terminal_presses.specs.declared.press.Press.TheVariants.{Page, Function, Mouse, PasteBegins, PasteEnds, Size}
-use Rattle.terminal_presses.specs.declared.press.Press.TheVariants.{Unknown}
+use Rattle.terminal_presses.specs.declared.press.Press.TheVariants.{FileFails, Unknown}
 use Rattle.terminal_presses.specs.declared.action.Action.{Action}
-use Rattle.terminal_presses.specs.declared.action.Action.TheVariants.{Nothing, Post}
+use Rattle.terminal_presses.specs.declared.action.Action.TheVariants.{Nothing, Post, Fit}
 use Rattle.terminal_presses.specs.declared.paste.Paste.{Paste}
 
 abbrev pub line_feed : ℕ
@@ -48,15 +49,20 @@ pasted_byte (Mouse report) = None
 pasted_byte PasteBegins = None
 pasted_byte PasteEnds = None
 pasted_byte (Size rows columns) = None
+pasted_byte FileFails = None
 pasted_byte Unknown = None
 
 abbrev pub new_paste : Paste
-new_paste = record { after_return = false; bytes = [] }
+new_paste = record { after_return = false; bytes = []; drops = false }
+
+-- the rest of it comes to nothing, and so does what is in no event yet
+abbrev pub dropped : Paste → Paste
+dropped paste = record { after_return = false; bytes = []; drops = true }
 
 -- a byte to be typed, and whether it was a carriage return
 unfoldable pub with_byte : ℕ → Bool → Paste → Paste × Action
 with_byte b is_return paste = let next = added b paste.bytes in
-    (record { after_return = is_return; bytes = next.0 }, next.1)
+    (record { after_return = is_return; bytes = next.0; drops = paste.drops }, next.1)
 
 -- a line feed right after a carriage return is nothing, and another one is a carriage return
 unfoldable pub fed : Paste → Paste × Action
@@ -69,3 +75,8 @@ pasted_more b paste = if b == line_feed then fed paste else with_byte (in_profil
 abbrev pub pasted_if_any : Option ℕ → Paste → Paste × Action
 pasted_if_any None paste = (paste, Nothing)
 pasted_if_any (Some b) paste = pasted_more b paste
+
+-- what a press comes to while a text is pasted; the terminal's size is no part of that
+unfoldable pub pasted_on : Press → Paste → Paste × Action
+pasted_on (Size rows columns) paste = (paste, Fit rows columns)
+pasted_on press paste = if paste.drops then (paste, Nothing) else pasted_if_any (pasted_byte press) paste

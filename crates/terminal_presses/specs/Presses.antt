@@ -1,6 +1,6 @@
 -- What was pressed, as a function of what was heard.
 use Rattle.std.specs.Prelude.{ℕ, ◌+◌, ◌-◌, ◌*◌, ◌/◌, ◌%◌, Bool, true, false, ◌==◌, ◌||◌, nat_lt, nat_le, min}
-use Rattle.std.specs.Prelude.{if◌then◌else◌, List, [], ◌∷◌, ◌++◌, Option, Some, None, slice_get}
+use Rattle.std.specs.Prelude.{◌&&◌, if◌then◌else◌, List, [], ◌∷◌, ◌++◌, Option, Some, None, slice_get}
 use Rattle.event_bytes.specs.Bytes.{lies_within, is_digit, is_text_byte}
 use Rattle.terminal_presses.specs.declared.press.Heard.{Heard}
 use Rattle.terminal_presses.specs.declared.press.Heard.TheVariants.{Byte, Quiet}
@@ -14,7 +14,7 @@ use Rattle.terminal_presses.specs.declared.press.FunctionKey.TheVariants.{F1, F2
 use Rattle.terminal_presses.specs.declared.press.Press.{Press}
 use Rattle.terminal_presses.specs.declared.press.Press.TheVariants.{Character, Foreign, Control, Back, Escape, Arrow}
 use Rattle.terminal_presses.specs.declared.press.Press.TheVariants.{Page, Function, Mouse, PasteBegins, PasteEnds, Size}
-use Rattle.terminal_presses.specs.declared.press.Press.TheVariants.{Unknown}
+use Rattle.terminal_presses.specs.declared.press.Press.TheVariants.{FileFails, Unknown}
 use Rattle.terminal_presses.specs.declared.press.Presses.{Presses}
 use Rattle.terminal_presses.specs.declared.press.Presses.TheVariants.{Nothing, One, Two}
 use Rattle.terminal_presses.specs.declared.place.Mark.{Mark}
@@ -85,7 +85,8 @@ numbered n =
     (if n == 5 then Page page.Up else
     (if n == 6 then Page page.Down else
     (if n == 200 then PasteBegins else
-    (if n == 201 then PasteEnds else Unknown)))))
+    (if n == 201 then PasteEnds else
+    (if n == 202 then FileFails else Unknown))))))
 
 -- ---- numbers of a sequence
 
@@ -201,12 +202,22 @@ after_byte (place.Sequence s) b = after_sequence s b
 after_byte place.Console b = after_console b
 after_byte (place.Report missing) b = after_report missing b
 
--- an escape byte after which no byte comes for a while was the key; all else waits for its next byte
+abbrev pub is_plain : Mark → Bool
+is_plain mark.Plain = true
+is_plain mark.Mouse = false
+is_plain mark.Odd = false
+
+-- whether nothing is heard of a sequence but its beginning
+unfoldable pub is_bare : Numbers → Bool
+is_bare s = is_plain s.mark && ((s.last == 0) && (s.first == 0))
+
+-- An escape byte after which no byte comes for a while was the key. No terminal ends a sequence so late that has only
+-- begun: it is the key Alt with O or [, and means nothing. All else waits for its next byte.
 unfoldable pub after_quiet : SequencePlace → SequencePlace × Presses
 after_quiet place.Escape = (place.Ground, One Escape)
 after_quiet place.Ground = (place.Ground, Nothing)
-after_quiet place.Shift = (place.Shift, Nothing)
-after_quiet (place.Sequence s) = (place.Sequence s, Nothing)
+after_quiet place.Shift = (place.Ground, One Unknown)
+after_quiet (place.Sequence s) = if is_bare s then (place.Ground, One Unknown) else (place.Sequence s, Nothing)
 after_quiet place.Console = (place.Console, Nothing)
 after_quiet (place.Report missing) = (place.Report missing, Nothing)
 

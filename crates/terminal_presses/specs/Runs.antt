@@ -1,6 +1,6 @@
 -- Presses one after another, and the events that they make.
-use Rattle.std.specs.Prelude.{◌≡◌, ℕ, ◌≤◌, Bool, true, false, ◌==◌, ◌||◌, if◌then◌else◌, List, [], ◌∷◌, ◌++◌}
-use Rattle.std.specs.Prelude.{length, Option, Some, None}
+use Rattle.std.specs.Prelude.{◌≡◌, ℕ, ◌≤◌, Bool, true, false, ◌==◌, ◌&&◌, ◌||◌, nat_lt, if◌then◌else◌, List, [], ◌∷◌}
+use Rattle.std.specs.Prelude.{◌++◌, length, Option, Some, None}
 use Rattle.std.specs.List.{filter_map}
 use Rattle.event_bytes.specs.Bytes.{lies_within, is_text_byte}
 use Rattle.event_bytes.specs.declared.event.Event.{Event}
@@ -16,7 +16,7 @@ use Rattle.terminal_presses.specs.declared.press.FunctionKey.TheVariants.{F1, F2
 use Rattle.terminal_presses.specs.declared.press.MouseReport.{MouseReport}
 use Rattle.terminal_presses.specs.declared.press.Press.{Press}
 use Rattle.terminal_presses.specs.declared.press.Press.TheVariants.{Mouse, PasteBegins, PasteEnds}
-use Rattle.terminal_presses.specs.Sights.{Sight, spot_in}
+use Rattle.terminal_presses.specs.Sights.{Sight, is_inside, spot_in}
 use Rattle.terminal_presses.specs.declared.action.Click.{Click}
 use Rattle.terminal_presses.specs.declared.action.Click.TheVariants.{Mark, Keys}
 use Rattle.terminal_presses.specs.declared.action.Action.{Action}
@@ -25,6 +25,7 @@ use Rattle.terminal_presses.specs.declared.hand.Hand.{Hand}
 use Rattle.terminal_presses.specs.declared.spot.Spot.{Spot}
 use Rattle.terminal_presses.specs.Presses.{single}
 use Rattle.terminal_presses.specs.Hands.{handled}
+use Rattle.terminal_presses.specs.HostNames.{is_host_byte}
 use Rattle.terminal_presses.specs.Spelling.{sequence, bytes}
 
 -- ---- runs of presses
@@ -55,6 +56,10 @@ pub record Makes (sight : Sight) (hand : Hand) (presses : List Press) (next : Ha
 pub record Corner : Type 0 where
   pub column : ℕ
   pub row : ℕ
+
+-- whether they show a cell of the display
+abbrev pub is_seen : Sight → Corner → Bool
+is_seen sight at = is_inside sight at.column at.row
 
 -- the cell of the display that they mean
 abbrev pub spot_at : Sight → Corner → Spot
@@ -159,3 +164,11 @@ Types (event ∷ []) text = (event ≡ Typed text) × (1 ≤ length text) × (le
 Types (event ∷ next ∷ events) text =
     (front : List ℕ) × (rest : List ℕ) × (event ≡ Typed front) × (length front ≡ 900) × (text ≡ front ++ rest)
     × Types (next ∷ events) rest
+
+-- a name and the bytes of a text that is pasted behind it, as far as they can stand in a name and there is room
+abbrev pub name_byte : List ℕ → ℕ → List ℕ
+name_byte name b = if is_host_byte b && nat_lt (length name) 255 then name ++ b ∷ [] else name
+
+abbrev pub name_with : List ℕ → List ℕ → List ℕ
+name_with name [] = name
+name_with name (b ∷ text) = name_with (name_byte name b) text

@@ -1,5 +1,6 @@
 -- The cells of the display that a terminal shows.
-use Rattle.std.specs.Prelude.{ℕ, ◌+◌, ◌-◌, ◌<◌, ◌≤◌, min}
+use Rattle.std.specs.Prelude.{ℕ, ◌+◌, ◌-◌, ◌<◌, ◌≤◌, Bool, ◌&&◌, min}
+use Rattle.event_bytes.specs.Bytes.{lies_within}
 use Rattle.viewer_tracks.specs.declared.display.TheConstants.{COLUMNS, ROWS}
 use Rattle.terminal_presses.specs.declared.spot.Spot.{Spot}
 
@@ -13,6 +14,10 @@ pub record IsSight (sight : Sight) : Type 0 where
   pub top_in : sight.top < ROWS
   pub rows_least : 1 ≤ sight.rows
   pub rows_in : sight.rows ≤ sight.top + 1
+
+-- whether a column and a row of the terminal show a cell of the display
+unfoldable pub is_inside : Sight → ℕ → ℕ → Bool
+is_inside sight column row = lies_within 1 COLUMNS column && lies_within 1 sight.rows row
 
 -- The cell in sight that is nearest to a column and a row of the terminal. Those count from 1 at the upper left, and
 -- the display's own from 0 at the lower left.

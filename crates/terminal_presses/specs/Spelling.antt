@@ -17,7 +17,7 @@ use Rattle.terminal_presses.specs.declared.press.MouseReport.{MouseReport}
 use Rattle.terminal_presses.specs.declared.press.Press.{Press}
 use Rattle.terminal_presses.specs.declared.press.Press.TheVariants.{Character, Foreign, Control, Back, Escape, Arrow}
 use Rattle.terminal_presses.specs.declared.press.Press.TheVariants.{Page, Function, Mouse, PasteBegins, PasteEnds, Size}
-use Rattle.terminal_presses.specs.declared.press.Press.TheVariants.{Unknown}
+use Rattle.terminal_presses.specs.declared.press.Press.TheVariants.{FileFails, Unknown}
 
 -- ---- numbers
 
@@ -149,6 +149,7 @@ Spells (Mouse report) text = IsReport report text
 Spells PasteBegins text = text ≡ sequence (50 ∷ 48 ∷ 48 ∷ 126 ∷ [])
 Spells PasteEnds text = text ≡ sequence (50 ∷ 48 ∷ 49 ∷ 126 ∷ [])
 Spells (Size rows columns) text = IsSize rows columns text
+Spells FileFails text = text ≡ sequence (50 ∷ 48 ∷ 50 ∷ 126 ∷ [])
 Spells Unknown text = ⊥
 
 -- bytes, as they are heard one after another

@@ -34,4 +34,6 @@ pub enum Action {
     Step(Arrow),
     /// The terminal has so many rows, and so many columns.
     Fit(u16, u16),
+    /// The host file whose text was typed could be read no further.
+    FileFailed,
 }

@@ -1,11 +1,13 @@
 //! The events that presses make.
 ghost use Rattle.std.specs.Prelude.{◌≡◌, ◌↔◌, Some, None, IsNone, IfSome};
 ghost use Rattle.terminal_presses.specs.Hands.{new_hand, handled, pasting as pasting_by, fresh, escaped as escaped_by};
+ghost use Rattle.terminal_presses.specs.Hands.{answering as answering_by, pasting_name as pasting_name_by, dropping};
+ghost use Rattle.terminal_presses.specs.Hands.{by_question as question_says, pastes_text};
 ghost use Rattle.terminal_presses.specs.Hands.{controlled as controlled_by, control as control_says, by_function};
 ghost use Rattle.terminal_presses.specs.Hands.{reported as reported_by, gone_down, gone_up, begun};
-ghost use Rattle.terminal_presses.specs.Hands.{meant as click_meant, unpasted as unpasted_by, with_asked, asks};
-ghost use Rattle.terminal_presses.specs.Asking.{answered, entered, spelled, shortened, controlled_name};
-ghost use Rattle.terminal_presses.specs.Asking.{by_function_amid};
+ghost use Rattle.terminal_presses.specs.Hands.{meant as click_meant, with_asked, asks};
+ghost use Rattle.terminal_presses.specs.Asking.{answered, entered, lengthened, spelled, shortened, controlled_name};
+ghost use Rattle.terminal_presses.specs.Asking.{by_function_amid, pasted_name};
 ghost use Rattle.terminal_presses.specs.Outcomes.{ComesTo};
 
 use crate::action::{Action, Click};
@@ -72,26 +74,77 @@ impl Hand {
         }
     }
 
-    /// What a press comes to, where this part of the display is in sight.
-    #[tactic(auto, unfolding(crate::specs::Hands::handled))]
-    pub fn take(&mut self, sight: Sight, press: Press) -> Action
-        ensures { ComesTo (handled sight press self.old) self.new result }
+    /// Whether a text is pasted.
+    pub fn pastes_text(&self) -> bool
+        ensures { result ≡ pastes_text self.now }
     {
-        if self.paste.is_some() {
-            self.pasting(press)
-        } else {
-            self.unpasted(sight, press)
+        self.paste.is_some() && self.asked.is_none()
+    }
+
+    /// The rest of the text that is pasted, if one is, comes to nothing.
+    pub fn drop_rest(&mut self)
+        ensures { self.new ≡ dropping self.old }
+    {
+        if let Some(paste) = &mut self.paste {
+            paste.drop_rest();
         }
     }
 
-    /// What a press comes to while no paste goes on.
-    #[tactic(auto, unfolding(crate::specs::Hands::unpasted))]
-    fn unpasted(&mut self, sight: Sight, press: Press) -> Action
-        ensures { ComesTo (unpasted_by sight self.old.asked press self.old) self.new result }
+    /// What a press comes to, where this part of the display is in sight.
+    #[tactic(auto, unfolding(crate::specs::Hands::handled, crate::specs::Hands::by_question))]
+    pub fn take(&mut self, sight: Sight, press: Press) -> Action
+        ensures { ComesTo (handled sight press self.old) self.new result }
     {
-        match self.asked.take() {
-            None => self.fresh(sight, press),
-            Some(name) => self.answered(name, press),
+        match (self.asked.take(), self.paste.is_some()) {
+            (None, false) => self.fresh(sight, press),
+            (None, true) => self.pasting(press),
+            (Some(name), false) => self.answering(name, press),
+            (Some(name), true) => self.pasting_name(name, press),
+        }
+    }
+
+    /// What a press comes to while a name is asked for that is typed as far as this, and none is pasted.
+    #[tactic(auto, unfolding(crate::specs::Hands::answering))]
+    fn answering(&mut self, name: HostName, press: Press) -> Action
+        ensures { ComesTo (answering_by name press (record self.old { asked = Some name })) self.new result }
+    {
+        if matches!(press, Press::PasteBegins) {
+            self.paste = Some(Paste::new());
+            return self.keep(name, Action::Nothing);
+        }
+        self.answered(name, press)
+    }
+
+    /// What a press comes to while the name that is asked for is pasted.
+    #[tactic(auto, unfolding(crate::specs::Hands::pasting_name))]
+    fn pasting_name(&mut self, name: HostName, press: Press) -> Action
+        ensures { ComesTo (pasting_name_by name press (record self.old { asked = Some name })) self.new result }
+    {
+        if matches!(press, Press::PasteEnds) {
+            self.paste = None;
+            return self.keep(name, Action::Nothing);
+        }
+        self.pasted(name, press)
+    }
+
+    /// What a press comes to within the paste of a name.
+    #[tactic(auto, unfolding(crate::specs::Asking::pasted_name))]
+    fn pasted(&mut self, name: HostName, press: Press) -> Action
+        ensures { ComesTo (with_asked (pasted_name press name) self.old) self.new result }
+    {
+        match press {
+            Press::Character(byte) => self.lengthen(name, byte),
+            Press::Foreign | Press::Control(_) | Press::Back | Press::Escape => self.keep(
+                name,
+                Action::Ring,
+            ),
+            Press::Arrow(_) | Press::Page(_) | Press::Function(_) => self.keep(name, Action::Ring),
+            Press::Size(rows, columns) => self.keep(name, Action::Fit(rows, columns)),
+            Press::Mouse(_) | Press::PasteBegins | Press::PasteEnds => self.keep(
+                name,
+                Action::Nothing,
+            ),
+            Press::FileFails | Press::Unknown => self.keep(name, Action::Nothing),
         }
     }
 
@@ -111,10 +164,11 @@ impl Hand {
             Press::Foreign | Press::Arrow(_) => self.keep(name, Action::Ring),
             Press::Page(page) => self.keep(name, Action::Move(page)),
             Press::Function(key) => self.keep(name, function_amid(key)),
-            Press::Mouse(_) | Press::PasteBegins | Press::PasteEnds | Press::Unknown => self.keep(
+            Press::Mouse(_) | Press::PasteBegins | Press::PasteEnds => self.keep(
                 name,
                 Action::Nothing,
             ),
+            Press::FileFails | Press::Unknown => self.keep(name, Action::Nothing),
             Press::Size(rows, columns) => self.keep(name, Action::Fit(rows, columns)),
         }
     }
@@ -132,10 +186,20 @@ impl Hand {
     fn spelled(&mut self, name: HostName, byte: u8) -> Action
         ensures { ComesTo (with_asked (spelled byte name) self.old) self.new result }
     {
-        let mut name = name;
         if byte == CARRIAGE_RETURN {
             self.entered(name)
-        } else if is_host_byte(byte) && name.has_room() {
+        } else {
+            self.lengthen(name, byte)
+        }
+    }
+
+    /// A byte of the name, where it can stand in one and there is room.
+    #[tactic(auto, unfolding(crate::specs::Asking::lengthened))]
+    fn lengthen(&mut self, name: HostName, byte: u8) -> Action
+        ensures { ComesTo (with_asked (lengthened byte name) self.old) self.new result }
+    {
+        let mut name = name;
+        if is_host_byte(byte) && name.has_room() {
             name.add(byte);
             self.keep(name, Action::Nothing)
         } else {
@@ -196,7 +260,7 @@ impl Hand {
         Action::Nothing
     }
 
-    /// What a press comes to while a paste goes on.
+    /// What a press comes to while a text is pasted.
     #[tactic(auto, unfolding(crate::specs::Hands::pasting))]
     fn pasting(&mut self, press: Press) -> Action
         ensures { ComesTo (pasting_by self.old.paste press self.old) self.new result }
@@ -233,6 +297,7 @@ impl Hand {
             }
             Press::PasteEnds | Press::Unknown => Action::Nothing,
             Press::Size(rows, columns) => Action::Fit(rows, columns),
+            Press::FileFails => Action::FileFailed,
         }
     }
 
@@ -285,41 +350,46 @@ impl Hand {
     fn reported(&mut self, sight: Sight, report: MouseReport) -> Action
         ensures { ComesTo (reported_by sight report self.old) self.new result }
     {
-        let spot = Spot::nearest(sight, report.column, report.row);
         if report.is_down {
-            self.go_down(report, spot);
+            self.go_down(sight, report);
             Action::Nothing
         } else {
-            self.go_up(report.button, spot)
+            self.go_up(
+                report.button,
+                Spot::nearest(sight, report.column, report.row),
+            )
         }
     }
 
     /// A button goes down.
     #[tactic(auto, unfolding(crate::specs::Hands::gone_down))]
-    fn go_down(&mut self, report: MouseReport, spot: Spot)
-        ensures { self.new ≡ gone_down self.old.gesture report spot self.old }
+    fn go_down(&mut self, sight: Sight, report: MouseReport)
+        ensures { self.new ≡ gone_down self.old.gesture sight report self.old }
     {
         let Some(gesture) = self.gesture else {
-            self.begin(report, spot);
+            self.begin(sight, report);
             return;
         };
         if gesture.down.has(report.button) {
-            self.begin(report, spot);
+            self.begin(sight, report);
         } else {
             self.gesture = Some(gesture.pressed(report.button));
         }
     }
 
-    /// A gesture begins. One whose end was lost is forgotten.
+    /// A gesture begins. One whose end was lost is forgotten. One that begins outside the display comes to nothing.
     #[tactic(auto, unfolding(crate::specs::Hands::begun))]
-    fn begin(&mut self, report: MouseReport, spot: Spot)
-        ensures { self.new ≡ begun report spot self.old }
+    fn begin(&mut self, sight: Sight, report: MouseReport)
+        ensures { self.new ≡ begun sight report self.old }
     {
-        let click = meant(self.armed, report);
-        self.armed = None;
+        let mut click = None;
+        if sight.shows(report.column, report.row) {
+            click = Some(meant(self.armed, report));
+            self.armed = None;
+        }
         self.gesture = Some(Gesture {
-            click: Some(click),
-            start: spot,
+            click,
+            start: Spot::nearest(sight, report.column, report.row),
             down: Buttons::none().with(report.button, true),
         });
     }

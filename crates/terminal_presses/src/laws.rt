@@ -1,5 +1,5 @@
 //! What holds of all presses.
-ghost use Rattle.std.specs.Prelude.{◌≡◌, ℕ, ◌+◌, ◌<◌, ◌≤◌, Bool, true, false, ◌==◌, not, List, [], ◌∷◌, ◌++◌};
+ghost use Rattle.std.specs.Prelude.{◌≡◌, ℕ, ◌+◌, ◌<◌, ◌≤◌, ◌⊎◌, Bool, true, false, ◌==◌, not, List, [], ◌∷◌, ◌++◌};
 ghost use Rattle.std.specs.Prelude.{IsTrue, Some, length, map};
 ghost use Rattle.std.specs.List.{list_all};
 ghost use Rattle.event_bytes.specs.declared.keys.Keys.TheVariants as keys;
@@ -22,8 +22,8 @@ ghost use Rattle.terminal_presses.specs.Spelling.{AreHeard};
 ghost use Rattle.terminal_presses.specs.Hands.{new_hand, idle, asking, handled};
 ghost use Rattle.terminal_presses.specs.HostNames.{is_host_name};
 ghost use Rattle.terminal_presses.specs.Pastes.{return};
-ghost use Rattle.terminal_presses.specs.Runs.{hand_after, posted, Makes, Corner, down_with, down, up, alone, together};
-ghost use Rattle.terminal_presses.specs.Runs.{clicked, says, AreThree, paste_of, pasted_text, pasted, Types};
+ghost use Rattle.terminal_presses.specs.Runs.{hand_after, posted, Makes, Corner, is_seen, down_with, down, up, alone};
+ghost use Rattle.terminal_presses.specs.Runs.{name_with, together, clicked, says, AreThree, paste_of, pasted_text, pasted, Types};
 
 /// It is one whether what is heard comes in one piece or in two, and so in many: what is pressed of both is what is
 /// pressed of the first, and then what the parser that has heard it makes of the second. So are the events of presses.
@@ -64,34 +64,40 @@ pub fn spots_are_in_sight()
 {}
 
 /// One or two buttons that go down and are all up again, whichever goes up first, are one event: the keys as they went
-/// down, the cell of the first press and that of the last release. Three are none. The hand is then as it was.
+/// down, the cell of the first press and that of the last release. Three are none, and so is a click that begins where
+/// no cell is shown, as on the line below. The hand is then as it was.
 pub fn buttons_make_one_point()
-    ensures one { (sight : Sight) (button : Button) (start end : Corner)
+    ensures one { (sight : Sight) (button : Button) (start end : Corner) → IsTrue (is_seen sight start)
         → Makes sight new_hand (down button start ∷ up button end ∷ []) new_hand
         (clicked (Keys (alone button)) sight start end ∷ []) }
     ensures two { (sight : Sight) (first second : Button) (start p q end : Corner) → (first ≡ second → ⊥)
+        → IsTrue (is_seen sight start)
         → Makes sight new_hand (down first start ∷ down second p ∷ up first q ∷ up second end ∷ []) new_hand
         (clicked (Keys (together first second)) sight start end ∷ []) }
     ensures two_turned { (sight : Sight) (first second : Button) (start p q end : Corner) → (first ≡ second → ⊥)
+        → IsTrue (is_seen sight start)
         → Makes sight new_hand (down first start ∷ down second p ∷ up second q ∷ up first end ∷ []) new_hand
         (clicked (Keys (together first second)) sight start end ∷ []) }
     ensures three { (sight : Sight) (a b c x y z : Button) (start p q r s end : Corner)
         → AreThree a b c → AreThree x y z
         → Makes sight new_hand (down a start ∷ down b p ∷ down c q ∷ up x r ∷ up y s ∷ up z end ∷ []) new_hand [] }
+    ensures outside { (sight : Sight) (button : Button) (hand : Hand) (start end : Corner) → hand.gesture ≡ None
+        → IsTrue (not (is_seen sight start))
+        → Makes sight (idle hand) (down button start ∷ up button end ∷ []) (idle hand) [] }
 {}
 
 /// With the left button alone there is every click: with Alt it is the middle one, with Ctrl the right one, and after a
 /// function key it is what that says.
 #[tactic(auto, using(crate::proofs::Clicks::clicks_of_one))]
 pub fn one_button_is_enough()
-    ensures alt { (sight : Sight) (control : Bool) (start end : Corner)
+    ensures alt { (sight : Sight) (control : Bool) (start end : Corner) → IsTrue (is_seen sight start)
         → Makes sight new_hand (down_with true control Left start ∷ up Left end ∷ []) new_hand
         (clicked (Keys keys.Middle) sight start end ∷ []) }
-    ensures control { (sight : Sight) (start end : Corner)
+    ensures control { (sight : Sight) (start end : Corner) → IsTrue (is_seen sight start)
         → Makes sight new_hand (down_with false true Left start ∷ up Left end ∷ []) new_hand
         (clicked (Keys keys.Right) sight start end ∷ []) }
     ensures function { (sight : Sight) (key : FunctionKey) (click : Click) (start end : Corner)
-        → says key ≡ Some click
+        → says key ≡ Some click → IsTrue (is_seen sight start)
         → Makes sight new_hand (Function key ∷ down Left start ∷ up Left end ∷ []) new_hand
         (clicked click sight start end ∷ []) }
 {}
@@ -112,7 +118,8 @@ pub fn pastes_are_typed()
 {}
 
 /// The bytes of a host file's name that is asked for are typed one after another, and make no event. A carriage return
-/// then says that the file is typed; the key Escape calls it off. The hand asks no more then.
+/// then says that the file is typed; the key Escape calls it off. The hand asks no more then. Whatever is pasted while a
+/// name is asked for, nothing of it is a key: it makes no event, and asks for no file.
 #[tactic(auto, using(crate::proofs::Names::names_said))]
 pub fn names_are_typed()
     ensures typed { (sight : Sight) (hand : Hand) (name : List ℕ) → IsTrue (is_host_name name)
@@ -121,4 +128,6 @@ pub fn names_are_typed()
         → handled sight (Character return) (asking name hand) ≡ (idle hand, TypeFile name) }
     ensures called_off { (sight : Sight) (hand : Hand) (name : List ℕ)
         → handled sight Escape (asking name hand) ≡ (idle hand, Nothing) }
+    ensures pasted { (sight : Sight) (hand : Hand) (name text : List ℕ)
+        → Makes sight (asking name hand) (paste_of text) (asking (name_with name text) hand) [] }
 {}

@@ -56,13 +56,19 @@ fn after_byte(place: SequencePlace, byte: u8) -> (SequencePlace, Presses)
     }
 }
 
-/// Where one stands after a quiet while: an escape byte was the key, and all else waits for its next byte.
+/// Where one stands after a quiet while: an escape byte was the key, and a sequence that has only begun is given up. All
+/// else waits for its next byte.
 #[tactic(auto, unfolding(crate::specs::Presses::after_quiet))]
 fn after_quiet(place: SequencePlace) -> (SequencePlace, Presses)
     ensures { result ≡ after_quiet place }
 {
     match place {
         SequencePlace::Escape => (SequencePlace::Ground, Presses::One(Press::Escape)),
+        SequencePlace::Shift => (SequencePlace::Ground, Presses::One(Press::Unknown)),
+        SequencePlace::Sequence(numbers) if numbers.is_bare() => (
+            SequencePlace::Ground,
+            Presses::One(Press::Unknown),
+        ),
         waiting => (waiting, Presses::Nothing),
     }
 }

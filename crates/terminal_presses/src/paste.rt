@@ -3,7 +3,8 @@ ghost use Rattle.std.specs.Prelude.{◌≡◌, [], IsTrue};
 ghost use Rattle.event_bytes.specs.Bytes.{is_text_byte as text_byte};
 ghost use Rattle.terminal_presses.specs.Outcomes.{ComesTo};
 ghost use Rattle.terminal_presses.specs.Pastes.{typed as typed_by, added, in_profile as profile_byte, pasted_byte};
-ghost use Rattle.terminal_presses.specs.Pastes.{new_paste, with_byte, fed as line_fed, pasted_more, pasted_if_any};
+ghost use Rattle.terminal_presses.specs.Pastes.{new_paste, dropped, with_byte, fed as line_fed, pasted_more};
+ghost use Rattle.terminal_presses.specs.Pastes.{pasted_on, pasted_if_any};
 
 use crate::action::Action;
 use crate::press::Press;
@@ -73,6 +74,8 @@ pub(crate) struct Paste {
     /// Whether a carriage return came last, so that a line feed is nothing more.
     after_return: bool,
     bytes: Pasted,
+    /// What still comes of it comes to nothing.
+    drops: bool,
 }
 
 impl Paste {
@@ -83,11 +86,37 @@ impl Paste {
         Paste {
             after_return: false,
             bytes: Pasted::none(),
+            drops: false,
         }
     }
 
-    /// Something is pressed while a paste goes on.
+    /// The rest of it comes to nothing, and so does what is in no event yet.
+    pub fn drop_rest(&mut self)
+        ensures { self.new ≡ dropped self.old }
+    {
+        *self = Paste {
+            after_return: false,
+            bytes: Pasted::none(),
+            drops: true,
+        };
+    }
+
+    /// Something is pressed while a text is pasted.
+    #[tactic(auto, unfolding(crate::specs::Pastes::pasted_on))]
     pub fn take(&mut self, press: Press) -> Action
+        ensures { ComesTo (pasted_on press self.old) self.new result }
+    {
+        if let Press::Size(rows, columns) = press {
+            return Action::Fit(rows, columns);
+        }
+        if self.drops {
+            return Action::Nothing;
+        }
+        self.take_byte(press)
+    }
+
+    /// A byte of it, if the press is one.
+    fn take_byte(&mut self, press: Press) -> Action
         ensures { ComesTo (pasted_if_any (pasted_byte press) self.old) self.new result }
     {
         match byte_of(press) {
@@ -167,6 +196,7 @@ fn byte_of(press: Press) -> Option<u8>
         Press::Character(byte) | Press::Control(byte) => Some(byte),
         Press::Foreign | Press::Back | Press::Escape => Some(b'?'),
         Press::Arrow(_) | Press::Page(_) | Press::Function(_) | Press::Mouse(_) => None,
-        Press::PasteBegins | Press::PasteEnds | Press::Size(_, _) | Press::Unknown => None,
+        Press::PasteBegins | Press::PasteEnds | Press::Size(_, _) => None,
+        Press::FileFails | Press::Unknown => None,
     }
 }

@@ -93,6 +93,8 @@ pub enum Press {
     PasteEnds,
     /// The terminal has so many rows, and so many columns.
     Size(u16, u16),
+    /// The host file whose text was told could be read no further.
+    FileFails,
     /// A sequence of bytes that means nothing here.
     Unknown,
 }

@@ -3,7 +3,7 @@ ghost use Rattle.std.specs.Prelude.{◌≡◌, ◌<◌};
 ghost use Rattle.terminal_presses.specs.Presses.{function_at, arrow_at, lettered as letter_says};
 ghost use Rattle.terminal_presses.specs.Presses.{numbered as number_says, longer as longer_number, no_numbers};
 ghost use Rattle.terminal_presses.specs.Presses.{with_digit, with_number, mouse_mark, reported, moused, sized, plain};
-ghost use Rattle.terminal_presses.specs.Presses.{ended};
+ghost use Rattle.terminal_presses.specs.Presses.{ended, is_bare};
 
 use crate::place::{Mark, Numbers, SequencePlace};
 use crate::press::{Arrow, Button, FunctionKey, MouseReport, Page, Press, Presses};
@@ -74,6 +74,8 @@ fn numbered(number: u16) -> Press
         Press::PasteBegins
     } else if number == 201 {
         Press::PasteEnds
+    } else if number == 202 {
+        Press::FileFails
     } else {
         Press::Unknown
     }
@@ -139,6 +141,14 @@ impl Numbers {
             Mark::Mouse | Mark::Odd => Mark::Odd,
         };
         Numbers { mark, ..self }
+    }
+
+    /// Whether nothing is heard of them yet.
+    #[tactic(auto, unfolding(crate::specs::Presses::is_bare))]
+    pub fn is_bare(self) -> bool
+        ensures { result ≡ is_bare self }
+    {
+        matches!(self.mark, Mark::Plain) && self.last == 0 && self.first == 0
     }
 
     /// What a sequence of these numbers says that ends with this byte.

@@ -1,10 +1,10 @@
 //! The part of the display that a terminal shows.
 ghost use Rattle.std.specs.Prelude.{◌≡◌, ◌+◌, ◌-◌, ◌<◌, ◌≤◌};
 ghost use Rattle.viewer_tracks.specs.declared.display.TheConstants.{ROWS};
-ghost use Rattle.terminal_presses.specs.Sights.{IsSight};
+ghost use Rattle.terminal_presses.specs.Sights.{IsSight, is_inside};
 
 use std::marker::Model;
-use viewer_tracks::ROWS;
+use viewer_tracks::{COLUMNS, ROWS};
 
 /// The rows of the display that a terminal shows, from its own first row downward, at least one. All columns are shown.
 /// A clause sees `top`, the row of the display that the terminal's first row shows, counted upward from 0 at the
@@ -50,6 +50,14 @@ impl Sight {
         ensures within { IsSight self }
     {
         self.top
+    }
+
+    /// Whether a column and a row of the terminal, which are counted from 1, show a cell of the display.
+    #[tactic(auto, unfolding(crate::specs::Sights::is_inside))]
+    pub(crate) fn shows(self, column: u16, row: u16) -> bool
+        ensures { result ≡ is_inside self column row }
+    {
+        1 <= column && column <= u16::from(COLUMNS) && 1 <= row && row <= u16::from(self.rows)
     }
 
     /// How many rows are in sight.

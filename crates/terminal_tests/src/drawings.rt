@@ -6,11 +6,12 @@ use screen_pictures::{Cell, Mark};
 use std::alloc::{AllocError, Global};
 use std::test::Fail;
 
-/// How each drawing begins: its size, the font, and white paper.
+/// How each drawing begins: its size, the font, that spaces count, and white paper.
 const BEGINNING: &[u8] =
     b"<svg xmlns='http://www.w3.org/2000/svg' width='720' height='608' viewBox='0 0 720 608' \
     font-family='DejaVu Sans Mono,Menlo,Consolas,monospace' font-size='15' \
     xml:space='preserve'>\n\
+    <style>text{white-space:pre}</style>\n\
     <rect x='0' y='0' width='720' height='608' fill='#ffffff'/>\n";
 
 /// A character of a text in a look.

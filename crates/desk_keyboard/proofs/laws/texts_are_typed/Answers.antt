@@ -3,7 +3,7 @@ use Rattle.terminal_presses.specs.Presses.{at_rest, pressed}
 use Rattle.terminal_presses.specs.Hands.{idle}
 use Rattle.terminal_presses.specs.Runs.{Types, posted, pasted_text}
 use Rattle.desk_keyboard.specs.HostPastes.{harmless}
-use Rattle.desk_keyboard.proofs.Told.{whole_is_pasted, few_are_read, none_escapes}
+use Rattle.desk_keyboard.proofs.Told.{broken_is_pasted, whole_is_pasted, few_are_read, none_escapes}
 use Rattle.desk_keyboard.proofs.laws.texts_are_typed.Goals as goal
 
 pub returns-clause-pasted : goal.returns-clause-pasted
@@ -17,3 +17,6 @@ returns-clause-typed c most left text told sight hand all =
 
 pub returns-clause-few : goal.returns-clause-few
 returns-clause-few c = few_are_read
+
+pub returns-clause-broken : goal.returns-clause-broken
+returns-clause-broken c = broken_is_pasted

@@ -1,25 +1,27 @@
 use Rattle.std.proofs.Common.{◌∙◌, Err, ap, refl}
 use Rattle.std.proofs.lemmas.Result.{err_from_is_err_and}
 use Rattle.desk_session.proofs.Turning.{unshown_ends, deaf_ends, turned, broken_ends, left_stops, same_device}
-use Rattle.desk_session.proofs.Turning.{calm_presses, heard_so}
+use Rattle.desk_session.proofs.Turning.{calm_presses, heard_so, not_of_keyboard, of_keyboard, store_no_keyboard}
+use Rattle.desk_session.specs.Endings.{EndsBy}
+use Rattle.std.specs.Prelude.{IfErr}
 use Rattle.desk_session.proofs.serving.turn.Goals as goal
 
-pub returns-in_err-show : goal.returns-in_err-show
-returns-in_err-show g c =
+pub returns-in_err-show-clause-turns : goal.returns-in_err-show-clause-turns
+returns-in_err-show-clause-turns g c =
     let p = err_from_is_err_and c.from_residual.result c.from_residual.ensures.1 in
     let scene = c.in_err-show.ensures in
     unshown_ends g.D.Disk c.from_residual.result c.in_err-show.field-0.0 (p.1 ∙ ap (λ e. Err e) p.2) scene.looks
     scene.unshown refl scene.usable scene.counts scene.device
 
-pub returns-in_err-hearing : goal.returns-in_err-hearing
-returns-in_err-hearing g c =
+pub returns-in_err-hearing-clause-turns : goal.returns-in_err-hearing-clause-turns
+returns-in_err-hearing-clause-turns g c =
     let p = err_from_is_err_and c.from_residual-in_err-hearing.result c.from_residual-in_err-hearing.ensures.1 in
     let scene = c.in_ok-show.ensures in
     deaf_ends g.D.Disk c.from_residual-in_err-hearing.result c.in_err-hearing.field-0.0 (p.1 ∙ ap (λ e. Err e) p.2)
-    scene.looks scene.shown c.in_err-hearing.ensures.ended scene.usable scene.counts scene.device
+    scene.looks scene.shown c.in_err-hearing.ensures.silent scene.usable scene.counts scene.device
 
-pub returns-in_err-do_presses : goal.returns-in_err-do_presses
-returns-in_err-do_presses g c =
+pub returns-in_err-do_presses-clause-turns : goal.returns-in_err-do_presses-clause-turns
+returns-in_err-do_presses-clause-turns g c =
     let p = err_from_is_err_and c.from_residual-in_err-do_presses.result c.from_residual-in_err-do_presses.ensures.1 in
     let scene = c.in_ok-show.ensures in
     let fails = c.in_err-do_presses.ensures in
@@ -29,8 +31,8 @@ returns-in_err-do_presses g c =
     c.from_residual-in_err-do_presses.result c.in_err-do_presses.field-0.0 (p.1 ∙ ap (λ e. Err e) p.2) fails.broke
     scene.counts fails.faults (same_device g.D.Disk _ _ _ scene.device c.do_presses.ensures.device)
 
-pub returns-then-sitting : goal.returns-then-sitting
-returns-then-sitting g c =
+pub returns-then-sitting-clause-turns : goal.returns-then-sitting-clause-turns
+returns-then-sitting-clause-turns g c =
     let scene = c.in_ok-show.ensures in
     let done = c.in_ok-do_presses.ensures in
     record {
@@ -47,8 +49,8 @@ returns-then-sitting g c =
       device = same_device g.D.Disk _ _ _ scene.device c.do_presses.ensures.device;
     }
 
-pub returns-else-sitting : goal.returns-else-sitting
-returns-else-sitting g c =
+pub returns-else-sitting-clause-turns : goal.returns-else-sitting-clause-turns
+returns-else-sitting-clause-turns g c =
     let scene = c.in_ok-show.ensures in
     let done = c.in_ok-do_presses.ensures in
     record {
@@ -63,3 +65,21 @@ returns-else-sitting g c =
       counts = calm_presses tt _ _ _ scene.counts done.faults;
       device = same_device g.D.Disk _ _ _ scene.device c.do_presses.ensures.device;
     }
+
+pub returns-in_err-show-clause-ended : goal.returns-in_err-show-clause-ended
+returns-in_err-show-clause-ended g c =
+    let p = err_from_is_err_and c.from_residual.result c.from_residual.ensures.1 in
+    let ended = g.K.Keyboard.ended c.args.keyboard.now in
+    rw (p.1, p.2) (not_of_keyboard ended c.in_err-show.field-0.0 c.in_err-show.ensures.cause)
+
+pub returns-in_err-hearing-clause-ended : goal.returns-in_err-hearing-clause-ended
+returns-in_err-hearing-clause-ended g c =
+    let p = err_from_is_err_and c.from_residual-in_err-hearing.result c.from_residual-in_err-hearing.ensures.1 in
+    let ended = g.K.Keyboard.ended c.hear.new.self in
+    rw (p.1, p.2) (of_keyboard ended c.in_err-hearing.field-0.0 c.in_err-hearing.ensures.cause)
+
+pub returns-in_err-do_presses-clause-ended : goal.returns-in_err-do_presses-clause-ended
+returns-in_err-do_presses-clause-ended g c =
+    let p = err_from_is_err_and c.from_residual-in_err-do_presses.result c.from_residual-in_err-do_presses.ensures.1 in
+    let ended = g.K.Keyboard.ended c.hear.new.self in
+    rw (p.1, p.2) (not_of_keyboard ended _ (store_no_keyboard c.in_err-do_presses.field-0.0))

@@ -7,7 +7,7 @@ use Rattle.terminal_keyboard.proofs.terminal.listen.Goals as goal
 
 pub returns-in-Ok-clause-bytes : goal.returns-in-Ok-clause-bytes
 returns-in-Ok-clause-bytes g c =
-    let came = Consumes-trans _ _ _ _ _ c.loop.invariant.0 c.in-Ok.ensures.bytes.0 in
+    let came = Consumes-trans _ _ _ _ _ c.loop-count.invariant.0 c.in-Ok.ensures.bytes.0 in
     subst (Consumes _ _) (sym (ap heard_bytes c.of_bytes.ensures ∙ bytes_again _)) came
 
 pub returns-in-Ok-clause-quiet : goal.returns-in-Ok-clause-quiet

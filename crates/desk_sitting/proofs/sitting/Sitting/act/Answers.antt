@@ -22,6 +22,7 @@ alone_is action.Leave d posts steps = refl
 alone_is (action.Move page) d posts steps = refl
 alone_is (action.Step arrow) d posts steps = absurd (steps arrow refl)
 alone_is (action.Fit rows columns) d posts steps = refl
+alone_is action.FileFailed d posts steps = refl
 
 pub returns-in-Post : goal.returns-in-Post
 unfolding acted

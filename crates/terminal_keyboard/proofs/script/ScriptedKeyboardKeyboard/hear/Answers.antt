@@ -11,4 +11,4 @@ pub returns-clause-told : goal.returns-clause-told
 returns-clause-told c =
     let told = c.args.self.now.told in
     let script = c.args.self.now.script.now in
-    take_on script told (told + c.min.result) (omega arith) ∙ ap (λ l. take told script ++ l) (sym c.of-hearing.ensures)
+    take_on script told (told + c.line_length.result) (omega arith) ∙ ap (λ l. take told script ++ l) (sym c.of-hearing.ensures)
