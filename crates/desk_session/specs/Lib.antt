@@ -2,4 +2,5 @@ pub mod Endings
 pub mod Scenes
 pub mod Serving
 pub mod Surviving
+pub mod Travelling
 pub mod Sitting
