@@ -175,6 +175,8 @@ fn letter(action: &Action) -> Option<u8> {
         Action::Move(Page::Up) => Some(b'U'),
         Action::Move(Page::Down) => Some(b'D'),
         Action::Step(_) => Some(b'S'),
+        Action::Undo => Some(b'Z'),
+        Action::Redo => Some(b'Y'),
         Action::Fit(_, _) => Some(b'Z'),
         Action::FileFailed => Some(b'F'),
     }
