@@ -10,7 +10,7 @@ use Rattle.desk_session.specs.declared.serving.TheConstants.{MOST_TURNS}
 use Rattle.desk_session.specs.Serving.{TurnState, IsRun, Ends, TakesTurn, HasStopped, none, one_more}
 use Rattle.desk_session.specs.Serving.{stopped, too_long}
 use Rattle.desk_session.specs.Surviving.{TurnsSurvive, EndsSurvive}
-use Rattle.desk_session.specs.Sitting.{Comes, IsLost, IsSat, IsStretch, Sits, Steps, here, again}
+use Rattle.desk_session.specs.Sitting.{Comes, IsStretch, Sits, Steps, here, again}
 use Rattle.desk_session.specs.Travelling.{TakesBetween}
 use Rattle.desk_session.proofs.Turning.{same_device}
 
