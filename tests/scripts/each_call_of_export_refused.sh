@@ -1,5 +1,6 @@
 # The host refuses each call of `desk export --all` and of `desk backup` in turn. It says why in one sentence; then each
-# file that there is has a document whole, no other file is left, and no backup is but a whole one.
+# file that there is has a document whole, no other file is left, and no backup is but a whole one. Where a link is
+# refused the file gets its name by a rename, and all is done.
 . "$TESTS/each_call.sh"
 "$PROGRAM" format my.disk
 mkdir in
@@ -12,6 +13,7 @@ attempt() {
     env "$@" "$DESK_PROGRAM" export my.disk --all out > got 2> said
 }
 is_right() {
+    [ "$1 $status" != 'link 0' ] || { diff -r in out && return; }
     [ $status != 0 ] && [ "$(grep -c '^desk: ' said)" = 1 ] && [ -z "$(ls -A out 2> /dev/null | grep -v '^[ABC].Text$')" ] || return 1
     for file in out/*; do [ "$file" = 'out/*' ] || cmp -s "$file" "in/${file#out/}" || return 1; done
 }
@@ -28,6 +30,7 @@ attempt() {
     env "$@" "$DESK_PROGRAM" backup my.disk copy.disk > got 2> said
 }
 is_right() {
+    [ "$1 $status" != 'link 0' ] || { cmp my.disk copy.disk && return; }
     [ $status != 0 ] && [ "$(grep -c '^desk: ' said)" = 1 ] && [ -z "$(ls -A | grep desk-copy)" ] || return 1
     [ ! -e copy.disk ] || cmp -s my.disk copy.disk
 }

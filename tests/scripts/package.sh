@@ -9,7 +9,7 @@ package=$("$tools/package" packages)
 ls packages | sed 's/_1+[0-9]\{8\}[^_]*_/_VERSION_/'
 dpkg-deb --contents "$package" | sed 's/ \{1,\}[0-9]* [0-9-]* [0-9:]* / /'
 dpkg-deb --field "$package" Package Architecture
-"$tools/package" .
+"$tools/package" . | sed 's/_1+[0-9]\{8\}[^_]*_/_VERSION_/'
 cmp "$package" "${package##*/}" && echo 'made again it is the same'
 
 echo '== installed'

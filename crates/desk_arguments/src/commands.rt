@@ -11,12 +11,17 @@ pub(crate) fn command<'a>(alloc: Global) -> Result<Command<'a>, AllocError> {
         .arg(Arg::new(alloc, "path").action(ArgAction::Set))?;
     let list = of_store(alloc, "list")?.arg(flag(alloc, "json"))?;
     let backup = of_store(alloc, "backup")?.arg(wanted(alloc, "copy"))?;
+    let earlier = of_store(alloc, "earlier")?
+        .arg(wanted(alloc, "count"))?
+        .arg(wanted(alloc, "copy"))?;
     Command::new(alloc, "desk")
         .subcommand(sit)?
         .subcommand(of_store(alloc, "picture")?)?
         .subcommand(of_store(alloc, "check")?)?
         .subcommand(list)?
         .subcommand(backup)?
+        .subcommand(of_store(alloc, "history")?)?
+        .subcommand(earlier)?
         .subcommand(export(alloc)?)?
         .subcommand(import(alloc)?)
 }

@@ -22,11 +22,25 @@ pub enum Order<'a> {
     /// To make documents of files of the host's.
     Import(Import<'a>),
     /// To list the documents of a store, as JSON if so asked.
-    List { path: &'a str, json: bool },
+    List {
+        path: &'a str,
+        json: bool,
+    },
     /// To copy a store into a file that there isn't yet.
-    Backup { path: &'a str, copy: &'a str },
+    Backup {
+        path: &'a str,
+        copy: &'a str,
+    },
     /// To say how a store is.
     Check(&'a str),
+    /// To list the events that can be taken back.
+    History(&'a str),
+    /// To copy a store as it was before so many of its last events.
+    Earlier {
+        path: &'a str,
+        count: u32,
+        copy: &'a str,
+    },
 }
 
 /// Documents on their way out.
@@ -97,6 +111,12 @@ fn short_order<'a>(name: &str, given: &ArgMatches<'a>) -> Option<Order<'a>> {
             copy: given.get_str("copy")?,
         }),
         "check" => Some(Order::Check(given.get_str("path")?)),
+        "history" => Some(Order::History(given.get_str("path")?)),
+        "earlier" => Some(Order::Earlier {
+            path: given.get_str("path")?,
+            count: given.get_str("count")?.parse::<u32>().ok()?,
+            copy: given.get_str("copy")?,
+        }),
         _ => None,
     }
 }

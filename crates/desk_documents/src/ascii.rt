@@ -40,8 +40,8 @@ pub(crate) fn in_ascii(rt: &HostRuntime, file: &str, bytes: &[u8]) -> Result<Vec
 
 /// Adds what a character comes to.
 fn push_sign(text: &mut Vec<u8>, sign: char) -> Result<Came, AllocError> {
-    if is_plain(sign) {
-        text.push(sign as u8)?;
+    if let Some(byte) = plain_byte(sign) {
+        text.push(byte)?;
         return Ok(Came::Itself);
     }
     if is_combining_mark(sign) {
@@ -58,9 +58,12 @@ fn push_sign(text: &mut Vec<u8>, sign: char) -> Result<Came, AllocError> {
     Ok(Came::Mark)
 }
 
-/// Whether a character stands as it is: one of a document, or a line feed; or a NUL, which no text has.
-fn is_plain(sign: char) -> bool {
-    matches!(sign, '\0' | '\t' | '\n' | '\r' | ' '..='~')
+/// The byte of a character that stands as it is: of one of a document, or a line feed; or a NUL, which no text has.
+fn plain_byte(sign: char) -> Option<u8> {
+    match sign {
+        '\0' | '\t' | '\n' | '\r' | ' '..='~' => u8::try_from(u32::from(sign)).ok(),
+        _ => None,
+    }
 }
 
 /// Adds the characters of ASCII of which the character is made, as a letter without its accent, and says whether there
@@ -70,8 +73,8 @@ fn push_parts(text: &mut Vec<u8>, sign: char) -> Result<bool, AllocError> {
     extend_nfkd(&mut parts, &[sign])?;
     let mut some = false;
     for part in &parts {
-        if *part >= ' ' && is_plain(*part) {
-            text.push(*part as u8)?;
+        if let Some(byte) = plain_byte(*part) {
+            text.push(byte)?;
             some = true;
         }
     }

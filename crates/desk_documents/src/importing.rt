@@ -8,12 +8,15 @@ use desk_journal::{Document, Error, Store};
 use desk_stores::{Trouble, opened};
 use desktop_definitions::codes::TOO_MANY_FILES;
 use desktop_definitions::{MOST_FILES, MOST_HELD, MOST_WRITTEN, Reply};
-use host_documents::{Place, Unfit, document};
+use host_documents::{MOST_BYTES, Place, Unfit, document};
 use host_files::{HostFault, lock_alone, lock_shared};
 use host_stores::{FileDisk, opened as opened_on};
 use sector_disk::{Disk, FILE_SECTORS, MemoryDisk};
 use std::io;
 use store_documents::{Sorted, copy, sort};
+
+// A document may have as many characters as a desktop may hold.
+const _: () = prove!(MOST_BYTES == MOST_HELD as usize);
 
 /// How an import is done.
 #[derive(Clone, Copy, Debug, PartialEq, Eq)]

@@ -3,11 +3,15 @@
 use crate::sentences::{HOST, REFUSED, Stop, refused_file};
 use desk_stores::Trouble;
 use event_bytes::Name;
+use host_documents::MOST_BYTES;
 use host_files::{HostFault, files_in, is_folder, is_there, read_input, read_whole};
 use std::path::Path;
 
 /// The most bytes that are read of a file: more than four for each character of a document.
 const MOST_READ: u64 = 1_048_577;
+
+// What isn't read of a file makes it no document that it wouldn't be.
+const _: () = prove!(4 * (MOST_BYTES as u64) < MOST_READ);
 
 /// A file of the host's that is to be a document.
 #[derive(Drop)]

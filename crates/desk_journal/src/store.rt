@@ -2,7 +2,7 @@
 //!
 //! A clause sees a store as a `StoreView`. What each call promises is said in words, one for an outcome, of
 //! `specs/Opening.antt`, `specs/Posting.antt`, `specs/Checkpointing.antt` and `specs/Looking.antt`.
-ghost use Rattle.std.specs.Prelude.{◌≡◌, ◌<◌, ◌≤◌, ◌↔◌, true, false, Ok, Err, None, IfOk, IfErr, IfSome, IfNone, OnOk};
+ghost use Rattle.std.specs.Prelude.{◌≡◌, ◌≢◌, ◌<◌, ◌≤◌, ◌↔◌, true, false, Ok, Err, None, IfOk, IfErr, IfSome, IfNone, OnOk};
 ghost use Rattle.std.specs.Prelude.{IsErr, IsErrOf};
 ghost use Rattle.std.specs.Prelude.{option_map, IsTrue};
 ghost use Rattle.desktop_definitions.specs.Desktop.{empty_desktop, file_of};
@@ -243,7 +243,7 @@ impl<D: Disk> Store<D> {
         ensures ok { IfOk result (λ events. IsTakenBack D.Disk count events.items self.old self.new) }
         ensures left { IsErr result → self.old.must_reopen ≡ false → self.new.must_reopen ≡ false
             → IsLeft D.Disk self.old self.new }
-        ensures memory { IsErrOf result Error.NoMemory → self.new.must_reopen ≡ false }
+        ensures in_use { IfErr result (λ e. e ≢ Error.Fault → e ≢ Error.MustReopen → self.new.must_reopen ≡ false) }
         ensures stops { D.honest self.old.disk → IfErr result OfLook }
         ensures behaves { Behaves D.Disk OfUndo result self.old self.new }
     {

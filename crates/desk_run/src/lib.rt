@@ -8,7 +8,8 @@ mod sitting;
 use crate::sitting::{sit_at, sit_in_memory};
 use desk_arguments::{Export, Import, Order, Refusal, order_of, words};
 use desk_documents::{
-    Manner, Stop, backup, check, export_all, export_names, import, list, list_json,
+    Manner, Stop, backup, check, earlier, events_back, export_all, export_names, import, list,
+    list_json,
 };
 use desk_session::Saying;
 use desk_stores::{Trouble, picture};
@@ -33,7 +34,7 @@ fn decline(rt: &HostRuntime, refusal: Refusal) -> u8 {
         Refusal::Memory => Trouble::Memory.say(rt, ""),
         Refusal::Usage => {
             let _ = eprintln!(rt;
-                "desk: usage: sit [--unproved] ROWS [PATH] | picture PATH | import PATH FILE.. | export PATH NAME.. | list PATH | backup PATH COPY | check PATH, in UTF-8"
+                "desk: usage: sit [--unproved] ROWS [PATH] | picture PATH | import PATH FILE.. | export PATH NAME.. | list PATH | backup PATH COPY | check PATH | history PATH | earlier PATH K COPY, in UTF-8"
             );
             2
         }
@@ -67,6 +68,8 @@ fn follow_over_documents(rt: &HostRuntime, order: &Order<'_>) -> u8 {
         Order::List { path, json: true } => done(rt, path, list_json(rt, path)),
         Order::Backup { path, copy } => done(rt, path, backup(rt, path, copy)),
         Order::Check(path) => done(rt, path, check(rt, path)),
+        Order::History(path) => done(rt, path, events_back(rt, path)),
+        Order::Earlier { path, count, copy } => done(rt, path, earlier(rt, path, *count, copy)),
         _ => 0,
     }
 }

@@ -9,5 +9,5 @@ mod trouble;
 
 pub use making::{NewFile, make, new_file};
 pub use pictures::picture;
-pub use stores::{in_memory, looked_at, opened};
+pub use stores::{in_memory, looked_at, opened, opened_locked};
 pub use trouble::Trouble;
