@@ -6,8 +6,9 @@
    stays full. Where PART is set this call, a pread or a pwrite, doesn't fail: it moves PART bytes at most. Where KILLED
    is set it doesn't fail either: the program is killed by signal 9 in its place.
 
-   FAIL may also be a call that is no line: `open`, `flock`, `statx`, `realpath`, and `write`, on standard output. In
-   each case the file CALLS has the line `failed`, `in part` or `killed` once that came. */
+   FAIL may also be a call that is no line: `open`, `flock`, `ftruncate`, `statx`, `realpath`, `link`, `rename`,
+   `mkdir`, `write`, on standard output, and `file_read` and `file_write`, on a file that was opened. In each case the
+   file CALLS has the line `failed`, `in part` or `killed` once that came. */
 #define _GNU_SOURCE
 #include <dlfcn.h>
 #include <errno.h>
@@ -62,7 +63,8 @@ static ssize_t share(const char *name, long *count, size_t size) {
     return (size_t)atol(part) < size ? atol(part) : (ssize_t)size;
 }
 
-static long reads, writes, preads, pwrites, fdatasyncs, fsyncs, opens, flocks, statxs, realpaths;
+static long reads, writes, preads, pwrites, fdatasyncs, fsyncs, opens, flocks, ftruncates, statxs, realpaths;
+static long file_reads, file_writes, links, renames, mkdirs;
 
 int open(const char *path, int flags, ...) {
     va_list rest;
@@ -74,6 +76,10 @@ int open(const char *path, int flags, ...) {
 
 int flock(int file, int how) { return fails("flock", &flocks) ? -1 : syscall(SYS_flock, file, how); }
 
+int ftruncate(int file, off_t size) {
+    return fails("ftruncate", &ftruncates) ? -1 : syscall(SYS_ftruncate, file, size);
+}
+
 int statx(int folder, const char *path, int flags, unsigned mask, struct statx *found) {
     return fails("statx", &statxs) ? -1 : syscall(SYS_statx, folder, path, flags, mask, found);
 }
@@ -84,12 +90,27 @@ char *realpath(const char *path, char *resolved) {
     return fails("realpath", &realpaths) || !next ? 0 : next(path, resolved);
 }
 
+int link(const char *from, const char *to) {
+    return fails("link", &links) ? -1 : syscall(SYS_linkat, AT_FDCWD, from, AT_FDCWD, to, 0);
+}
+
+int rename(const char *from, const char *to) {
+    return fails("rename", &renames) ? -1 : syscall(SYS_renameat2, AT_FDCWD, from, AT_FDCWD, to, 0);
+}
+
+int mkdir(const char *path, mode_t mode) {
+    return fails("mkdir", &mkdirs) ? -1 : syscall(SYS_mkdirat, AT_FDCWD, path, mode);
+}
+
 ssize_t write(int file, const void *bytes, size_t size) {
-    return file == 1 && fails("write", &writes) ? -1 : syscall(SYS_write, file, bytes, size);
+    if (file == 1 && fails("write", &writes)) return -1;
+    if (file > 2 && fails("file_write", &file_writes)) return -1;
+    return syscall(SYS_write, file, bytes, size);
 }
 
 ssize_t read(int file, void *bytes, size_t size) {
     if (file == 0 && fails("read", &reads)) return -1;
+    if (file > 2 && fails("file_read", &file_reads)) return -1;
     return syscall(SYS_read, file, bytes, size);
 }
 

@@ -33,6 +33,10 @@ try 'the second'
 try 'the third'
 printf '%s\n' 'file A.Text Edit.Open X.Text' "file X.Text $x" "file Y.Text $x" | "$OBERON" play desk.disk
 try 'one sector is full'
-printf '%s\n' "file X.Text $x" "file Y.Text $x" 'file System.Tool Edit.Open X.Text%0d' 'point m 60 31 60 31' 'point m 52 30 52 30' | "$OBERON" play desk.disk
+printf '%s\n' "file X.Text $x" "file Y.Text $x" 'file System.Tool Edit.Open X.Text%0dSystem.Collect' 'point m 60 31 60 31' 'point m 52 30 52 30' | "$OBERON" play desk.disk
 try 'two more are full'
 try 'no other one'
+# Right after a System.Collect the characters that are left go to the other area, from its first sector on.
+printf '%s\n' "file Y.Text $x" 'point m 52 29 52 29' | "$OBERON" play desk.disk
+try 'after a System.Collect'
+try 'after that'

@@ -19,7 +19,7 @@ try() {
 }
 refused=0
 for store in none old; do
-    for call in open flock fdatasync fsync realpath write; do
+    for call in open flock ftruncate fdatasync fsync realpath write; do
         number=0
         while try $store $call $number; do number=$((number + 1)); done
         [ "$(cat said) $status" = 'ok 0' ] || echo "$call $number: $(cat said)"

@@ -1,15 +1,18 @@
-# The host refuses each call of `desk import` in turn. It says why in one sentence; then the store opens, and the
-# document is in it as a whole or not at all.
+# The host refuses each call of `desk import` of three files in turn, one of them 80,000 bytes long. It says why in one
+# sentence; then the store opens, and all three documents are in it as a whole, or none is.
 . "$TESTS/each_call.sh"
 "$PROGRAM" format made.disk
 cp --sparse=always made.disk new.disk
-printf 'Hello\n' > notes.txt
-show() { echo 'show A.Text' | "$PROGRAM" play "$1"; }
-show new.disk > none
-printf '%s\n' 'file A.Text Hello%0d' 'show A.Text' | "$PROGRAM" | tail -n +2 > whole
+printf 'Hello\n' > A.Text
+seq 1 20000 | head -c 80000 > B.Text
+mkdir more
+printf 'C\n' > more/C.Text
+show() { for name in A.Text B.Text C.Text; do "$DESK_PROGRAM" export "$1" $name 2>&1; done; }
+show new.disk | sed 's/new.disk/desk.disk/' > none
+cat A.Text B.Text more/C.Text > whole
 attempt() {
     cp new.disk desk.disk
-    env "$@" "$DESK_PROGRAM" import desk.disk A.Text notes.txt > got 2> said
+    env "$@" "$DESK_PROGRAM" import desk.disk A.Text B.Text more > got 2> said
 }
 is_right() {
     show desk.disk > shown
@@ -17,7 +20,7 @@ is_right() {
 }
 
 refused=0
-for call in open flock pread pwrite fdatasync; do
+for call in open file_read flock pread pwrite fdatasync; do
     each_call $call
     show desk.disk | cmp - whole && [ $status = 0 ] && [ $tried -gt 0 ] && echo "each $call was refused once"
     refused=$((refused + tried))

@@ -3,6 +3,7 @@ wrong one sentence says why."""
 import filecmp
 import os
 import random
+import re
 import shutil
 import signal
 import subprocess
@@ -547,7 +548,24 @@ def two_makers(trial):
         statuses.append(sitting.end())
     trial.check(sorted(statuses) in ([0, 4], [0, 0]), f'statuses {statuses}')
     trial.check(os.listdir(trial.folder) == ['my.disk'], f'there are {os.listdir(trial.folder)}')
-    trial.check('ok' in trial.oberon_says('check', trial.path) or True, 'no store')
+    trial.check(trial.oberon_says('check', trial.path).startswith('ok'), 'no store')
+
+
+def first_words(trial):
+    """Each word of the first text is a command's, or a parameter of one: a middle click on it does what it does in a
+    script, and no command's word is told as another word (4)."""
+    trial.leaves(trial.sit(trial.path))
+    rows = Screen(trial.oberon_says('screen', trial.path).splitlines()[:-1]).rows
+    new = trial.path + '.copy'
+    words = [(51 + found.start(), ROWS - 1 - row, found[0]) for row, text in enumerate(rows) if row
+             for found in re.finditer(r'[A-Z][a-z]+\.[A-Z][A-Za-z]+', text[51:])]
+    trial.check(len(words) > 20, f'there are {len(words)} words')
+    for x, y, word in words:
+        shutil.copy(trial.path, new)
+        answer = trial.oberon_says('play', new, lines=[f'point m {x} {y} {x} {y}']).strip()
+        is_command = word.split('.')[0] in ('Edit', 'System') and word != 'System.Tool'
+        trial.check(answer in ('ok', *(f'no {code}' for code in (1, 2, 3, 5, 7, 10))) or not is_command, f'{word}: {answer}')
+        trial.check(trial.oberon_says('check', new).startswith('ok'), f'{word}: {trial.oberon_says("check", new)}')
 
 
 def in_memory(trial):
@@ -574,6 +592,9 @@ def in_use(trial):
     sitting = trial.sit_anew()
     shutil.copy(trial.path, trial.path + '.before')
     trial.refused(4, trial.path, says=['my.disk', 'another program'])
+    for words in (['picture', trial.path], ['export', trial.path, 'A.Text']):
+        ran = subprocess.run([trial.desk, *words], capture_output=True, check=False)
+        trial.check(ran.returncode == 4 and not ran.stdout and b'another program' in ran.stderr, f'{words[0]}: {ran}')
     trial.check(filecmp.cmp(trial.path, trial.path + '.before', shallow=False), 'the store was changed')
     trial.leaves(sitting)
 
@@ -619,6 +640,7 @@ TRIALS = {
     'a link to nothing': dangling,
     'a file that appears': appears,
     'two at once': two_makers,
+    'words of the first text': first_words,
     'no path': in_memory,
     'no store': no_store,
     'a store in use': in_use,
@@ -626,9 +648,36 @@ TRIALS = {
 }
 
 
+class Idle:
+    """A sitting in which nothing is pressed for two minutes: nothing is sent meanwhile, and then it goes on."""
+
+    def __init__(self, desk, oberon):
+        self.trial = Trial(desk, oberon, random.Random(0))
+        self.sitting = self.trial.sit_anew()
+        self.sitting.rest(0.5)
+        self.scenes, self.begun = self.sitting.terminal.scenes, time.monotonic()
+
+    def end(self):
+        trial, sitting = self.trial, self.sitting
+        try:
+            sitting.rest(max(0, 120 - (time.monotonic() - self.begun)))
+            trial.check(sitting.terminal.scenes == self.scenes, 'something was shown')
+            sitting.press(b'stillhere')
+            trial.check(sitting.look_anew(), 'no scene')
+            trial.leaves(sitting)
+            trial.kept('stillhere', 'stillhere')
+        except (Ended, OSError) as error:
+            trial.wrong.append(repr(error))
+        trial.stop()
+        if trial.wrong:
+            print('two minutes without a key: ' + '; '.join(trial.wrong))
+        return bool(trial.wrong)
+
+
 def run_all(desk, oberon, kills):
-    """Each trial once, and that with signal 9 so many times. Returns how many failed."""
-    failed = 0
+    """Each trial once, and that with signal 9 so many times, while another sitting is left alone. Returns how many
+    failed."""
+    failed, idle = 0, Idle(desk, oberon)
     turns = ['signal 9 at the program'] * (kills - 1) + list(TRIALS)
     for turn, name in enumerate(turns):
         trial = Trial(desk, oberon, random.Random(turn))
@@ -640,5 +689,6 @@ def run_all(desk, oberon, kills):
         if trial.wrong:
             failed += 1
             print(f'{name}: ' + '; '.join(trial.wrong))
-    print(f'{len(turns)} beginnings and ends, {failed} differ')
+    failed += idle.end()
+    print(f'{len(turns) + 1} beginnings and ends, {failed} differ')
     return failed

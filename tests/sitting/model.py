@@ -111,22 +111,37 @@ class Model:
     # ---- presses
 
     def post(self, line):
+        """Whether the event isn't refused."""
         reply = self.ask(line)
         if reply == 'ok':
             self.follows = True
             self.saying = ''
-        else:
-            code = int(reply.removeprefix('no '))
-            self.saying = f'refused ({code}): {REASONS[code]}'
+            return True
+        code = int(reply.removeprefix('no '))
+        self.saying = f'refused ({code}): {REASONS[code]}'
+        return False
+
+    def paste(self, texts, looks=False):
+        """The pieces of a paste, or of a file, up to one that is refused. No store is so full here that one is refused
+        after others."""
+        for text in texts:
+            if looks:
+                self.look()
+            if not self.post('type ' + spelled(text)):
+                return
 
     def take(self, meaning):
         kind, *rest = meaning
         if kind == 'type':
             self.post('type ' + spelled(rest[0]))
+        elif kind == 'paste':
+            self.paste(rest[0])
         elif kind == 'key':
             self.post('key ' + rest[0])
         elif kind == 'mark':
             self.post('mark %d %d' % self.spot(*rest))
+        elif kind == 'point' and (rest[1] > COLUMNS or rest[2] > self.rows):
+            pass  # (it begins outside the display)
         elif kind == 'point':
             self.post('point %s %d %d %d %d' % (rest[0], *self.spot(*rest[1:3]), *self.spot(*rest[3:])))
         elif kind == 'arrow':
@@ -146,9 +161,7 @@ class Model:
             self.saying = UNREAD
             return
         self.saying = ''
-        for event in told(FILES[name]):
-            self.look()
-            self.take(event)
+        self.paste(told(FILES[name]), looks=True)
 
     def step(self, word):
         """A left click beside the caret, where a text is shown there."""

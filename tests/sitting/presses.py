@@ -1,6 +1,6 @@
 """Random presses: the bytes that a terminal sends for them, and what they mean.
 
-A meaning is a tuple: ('type', text), ('key', word), ('mark', column, row), ('point', keys, column, row, column, row),
+A meaning is a tuple: ('type', text), ('paste', texts), ('key', word), ('mark', column, row), ('point', keys, column, row, column, row),
 ('arrow', word), ('page', word), ('fit', rows), ('file', name) or ('ring',). Columns and rows are those of the terminal,
 from 1 at the upper left."""
 
@@ -58,10 +58,10 @@ def spelled(text):
 
 
 def pasted(text):
-    """The events of a paste."""
+    """What the events of a paste type."""
     text = text.replace('\r\n', '\r').replace('\n', '\r')
     text = ''.join(c if c in '\t\r' or ' ' <= c <= '~' else '?' for c in text)
-    return [('type', text[at:at + 900]) for at in range(0, len(text), 900)]
+    return [text[at:at + 900] for at in range(0, len(text), 900)]
 
 
 def paste(random, is_long):
@@ -71,11 +71,11 @@ def paste(random, is_long):
     text = ''.join(pieces)[:899]
     if is_long:
         text = ('a line of a long text\r' * 90)[:random.choice([899, 900, 901, 1800, 1801])]
-    return b'\x1b[200~' + text.encode() + b'\x1b[201~', pasted(text)
+    return b'\x1b[200~' + text.encode() + b'\x1b[201~', [('paste', pasted(text))]
 
 
 def told(data):
-    """The events of a file of the host's: where a character has several bytes the first one stands for it."""
+    """What the events of a file of the host's type: where a character has several bytes the first one stands for it."""
     return pasted(''.join(chr(byte) if byte < 128 else '?' for byte in data if not 128 <= byte < 192))
 
 
@@ -124,19 +124,15 @@ def press(random, rows, is_whole):
     if kind == 16 and not is_whole:
         height = random.choice([2, 5, 12, 13, 24, 32, 33, 34, 45])
         return b'\x1b[%d;%d;81t' % (random.choice([8, 48]), height), [('fit', height)]
-    return mouse(random, rows)
+    return mouse(random, rows, is_whole)
 
 
-def mouse(random, rows):
-    """A gesture of the mouse. One that begins outside the display means nothing, and leaves a function key in force."""
+def mouse(random, rows, is_whole):
+    """A gesture of the mouse. After a function key it begins within the display, for elsewhere the key stays in force."""
     kind = random.randrange(10)
     start, end = cell(random, rows), cell(random, rows)
-    is_outside = start[0] > 80 or start[1] > min(rows - 1, 32)
-    if is_outside and kind >= 4:
-        flags, keys = random.choice([(0, random.choice(GESTURES)), (8, 'm'), (16, 'r')])
-        return drag(random, keys if flags == 0 else 'l', start, end, flags), []
-    if is_outside:
-        start = (min(start[0], 80), min(start[1], min(rows - 1, 32)))
+    if kind in (2, 3):
+        start = (min(start[0], 80), min(start[1], 32) if is_whole else 1)
     if kind < 2:
         place = (random.choice([2, 3, 5, 52, 55]), random.randrange(2, min(rows, 12)))
         return drag(random, 'l', place, place), [('point', 'l', *place, *place)]

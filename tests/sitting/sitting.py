@@ -76,8 +76,9 @@ class Sitting:
                 raise Ended from None
 
     def press_in_pieces(self, data, sizes):
-        """The same in pieces of these sizes, one after another; what follows an escape byte follows at once."""
-        escaped = None
+        """The same in pieces of these sizes, one after another; what follows an escape byte follows at once, and so does
+        what follows the beginning of a sequence."""
+        escaped, last = None, b''
         while data:
             count = next(sizes)
             piece, data = data[:count], data[count:]
@@ -85,7 +86,8 @@ class Sitting:
             self.press(piece)
             if escaped and time.monotonic() - escaped > 0.08:
                 raise TooSlow
-            escaped = begun if piece.endswith(b'\x1b') else None
+            last = (last + piece)[-2:]
+            escaped = begun if last.endswith((b'\x1b', b'\x1b[', b'\x1bO')) else None
             if not escaped:
                 self.read(0)
 

@@ -1,11 +1,12 @@
 //! Looks for a crash that a store doesn't survive (the crate `crash_trials`). The argument is how many images at least
-//! are tried.
+//! are tried, or `bring`.
 //!
 //! It prints how many images were tried, at how many calls opening them was stopped, and `all right`; or the first that
-//! is wrong, with the seed of its round.
+//! is wrong, with the seed of its round. With `bring` it prints how many images have none of the documents that were
+//! brought, all of them, and anything else.
 #![tactic(auto)]
 
-use crash_trials::{Search, searched};
+use crash_trials::{Search, searched, stopped_bringing};
 use std::{env, io};
 
 /// Tells what was found.
@@ -29,10 +30,27 @@ fn tell(rt: &HostRuntime, search: &Search) -> io::Result<()> {
     }
 }
 
+/// Stops documents that are brought, and tells what was found.
+fn tell_bringing(rt: &HostRuntime) -> io::Result<()> {
+    match stopped_bringing(rt.alloc(), 1) {
+        Ok(brought) => println!(rt;
+            "{} stops, {} second stops: {} images of none, {} of all, {} wrong",
+            brought.stops, brought.second_stops, brought.none, brought.all, brought.wrong
+        ),
+        Err(error) => println!(rt; "{error}"),
+    }
+}
+
 fn main(rt: HostRuntime) -> io::Result<()> {
     let mut words = env::args(&rt)?;
     words.next();
-    let wanted = match words.next() {
+    let word = words.next();
+    if let Some(word) = &word
+        && word.as_str() == "bring"
+    {
+        return tell_bringing(&rt);
+    }
+    let wanted = match word {
         Some(word) => word.parse().ok(),
         None => None,
     };

@@ -7,8 +7,11 @@
 //! more. Opening each image is stopped in its turn, at one call after another, each time with a crash after it. It must
 //! open in the end, and show the desktop before the call or the one after it, and the one after it where the call was
 //! acknowledged.
+//!
+//! Documents are brought into a store of their own, which is stopped in the same way: all of them are there then, or none.
 #![tactic(auto)]
 
+mod bringing;
 mod call;
 mod fillings;
 mod images;
@@ -19,5 +22,6 @@ mod search;
 mod stores;
 mod trial;
 
+pub use bringing::{Brought, stopped_bringing};
 pub use rounds::searched;
 pub use search::{Search, Wrong};

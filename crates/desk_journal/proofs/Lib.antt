@@ -4,6 +4,7 @@ pub mod Brought
 pub mod Passing
 pub mod Prefixes
 mod Between
+mod Opened
 pub mod Undoing
 pub mod BackAgain
 pub mod Behind

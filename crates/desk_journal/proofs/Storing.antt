@@ -23,7 +23,7 @@ use Rattle.desk_slots.specs.Written.{GoesOn, IsBeside, KeepsShown, ShowsAnew}
 use Rattle.desk_journal.specs.Checkpointing.{LeavesDesktop, IsRenewed}
 use Rattle.desk_slots.specs.Device.{IsSameDevice}
 use Rattle.desk_slots.specs.Live.{seen_live, IsLive, IsNamed, IsTold, StaysLive}
-use Rattle.desk_journal.specs.Posting.{LeavesEither, IsStarved}
+use Rattle.desk_journal.specs.Posting.{LeavesEither, IsStarved, RecordsDone}
 use Rattle.desk_journal.specs.View.{StoreView}
 use Rattle.desk_slots.proofs.Settling.{kept_on}
 
@@ -151,3 +151,12 @@ module _ {D : Type 0} (d : Ghosts D) (event : Event) (old mid new : StoreView D)
         (renewed.desktop honest) (starved.unrecorded renewed.usable (device.still honest))));
     closed = starved.closed;
   }
+
+  pub renewed_recorded : RecordsDone d event mid new → RecordsDone d event old new
+  renewed_recorded second = λ usable honest. elim (second renewed.usable (device.still honest)) [
+    | inl unrecorded ↦ inl (chained (first usable honest)
+        (subst (λ n. LeavesOnly (d.trail mid.disk) (d.trail new.disk) (Means n old.desktop)) device.as_large
+        (subst (λ desktop. LeavesOnly (d.trail mid.disk) (d.trail new.disk) (Means (d.size mid.disk) desktop))
+        (renewed.desktop honest) unrecorded)))
+    | inr done ↦ inr (done ∙ ap (λ desktop. (step desktop event).desktop) (renewed.desktop honest))
+  ]

@@ -9,4 +9,5 @@ pub mod Bringing
 pub mod Looking
 pub mod Migrating
 pub mod Prefixes
+pub mod Files
 pub mod Undoing

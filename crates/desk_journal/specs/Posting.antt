@@ -88,6 +88,12 @@ module _ {D : Type 0} (d : Ghosts D) where
         → LeavesOnly (d.trail old.disk) (d.trail new.disk) (Means (d.size old.disk) old.desktop)
     pub closed : new.must_reopen ≡ true
 
+  -- the event is in no image, or the store has done it: none is recorded that failed while it was done
+  abbrev pub RecordsDone : Event → StoreView D → StoreView D → Type 0
+  RecordsDone event old new = old.must_reopen ≡ false → d.honest old.disk
+      → LeavesOnly (d.trail old.disk) (d.trail new.disk) (Means (d.size old.disk) old.desktop)
+      ⊎ (new.desktop ≡ (step old.desktop event).desktop)
+
   -- All that a post of the event promises where it returns this.
   pub record IsPosted (event : Event) (answer : Result Reply Error) (old new : StoreView D) : Type 0 where
     pub any_moment : LeavesEither event old new

@@ -8,11 +8,13 @@
 //! after it. What follows of many calls, one after another, `store_runs` says.
 #![tactic(auto)]
 
+mod files;
 mod store;
 mod undone;
 
 pub use command_table::{NEWEST, Version};
 pub use desk_slots::{Document, Error};
+pub use files::{open_in_a_file, post_in_a_file};
 pub use store::{Info, Store};
 pub use store_layout::{JOURNAL_EVENTS, STORE_SECTORS, finding_law, footprint_law, showing_law};
 pub use undone::{post_and_undo, post_and_undo_some, undo_and_redo};

@@ -2,7 +2,7 @@
 //!
 //! A clause sees a store as a `StoreView`. What each call promises is said in words, one for an outcome, of
 //! `specs/Opening.antt`, `specs/Posting.antt`, `specs/Checkpointing.antt` and `specs/Looking.antt`.
-ghost use Rattle.std.specs.Prelude.{◌≡◌, ◌<◌, ◌≤◌, ◌↔◌, true, false, Ok, Err, None, IfOk, IfErr, IfSome, IfNone, OnOk};
+ghost use Rattle.std.specs.Prelude.{◌≡◌, ◌≢◌, ◌<◌, ◌≤◌, ◌↔◌, true, false, Ok, Err, None, IfOk, IfErr, IfSome, IfNone, OnOk};
 ghost use Rattle.std.specs.Prelude.{IsErr, IsErrOf};
 ghost use Rattle.std.specs.Prelude.{option_map, IsTrue};
 ghost use Rattle.desktop_definitions.specs.Desktop.{empty_desktop, file_of};
@@ -11,11 +11,10 @@ ghost use Rattle.desk_slots.specs.Errors.{OfFormat, OfOpen, OfPost, OfLook, OfCh
 ghost use Rattle.desk_journal.specs.Looking.{OnlyLooks};
 ghost use Rattle.store_layout.specs.Meaning.{Shows, Standing};
 ghost use Rattle.store_layout.specs.declared.layout.TheConstants.{FIRST_LAYOUT};
-ghost use Rattle.desk_journal.specs.Bringing.{LeavesAllOrNone, IsBrought, IsUnwritten};
 ghost use Rattle.desk_journal.specs.Checkpointing.{LeavesDesktop, IsRenewed};
 ghost use Rattle.desk_journal.specs.Opening.{IsOpened, IsNoStore};
 ghost use Rattle.desk_journal.specs.Posting.{LeavesEither, IsAcknowledged, IsStarved, IsBroken, IsLast, IsWorn};
-ghost use Rattle.desk_journal.specs.Posting.{Behaves, HasRoom, IsUnusable, Needs, TurnsAway};
+ghost use Rattle.desk_journal.specs.Posting.{Behaves, HasRoom, IsUnusable, Needs, RecordsDone, TurnsAway};
 ghost use Rattle.desk_journal.specs.Migrating.{ChecksFirst};
 ghost use Rattle.command_table.specs.Versions.{version_number};
 ghost use Rattle.desk_journal.specs.Undoing.{ClosesOneGate, IsAdded, IsAt, IsLeft, IsTakenBack, LeavesUndone, OfUndo};
@@ -23,10 +22,12 @@ ghost use Rattle.desk_journal.specs.View.{IsDurable};
 ghost use Rattle.desk_slots.specs.Words.{Leaves, Nowhere, now, IsConfined, FailsAs, entries_of};
 ghost use Rattle.desk_slots.specs.Words.{ListsUnread, shown_screen};
 
+mod bringing;
+
 use command_table::{NEWEST, Version};
 use desk_slots::{
-    Document, Earlier, Error, LiveDesktop, SlotPlace, lay_out, load, load_earlier, read_events,
-    record, renew, take_back,
+    Earlier, Error, LiveDesktop, SlotPlace, lay_out, load, load_earlier, read_events, record,
+    renew, take_back,
 };
 use desktop_definitions::{Entry, Reply};
 use event_bytes::{Event, Name};
@@ -179,6 +180,7 @@ impl<D: Disk> Store<D> {
         ensures ok { IfOk result (λ reply. IsAcknowledged D.Disk event.now reply self.old self.new) }
         ensures memory { IsErrOf result Error.NoMemory → IsStarved D.Disk self.old self.new }
         ensures fault { IsErrOf result Error.Fault → IsBroken self.new }
+        ensures recorded { IsErrOf result Error.Fault → RecordsDone D.Disk event.now self.old self.new }
         ensures worn { IsWorn result self.old self.new }
         ensures behaves { Behaves D.Disk OfPost result self.old self.new }
         ensures first { self.old.must_reopen ≡ false → Needs self.old
@@ -206,6 +208,7 @@ impl<D: Disk> Store<D> {
         ensures ok { IfOk result (λ reply. IsAcknowledged D.Disk event.now reply self.old self.new) }
         ensures memory { IsErrOf result Error.NoMemory → IsStarved D.Disk self.old self.new }
         ensures fault { IsErrOf result Error.Fault → IsBroken self.new }
+        ensures recorded { IsErrOf result Error.Fault → RecordsDone D.Disk event.now self.old self.new }
         ensures behaves { Behaves D.Disk OfLook result self.old self.new }
         ensures added { OnOk result (IsAdded D.Disk event.now self.old self.new) }
     {
@@ -240,7 +243,7 @@ impl<D: Disk> Store<D> {
         ensures ok { IfOk result (λ events. IsTakenBack D.Disk count events.items self.old self.new) }
         ensures left { IsErr result → self.old.must_reopen ≡ false → self.new.must_reopen ≡ false
             → IsLeft D.Disk self.old self.new }
-        ensures memory { IsErrOf result Error.NoMemory → self.new.must_reopen ≡ false }
+        ensures in_use { IfErr result (λ e. e ≢ Error.Fault → e ≢ Error.MustReopen → self.new.must_reopen ≡ false) }
         ensures stops { D.honest self.old.disk → IfErr result OfLook }
         ensures behaves { Behaves D.Disk OfUndo result self.old self.new }
     {
@@ -314,50 +317,6 @@ impl<D: Disk> Store<D> {
         self.events = 0;
         self.must_reopen = false;
         Ok(())
-    }
-
-    /// Each document becomes the file of its name, in their order, or none does: the desktop with all of them goes whole
-    /// into the slot that isn't in use, in the newest version, and that is the slot in use then, with an empty journal.
-    /// No where there would be more files at the end than there may be, or where the desktop would pass the limits on
-    /// characters: then nothing is written. At each moment a crash leaves the desktop from before or the one with all
-    /// documents.
-    ///
-    /// Errors: `MustReopen` after an earlier `NoMemory` or `Fault`; `Worn` where the epoch is the last one. These change
-    /// nothing. `NoMemory`, and nothing was written; `Fault`, and the documents may be there, all or none. After these
-    /// the store must be opened again.
-    pub fn bring(&mut self, alloc: Global, documents: &[Document]) -> Result<Reply, Error>
-        ensures any_moment { LeavesAllOrNone D.Disk documents.now self.old self.new }
-        ensures ok { IfOk result (λ reply. IsBrought D.Disk documents.now reply self.old self.new) }
-        ensures memory { IsErrOf result Error.NoMemory → IsUnwritten D.Disk self.old self.new }
-        ensures fault { IsErrOf result Error.Fault → IsBroken self.new }
-        ensures worn { TurnsAway (IsErrOf result Error.Worn) (IsLast self.old) self.old self.new }
-        ensures behaves { Behaves D.Disk OfPost result self.old self.new }
-    {
-        if self.must_reopen {
-            return Err(Error::MustReopen);
-        }
-        if self.epoch == LAST_EPOCH {
-            return Err(Error::Worn);
-        }
-        self.must_reopen = true;
-        let reply = self.desktop.bring(alloc, documents, &mut self.disk)?;
-        if let Reply::No(_) = reply {
-            self.must_reopen = false;
-            return Ok(reply);
-        }
-        let place = SlotPlace {
-            slot: 1 - self.slot,
-            epoch: self.epoch + 1,
-            area: self.desktop.next_area(),
-            saved: self.desktop.saved(),
-        };
-        renew(&mut self.disk, &mut self.desktop, place)?;
-        self.slot = place.slot;
-        self.version = NEWEST;
-        self.epoch = place.epoch;
-        self.events = 0;
-        self.must_reopen = false;
-        Ok(reply)
     }
 
     /// The characters of the file of that name, each a byte and its look; None where there is none.

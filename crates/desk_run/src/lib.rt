@@ -1,14 +1,18 @@
 //! What a run of the program `desk` does: its arguments say what (the crate `desk_arguments`), and it is done over a
-//! store (the crate `desk_stores`). A person who sits down is served by the crate `desk_session` (`sitting`).
+//! store (the crates `desk_stores` and `desk_documents`). A person who sits down is served by the crate `desk_session` (`sitting`).
 #![tactic(auto)]
 
 mod endings;
 mod sitting;
 
 use crate::sitting::{sit_at, sit_in_memory};
-use desk_arguments::{Order, Refusal, order_of, words};
+use desk_arguments::{Export, Import, Order, Refusal, order_of, words};
+use desk_documents::{
+    Manner, Stop, backup, check, earlier, events_back, export_all, export_names, import, list,
+    list_json,
+};
 use desk_session::Saying;
-use desk_stores::{Trouble, export, import, picture};
+use desk_stores::{Trouble, picture};
 
 /// Does what the arguments of the program ask for, and returns the status: 0 when done, 1 where a document is refused,
 /// 2 for other arguments, 3 where the file holds no store or a damaged one, 4 where there is no file, the host refuses
@@ -30,7 +34,7 @@ fn decline(rt: &HostRuntime, refusal: Refusal) -> u8 {
         Refusal::Memory => Trouble::Memory.say(rt, ""),
         Refusal::Usage => {
             let _ = eprintln!(rt;
-                "desk: usage: sit [--unproved] ROWS [PATH] | picture PATH | export PATH NAME | import PATH NAME FILE, in UTF-8"
+                "desk: usage: sit [--unproved] ROWS [PATH] | picture PATH | import PATH FILE.. | export PATH NAME.. | list PATH | backup PATH COPY | check PATH | history PATH | earlier PATH K COPY, in UTF-8"
             );
             2
         }
@@ -51,8 +55,48 @@ fn follow(rt: &HostRuntime, order: &Order<'_>) -> u8 {
             path: Some(path),
         } => sit_at(rt, *rows, path, greeting(*unproved)),
         Order::Picture(path) => told(rt, path, picture(rt, path)),
-        Order::Export { path, name } => told(rt, path, export(rt, path, name)),
-        Order::Import { path, name, file } => told(rt, path, import(rt, path, name, file)),
+        other => follow_over_documents(rt, other),
+    }
+}
+
+/// The same for an order about the documents of a store.
+fn follow_over_documents(rt: &HostRuntime, order: &Order<'_>) -> u8 {
+    match order {
+        Order::Export(order) => done(rt, order.path, put_out(rt, order)),
+        Order::Import(order) => done(rt, order.path, take_in(rt, order)),
+        Order::List { path, json: false } => done(rt, path, list(rt, path)),
+        Order::List { path, json: true } => done(rt, path, list_json(rt, path)),
+        Order::Backup { path, copy } => done(rt, path, backup(rt, path, copy)),
+        Order::Check(path) => done(rt, path, check(rt, path)),
+        Order::History(path) => done(rt, path, events_back(rt, path)),
+        Order::Earlier { path, count, copy } => done(rt, path, earlier(rt, path, *count, copy)),
+        _ => 0,
+    }
+}
+
+/// Puts documents out.
+fn put_out(rt: &HostRuntime, order: &Export<'_>) -> Result<(), Stop> {
+    match order.all {
+        None => export_names(rt, order.path, order.names.as_slice()),
+        Some(folder) => export_all(rt, order.path, folder, order.replace),
+    }
+}
+
+/// Takes documents in.
+fn take_in(rt: &HostRuntime, order: &Import<'_>) -> Result<(), Stop> {
+    let manner = Manner {
+        replace: order.replace,
+        dry_run: order.dry_run,
+        ascii: order.ascii,
+    };
+    import(rt, order.path, order.words.as_slice(), manner)
+}
+
+/// Says why an order was not done, if it wasn't, and returns the status.
+fn done(rt: &HostRuntime, path: &str, outcome: Result<(), Stop>) -> u8 {
+    match outcome {
+        Ok(()) => 0,
+        Err(stop) => stop.say(rt, path),
     }
 }
 

@@ -5,8 +5,8 @@ use crate::endings::{kept, lost};
 use desk_journal::Store;
 use desk_keyboard::{DeskKeyboard, StandardInput};
 use desk_session::{Saying, SittingEnd, serve};
-use desk_stores::{Trouble, in_memory, make, new_file, opened};
-use host_files::{HostFault, lock_alone};
+use desk_stores::{NewFile, Trouble, in_memory, make, new_file, opened_locked};
+use host_files::{HostFault, LockedFile, lock_alone};
 use sector_disk::Disk;
 
 /// Serves a person at the desktop of a new store in memory, and returns the status.
@@ -20,15 +20,15 @@ pub(crate) fn sit_in_memory(rt: &HostRuntime, rows: u16) -> u8 {
 /// Serves a person at the desktop of the store in a file, which is made where there is none, and returns the status.
 pub(crate) fn sit_at(rt: &HostRuntime, rows: u16, path: &str, greeting: Saying) -> u8 {
     match lock_alone(rt, path) {
-        Ok(_lock) => sit_at_locked(rt, rows, path, greeting),
+        Ok(file) => sit_at_locked(rt, rows, file, path, greeting),
         Err(HostFault::Missing) => sit_at_new(rt, rows, path, greeting),
         Err(fault) => Trouble::Host(fault).say(rt, path),
     }
 }
 
-/// The same, while the file is locked.
-fn sit_at_locked(rt: &HostRuntime, rows: u16, path: &str, greeting: Saying) -> u8 {
-    match opened(rt, path) {
+/// The same, in the file of that path, which is locked.
+fn sit_at_locked(rt: &HostRuntime, rows: u16, file: LockedFile, path: &str, greeting: Saying) -> u8 {
+    match opened_locked(rt, file) {
         Ok(store) => kept(rt, path, sit(rt, rows, store, greeting)),
         Err(trouble) => trouble.say(rt, path),
     }
@@ -38,13 +38,13 @@ fn sit_at_locked(rt: &HostRuntime, rows: u16, path: &str, greeting: Saying) -> u
 /// there is a whole store or none, whenever the making is stopped.
 fn sit_at_new(rt: &HostRuntime, rows: u16, path: &str, greeting: Saying) -> u8 {
     match new_file(rt, path) {
-        Ok(made) => sit_at_made(rt, rows, made.name.as_str(), path, greeting),
+        Ok(made) => sit_at_made(rt, rows, made, path, greeting),
         Err(trouble) => trouble.say(rt, path),
     }
 }
 
-/// The same, while the file under the other name is locked.
-fn sit_at_made(rt: &HostRuntime, rows: u16, made: &str, path: &str, greeting: Saying) -> u8 {
+/// The same, in the file under the other name.
+fn sit_at_made(rt: &HostRuntime, rows: u16, made: NewFile, path: &str, greeting: Saying) -> u8 {
     match make(rt, made, path) {
         Ok(store) => kept(rt, path, sit(rt, rows, store, greeting)),
         Err(trouble) => trouble.say(rt, path),

@@ -1,3 +1,4 @@
 pub mod Surviving
 pub mod Turning
 pub mod Whole
+pub mod Between

@@ -91,7 +91,7 @@ pub calm_presses : {T : Type 0} (value : T) (first failed failed' : ℕ) → fai
 calm_presses value first failed failed' same fails = fails.calm (λ wrong. cc) ∙ same
 
 -- after a press that fails nothing is promised of the store
-unusable : {D : Type 0} (error : Error) (store : StoreView D) → OfPresses error → IsUsableAt (end_of error) store
+pub unusable : {D : Type 0} (error : Error) (store : StoreView D) → OfPresses error → IsUsableAt (end_of error) store
 unusable error store why = elim why [
   | inl is ↦ subst (λ e. IsUsableAt (end_of e) store) (sym is) (λ _ wrong. absurd (wrong refl))
   | inr is ↦ subst (λ e. IsUsableAt (end_of e) store) (sym is) (λ wrong _. absurd (wrong refl))

@@ -2,7 +2,7 @@
 //!
 //! `serve` goes on turn by turn (`specs/Serving.antt`): a scene is shown (`specs/Scenes.antt`), something is heard, and
 //! what is pressed by it is done (the crate `desk_sitting`), each event acknowledged before the next scene. A whole
-//! sitting is `IsSat` of `specs/Sitting.antt`. What a crash leaves of it, from any of its places on, is said in
+//! sitting is `Sits` of `specs/Sitting.antt`. What a crash leaves of it, from any of its places on, is said in
 //! `specs/Surviving.antt`, and `sittings_survive` is the theorem: what was shown is never lost.
 #![tactic(auto)]
 
@@ -12,5 +12,5 @@ mod serving;
 
 pub use desk_sitting::Saying;
 pub use ending::SittingEnd;
-pub use laws::sittings_survive;
+pub use laws::{sittings_survive, sittings_survive_in_files};
 pub use serving::{MOST_TURNS, serve};

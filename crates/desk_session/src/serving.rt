@@ -1,5 +1,8 @@
 //! A sitting over a store, turn by turn.
-ghost use Rattle.std.specs.Prelude.{◌≡◌, Bool, false, OnOk, OnErr, IfErr, IfSome};
+ghost use Rattle.std.specs.Prelude.{◌≡◌, ℕ, Bool, false, OnOk, OnErr, IfErr, IfSome, List, Option};
+ghost use Rattle.terminal_presses.specs.declared.parser.Parser.{Parser as AParser};
+ghost use Rattle.terminal_presses.specs.declared.press.Heard.{Heard};
+ghost use Rattle.terminal_painting.specs.declared.face.Face.{Face};
 ghost use Rattle.output_bytes.specs.Sent.{Sends};
 ghost use Rattle.desk_journal.specs.Device.{IsSameDevice};
 ghost use Rattle.desk_journal.specs.View.{IsDurable};
@@ -12,12 +15,13 @@ ghost use Rattle.desk_session.specs.Endings.{EndsBy, IsOfNoKeyboard};
 ghost use Rattle.desk_session.specs.Scenes.{after_scene, bell, known_by, request, size_request};
 ghost use Rattle.desk_session.specs.Serving.{CountsEnding, CountsTurn, IsBrought, IsLookedAt, IsUsableAt};
 ghost use Rattle.desk_session.specs.Serving.{TakesTurn, first_place, place_of, screen_of};
-ghost use Rattle.desk_session.specs.Sitting.{IsSat};
+ghost use Rattle.desk_session.specs.Sitting.{Sits, Steps};
+ghost use Rattle.desk_session.specs.Travelling.{TakesBetween};
 
 use crate::ending::SittingEnd;
 use crate::laws::sittings_survive;
 use desk_journal::Store;
-use desk_sitting::{Saying, Sitting, do_presses};
+use desk_sitting::{Saying, Sitting, do_presses, travel};
 use output_bytes::{OutputFault, flush, send};
 use screen_cells::Screen;
 use sector_disk::Disk;
@@ -49,7 +53,7 @@ pub fn serve<K: Keyboard, W: Write, D: Disk>(
     greeting: Saying,
 ) -> SittingEnd
     requires { store.old.must_reopen ≡ false }
-    ensures sat { D.honest store.old.disk → IsSat D.Disk result
+    ensures sat { D.honest store.old.disk → Sits D.Disk result
         (first_place height greeting store.old (K.heard keyboard.old) (W.contents writer.old))
         store.new (K.heard keyboard.new) (W.contents writer.new) }
     ensures device { IsSameDevice D.Disk store.old.disk store.new.disk }
@@ -65,7 +69,7 @@ pub fn serve<K: Keyboard, W: Write, D: Disk>(
     let mut parser = Parser::new();
     let mut painter = Painter::new();
     for _count in 0..MOST_TURNS {
-        if let Err(end) = turn(
+        if let Err(end) = step(
             alloc,
             &mut sitting,
             &mut parser,
@@ -78,6 +82,44 @@ pub fn serve<K: Keyboard, W: Write, D: Disk>(
         }
     }
     SittingEnd::TooLong
+}
+
+/// One turn, of either kind: what was asked for beside the presses is done at once, before anything is shown.
+///
+/// Errors: those of `turn` and `go`.
+fn step<K: Keyboard, W: Write, D: Disk>(
+    alloc: Global,
+    sitting: &mut Sitting,
+    parser: &mut Parser,
+    painter: &mut Painter,
+    keyboard: &mut K,
+    writer: &mut W,
+    store: &mut Store<D>,
+) -> Result<(), SittingEnd>
+    requires { store.old.must_reopen ≡ false }
+    ensures steps { Steps D.Disk result
+        (place_of parser.old sitting.old store.old (K.heard keyboard.old) painter.old (W.contents writer.old))
+        (place_of parser.new sitting.new store.new (K.heard keyboard.new) painter.new (W.contents writer.new)) }
+    ensures ended { IfErr result (EndsBy (K.ended keyboard.new)) }
+{
+    if sitting.travels.is_none() {
+        turn(alloc, sitting, parser, painter, keyboard, writer, store)
+    } else {
+        go(alloc, sitting, store)
+    }
+}
+
+/// An event is taken back, or done again. Nothing is shown and heard.
+///
+/// Errors: `Fault` and `Memory`.
+fn go<D: Disk>(alloc: Global, sitting: &mut Sitting, store: &mut Store<D>) -> Result<(), SittingEnd>
+    requires { store.old.must_reopen ≡ false }
+    ensures between { (parser : AParser) (heard : List Heard) (known : List (List Face)) (held : Option (List ℕ))
+        → TakesBetween D.Disk result (place_of parser sitting.old store.old heard known held)
+        (place_of parser sitting.new store.new heard known held) }
+    ensures cause { IfErr result IsOfNoKeyboard }
+{
+    Ok(travel(alloc, sitting, store)?)
 }
 
 /// One turn: the desktop is shown, something is heard, and what is pressed by it is done.

@@ -1,5 +1,5 @@
 -- The events of presses that are accepted lead to the desktop after them.
-use Rattle.std.proofs.Common.{◌≡◌, inl, inr, ℕ, Bool, true, false, List, [], ◌∷◌, ◌++◌, Option, Some, None, refl, sym}
+use Rattle.std.proofs.Common.{◌≡◌, inl, inr, ℕ, Bool, true, false, [], ◌∷◌, Option, Some, None, refl, sym}
 use Rattle.std.proofs.Common.{◌∙◌, ap}
 use Rattle.std.specs.Prelude.{if◌then◌else◌}
 use Rattle.std.proofs.lemmas.Bool.{cond-true, cond-false}
@@ -61,6 +61,8 @@ action_steps (action.Post event) s d = taken_steps d.session event
 action_steps action.Ring s d = no_steps (is_worn d.session) d.session.desktop
 action_steps action.LookAnew s d = no_steps (is_worn d.session) d.session.desktop
 action_steps action.Leave s d = no_steps (is_worn d.session) d.session.desktop
+action_steps action.Undo s d = no_steps (is_worn d.session) d.session.desktop
+action_steps action.Redo s d = no_steps (is_worn d.session) d.session.desktop
 action_steps (action.TypeFile name) s d = no_steps (is_worn d.session) d.session.desktop
 action_steps (action.Move page) s d = no_steps (is_worn d.session) d.session.desktop
 action_steps (action.Step arrow) s d =

@@ -2,3 +2,4 @@ pub mod Sessions
 pub mod Taking
 pub mod Accepted
 pub mod Done
+mod Travelling

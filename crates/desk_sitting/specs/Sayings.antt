@@ -9,7 +9,11 @@ use Rattle.terminal_presses.specs.declared.action.Click.{Click}
 use Rattle.terminal_presses.specs.declared.action.Click.TheVariants.{Mark, Keys}
 use Rattle.desk_sitting.specs.declared.saying.Saying.{Saying}
 use Rattle.desk_sitting.specs.declared.saying.Saying.TheVariants.{Nothing, Greeting, Unproved, InMemory, Refused, CutShort}
-use Rattle.desk_sitting.specs.declared.saying.Saying.TheVariants.{Worn, Unread, Unfinished, TooNarrow}
+use Rattle.desk_sitting.specs.declared.saying.Saying.TheVariants.{Worn, Unread, Unfinished, TooNarrow, TookBack, DidAgain}
+use Rattle.desk_sitting.specs.declared.saying.Saying.TheVariants.{NothingBack, NothingAgain, NotBack}
+use Rattle.desk_sitting.specs.declared.deed.Deed.{Deed}
+use Rattle.desk_sitting.specs.declared.deed.Deed.TheVariants as deed
+use Rattle.desk_sitting.specs.Deeds.{deed_words}
 
 -- why an event is refused, by the code of the refusal from 0 on
 abbrev pub reasons : List (List ℕ)
@@ -59,6 +63,15 @@ abbrev pub click_words : Click → List ℕ
 click_words Mark = codes "the next click sets the marker"
 click_words (Keys keys) = keys_words keys
 
+-- of what was typed it is said how many characters these were
+abbrev pub number_of : Deed → List ℕ
+number_of (deed.Typed count) = decimal count
+number_of _ = []
+
+-- what was taken back, or done again
+unfoldable pub told : List ℕ → Deed → List ℕ
+told before what = before ++ number_of what ++ deed_words what
+
 unfoldable pub words : Saying → List ℕ
 words Nothing = []
 words Greeting = codes "Middle button, or F2 and then a click, calls the word there; Ctrl-Q leaves"
@@ -70,6 +83,11 @@ words Worn = codes "This store takes no more events: its epochs are used up."
 words Unread = codes "The host's file can't be read, and nothing was typed."
 words Unfinished = codes "The host's file can't be read to its end; what came of it is typed."
 words TooNarrow = codes "This window is too narrow: it has fewer than 80 columns."
+words (TookBack what) = told (codes "took back: ") what
+words (DidAgain what) = told (codes "did again: ") what
+words NothingBack = codes "There is nothing to take back."
+words NothingAgain = codes "There is nothing to do again."
+words NotBack = codes "What was before can't be read, and nothing was taken back."
 
 -- a name of a host file as far as it is typed, of which the end is seen
 abbrev pub question : List ℕ → List ℕ

@@ -19,6 +19,8 @@ use Rattle.desk_sitting.specs.declared.saying.Saying.{Saying}
 use Rattle.desk_sitting.specs.declared.saying.Saying.TheVariants.{Nothing, Refused, CutShort, Worn, Unread}
 use Rattle.desk_sitting.specs.declared.saying.Saying.TheVariants.{Unfinished, TooNarrow}
 use Rattle.desk_sitting.specs.declared.sitting.Sitting.{Sitting}
+use Rattle.desk_sitting.specs.declared.sitting.Travel.TheVariants.{Back, Again}
+use Rattle.desk_sitting.specs.Again.{no_again}
 use Rattle.desk_sitting.specs.Aims.{aimed, caret_of}
 use Rattle.desk_journal.specs.Session.{Session, is_worn, taken}
 use Rattle.desk_sitting.specs.Windows.{fitted, followed, height_told, is_narrow, moved}
@@ -43,6 +45,8 @@ new_sitting height greeting = record {
   wanted = None;
   asks = false;
   typed = None;
+  travels = None;
+  again = no_again;
 }
 
 -- the terminal rings, and the line below says why
@@ -130,6 +134,8 @@ unfoldable pub acted_alone : Action → Sitting → Sitting
 acted_alone action.Ring s = refused Nothing s
 acted_alone action.LookAnew s = record s { forgets = true; asks = true }
 acted_alone action.Leave s = record s { leaves = true }
+acted_alone action.Undo s = record s { travels = Some Back }
+acted_alone action.Redo s = record s { travels = Some Again }
 acted_alone (action.TypeFile name) s = record s { wanted = Some name }
 acted_alone (action.Move page) s = record s { sight = moved page s.sight; follows = false }
 acted_alone (action.Fit rows columns) s = record s {

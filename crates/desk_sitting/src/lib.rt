@@ -6,14 +6,20 @@
 //! line below says what was refused (`saying`).
 #![tactic(auto)]
 
+mod again;
 mod aim;
+mod deed;
 mod doing;
 mod laws;
 mod saying;
 mod sitting;
+mod travels;
 mod window;
 
+pub use again::{Again, MOST_AGAIN, Place};
+pub use deed::Deed;
 pub use doing::do_presses;
 pub use laws::presses_are_steps;
 pub use saying::{Saying, SayingLine};
-pub use sitting::Sitting;
+pub use sitting::{Sitting, Travel};
+pub use travels::travel;

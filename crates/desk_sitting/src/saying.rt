@@ -1,8 +1,9 @@
 //! What the line below the screen says.
 ghost use Rattle.std.specs.Prelude.{◌≡◌, ◌≤◌, length, option_map};
 ghost use Rattle.desk_sitting.specs.Sayings.{click_words, cut_short, keys_words, line_of, question, reason};
-ghost use Rattle.desk_sitting.specs.Sayings.{short_reason, words};
+ghost use Rattle.desk_sitting.specs.Sayings.{short_reason, told, words};
 
+use crate::deed::Deed;
 use arrayvec::ArrayVec;
 use event_bytes::Keys;
 use terminal_presses::Click;
@@ -36,6 +37,16 @@ pub enum Saying {
     Unfinished,
     /// The terminal has fewer columns than the display.
     TooNarrow,
+    /// This was taken back.
+    TookBack(Deed),
+    /// This was done again.
+    DidAgain(Deed),
+    /// There is no event that can be taken back.
+    NothingBack,
+    /// There is nothing that can be done again.
+    NothingAgain,
+    /// What was before can't be read.
+    NotBack,
 }
 
 /// Why an event was refused, by the code of the refusal.
@@ -147,6 +158,11 @@ impl Saying {
                 b"The host's file can't be read to its end; what came of it is typed.",
             ),
             Saying::TooNarrow => line(b"This window is too narrow: it has fewer than 80 columns."),
+            Saying::TookBack(deed) => told(b"took back: ", deed),
+            Saying::DidAgain(deed) => told(b"did again: ", deed),
+            Saying::NothingBack => line(b"There is nothing to take back."),
+            Saying::NothingAgain => line(b"There is nothing to do again."),
+            Saying::NotBack => line(b"What was before can't be read, and nothing was taken back."),
         }
     }
 }
@@ -185,5 +201,21 @@ fn line(words: &[u8]) -> SayingLine
 {
     let mut text = SayingLine::new();
     text.try_extend_from_slice(words).unwrap();
+    text
+}
+
+/// What was taken back, or done again.
+#[tactic(auto, unfolding(crate::specs::Sayings::told))]
+fn told(before: &[u8], deed: Deed) -> SayingLine
+    requires { length before.now ≤ 11 }
+    ensures { result.items ≡ told before.now deed }
+{
+    let mut text = line(before);
+    if let Deed::Typed(count) = deed {
+        let mut digits = itoa::Buffer::new();
+        text.try_extend_from_slice(digits.format(count).as_bytes())
+            .unwrap();
+    }
+    text.try_extend_from_slice(deed.words()).unwrap();
     text
 }

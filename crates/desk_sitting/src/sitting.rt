@@ -7,6 +7,7 @@ ghost use Rattle.desk_sitting.specs.Sittings.{acted, acted_alone, after_press, b
 ghost use Rattle.desk_sitting.specs.Sittings.{came_to, fitted_saying, posted, refused, replied, turned_away};
 ghost use Rattle.desk_sitting.specs.Sittings.{typed_more, with_hand};
 
+use crate::again::Again;
 use crate::aim::{aimed, caret_of};
 use crate::saying::{Saying, SayingLine, line_of};
 use crate::window::{fitted, followed, height_told, is_narrow, moved};
@@ -18,8 +19,15 @@ use sector_disk::Disk;
 use std::alloc::Global;
 use terminal_presses::{Action, Arrow, Hand, HostName, Press, Sight};
 
+/// What is asked for beside a press: to take the last event back, or to do again what was taken back last.
+#[derive(Clone, Copy, Debug, PartialEq, Eq)]
+pub enum Travel {
+    Back,
+    Again,
+}
+
 /// What doing a press comes to: it is done, or why it isn't.
-type Doing = Result<(), Error>;
+pub(crate) type Doing = Result<(), Error>;
 
 /// What a sitting knows beside the store: the hand, the rows in sight, the line below, and what is to be done when the
 /// screen is shown next.
@@ -45,6 +53,10 @@ pub struct Sitting {
     pub asks: bool,
     /// How many characters are typed of the text that was pasted when something was pressed last. None where none was.
     pub typed: Option<u32>,
+    /// An event is to be taken back, or done again.
+    pub travels: Option<Travel>,
+    /// What was taken back, as far as it can be done again.
+    pub again: Again,
 }
 
 impl Sitting {
@@ -63,6 +75,8 @@ impl Sitting {
             wanted: None,
             asks: false,
             typed: None,
+            travels: None,
+            again: Again::none(),
         }
     }
 
@@ -74,7 +88,7 @@ impl Sitting {
     }
 
     /// An event is refused, or can't be made: the terminal rings, and the line below says why.
-    fn refuse(&mut self, saying: Saying)
+    pub(crate) fn refuse(&mut self, saying: Saying)
         ensures { self.new ≡ refused saying self.old }
     {
         self.saying = saying;
@@ -204,6 +218,8 @@ impl Sitting {
                 self.asks = true;
             }
             Action::Leave => self.leaves = true,
+            Action::Undo => self.travels = Some(Travel::Back),
+            Action::Redo => self.travels = Some(Travel::Again),
             Action::Move(page) => {
                 self.sight = moved(page, self.sight);
                 self.follows = false;
@@ -256,7 +272,12 @@ impl Sitting {
     }
 
     /// Posts an event.
-    fn post<D: Disk>(&mut self, alloc: Global, event: &Event, store: &mut Store<D>) -> Doing
+    pub(crate) fn post<D: Disk>(
+        &mut self,
+        alloc: Global,
+        event: &Event,
+        store: &mut Store<D>,
+    ) -> Doing
         requires { store.old.must_reopen ≡ false }
         ensures { Takes D.Disk (posted event.now (seat_of self.old store.old)) result self.new store.old store.new }
     {

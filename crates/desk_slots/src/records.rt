@@ -1,5 +1,5 @@
 //! The two steps that put an event into the journal.
-ghost use Rattle.std.specs.Prelude.{◌≡◌, ◌+◌, ◌<◌, ◌≤◌, true, false, ℕ, Ok, OnOk, IfOk, IsErrOf};
+ghost use Rattle.std.specs.Prelude.{◌≡◌, ◌⊎◌, ◌+◌, ◌<◌, ◌≤◌, true, false, ℕ, Ok, OnOk, IfOk, IsErrOf};
 ghost use Rattle.desktop_definitions.specs.Desktop.{Desktop};
 ghost use Rattle.desktop_definitions.specs.Step.{outcome_of};
 ghost use Rattle.store_layout.specs.Layout.{is_open, gate, body};
@@ -109,6 +109,14 @@ pub fn record<D: Disk>(
         (seen_live (now (D.trail disk.old)).reads desktop.old)
         → LeavesOnly (D.trail disk.old) (D.trail disk.new)
         (Means (D.size disk.old) (seen_live (now (D.trail disk.old)).reads desktop.old)) }
+    // At a fault the event is in no image, or the desktop has done it.
+    ensures broken { IsErrOf result Error.Fault → D.honest disk.old → (number : ℕ)
+        → IsKept (D.size disk.old) (D.trail disk.old) slot LAYOUT number k
+        (seen_live (now (D.trail disk.old)).reads desktop.old)
+        → LeavesOnly (D.trail disk.old) (D.trail disk.new)
+        (Means (D.size disk.old) (seen_live (now (D.trail disk.old)).reads desktop.old))
+        ⊎ (seen_live (now (D.trail disk.new)).reads desktop.new
+        ≡ (step (seen_live (now (D.trail disk.old)).reads desktop.old) event.now).desktop) }
     ensures added { OnOk result (D.honest disk.old → (number : ℕ)
         → IsKept (D.size disk.old) (D.trail disk.old) slot LAYOUT number k
         (seen_live (now (D.trail disk.old)).reads desktop.old)

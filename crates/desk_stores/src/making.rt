@@ -4,19 +4,18 @@ ghost use Rattle.std.specs.Prelude.{◌≡◌, false, IfOk};
 use crate::stores::new_store;
 use crate::trouble::Trouble;
 use desk_journal::{Error, Store};
-use host_files::{HostFault, is_there, lock_new, remove, rename_new, sync_folder};
+use host_files::{HostFault, LockedFile, is_there, lock_new, remove, rename_new, sync_folder};
+use host_stores::emptied;
 use sector_disk::FileDisk;
-use std::fs::File;
 
 /// How many names are tried for the file that is to become a store.
 const MOST_NAMES: u8 = 9;
 
-/// A file that this program has made. It is locked as long as this lasts.
+/// A file that this program has made and locked.
 #[derive(Drop)]
 pub struct NewFile {
-    /// Its name.
-    pub name: String,
-    lock: File,
+    name: String,
+    file: LockedFile,
 }
 
 /// Makes the file that is to become the store `path`, in the same folder, under a name that nothing has: that of the
@@ -25,7 +24,7 @@ pub fn new_file(rt: &HostRuntime, path: &str) -> Result<NewFile, Trouble> {
     for number in 1..=MOST_NAMES {
         let name = name_of(rt, path, number)?;
         match lock_new(rt, name.as_str()) {
-            Ok(lock) => return Ok(NewFile { name, lock }),
+            Ok(file) => return Ok(NewFile { name, file }),
             Err(HostFault::Taken) => {}
             Err(fault) => return Err(Trouble::Making(fault)),
         }
@@ -42,25 +41,35 @@ fn name_of(rt: &HostRuntime, path: &str, number: u8) -> Result<String, Trouble> 
     }
 }
 
-/// Makes a store in the file `made`, which this program has made and locked, and gives it the name `path`. Where that
-/// fails `made` is taken away, and what has the name `path` by then stays. The store is durable under its name when this
-/// has returned it.
-pub fn make(rt: &HostRuntime, made: &str, path: &str) -> Result<Store<FileDisk>, Trouble>
+/// Makes a store in the new file, and gives it the name `path`. Where that fails the file is taken away, and what has the
+/// name `path` by then stays. The store is durable under its name when this has returned it, and locked as long as it
+/// lasts.
+pub fn make(
+    rt: &HostRuntime,
+    made: NewFile,
+    path: &str,
+) -> Result<Store<FileDisk<LockedFile>>, Trouble>
     ensures { IfOk result (λ store. store.must_reopen ≡ false) }
 {
-    let store = made_store(rt, made, path);
+    let NewFile { name, file } = made;
+    let store = made_store(rt, name.as_str(), file, path);
     if store.is_err() {
-        let _ = remove(rt, made);
+        let _ = remove(rt, name.as_str());
     }
     store
 }
 
-/// The same, but where it fails `made` may stay.
-fn made_store(rt: &HostRuntime, made: &str, path: &str) -> Result<Store<FileDisk>, Trouble>
+/// The same in the file of the name `made`, but where it fails this may stay.
+fn made_store(
+    rt: &HostRuntime,
+    made: &str,
+    file: LockedFile,
+    path: &str,
+) -> Result<Store<FileDisk<LockedFile>>, Trouble>
     ensures { IfOk result (λ store. store.must_reopen ≡ false) }
 {
     look_for_another(rt, path)?;
-    let store = store_in(rt, made)?;
+    let store = store_in(rt, file)?;
     give_name(rt, made, path)?;
     Ok(store)
 }
@@ -74,11 +83,11 @@ fn look_for_another(rt: &HostRuntime, path: &str) -> Result<(), Trouble> {
     }
 }
 
-/// A new store in a file.
-fn store_in(rt: &HostRuntime, made: &str) -> Result<Store<FileDisk>, Trouble>
+/// A new store in a file of which nothing is left.
+fn store_in(rt: &HostRuntime, file: LockedFile) -> Result<Store<FileDisk<LockedFile>>, Trouble>
     ensures { IfOk result (λ store. store.must_reopen ≡ false) }
 {
-    let Ok(disk) = FileDisk::create(rt, made) else {
+    let Ok(disk) = emptied(file) else {
         return Err(Trouble::Making(HostFault::Refused));
     };
     match new_store(rt, disk) {

@@ -4,20 +4,29 @@ ghost use Rattle.std.specs.Prelude.{◌≡◌, false, IfOk};
 use crate::trouble::Trouble;
 use desk_journal::{Error, Store};
 use first_desk::furnish;
-use host_files::{HostFault, lock_shared};
-use host_stores::{formatted, opened as opened_on};
+use host_files::{HostFault, LockedFile, lock_shared};
+use host_stores::{formatted, in_locked_file, opened as opened_on};
 use sector_disk::{Disk, FILE_SECTORS, FileDisk, MemoryDisk};
-use std::fs::File;
 
 /// Takes the lock of a store's file for a look, beside other programs that look.
-pub(crate) fn looked_at(rt: &HostRuntime, path: &str) -> Result<File, Trouble> {
+pub fn looked_at(rt: &HostRuntime, path: &str) -> Result<LockedFile, Trouble> {
     match lock_shared(rt, path) {
         Ok(lock) => Ok(lock),
         Err(fault) => Err(Trouble::Host(fault)),
     }
 }
 
-/// The store in a file that is locked.
+/// The store in a file that is locked, and stays so as long as there is the store.
+pub fn opened_locked(
+    rt: &HostRuntime,
+    file: LockedFile,
+) -> Result<Store<FileDisk<LockedFile>>, Trouble>
+    ensures { IfOk result (λ store. store.must_reopen ≡ false) }
+{
+    Ok(in_locked_file(rt, file)?)
+}
+
+/// The store in a file, which the caller has locked.
 pub fn opened(rt: &HostRuntime, path: &str) -> Result<Store<FileDisk>, Trouble>
     ensures { IfOk result (λ store. store.must_reopen ≡ false) }
 {

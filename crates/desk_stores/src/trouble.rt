@@ -1,13 +1,11 @@
 //! What goes wrong, in sentences.
 
 use desk_journal::Error;
-use desktop_definitions::codes::{FULL, TOO_MANY_FILES};
-use host_documents::Unfit;
 use host_files::HostFault;
 use std::alloc::AllocError;
 use std::io;
 
-/// What went wrong with a store, or with a document on its way in or out.
+/// What went wrong with a store, or with what is said of it.
 #[derive(Clone, Copy, Debug, PartialEq, Eq)]
 pub enum Trouble {
     /// An allocation found no memory.
@@ -20,18 +18,10 @@ pub enum Trouble {
     JustMade,
     /// It is made, but isn't known to be durable under its name.
     Unsynced,
-    /// The host refused the file that is to be a document.
-    HostFile(HostFault),
     /// The store refused.
     Store(Error),
     /// A word is no document's name.
     Name,
-    /// The store has no document of that name.
-    NoDocument,
-    /// A file of the host's is no document.
-    Unfit(Unfit),
-    /// The desktop refused a document, with this code.
-    Refused(u8),
     /// The output failed.
     Output,
 }
@@ -61,12 +51,10 @@ impl Trouble {
     /// The status of the program.
     fn status(self) -> u8 {
         match self {
-            Trouble::Name | Trouble::NoDocument | Trouble::Unfit(_) | Trouble::Refused(_) => 1,
+            Trouble::Name => 1,
             Trouble::Store(Error::NotAStore | Error::Damaged(_)) => 3,
             Trouble::Memory | Trouble::Store(Error::NoMemory) => 5,
-            Trouble::Host(fault) | Trouble::Making(fault) | Trouble::HostFile(fault) => status_of(
-                fault,
-            ),
+            Trouble::Host(fault) | Trouble::Making(fault) => status_of(fault),
             _ => 4,
         }
     }
@@ -84,21 +72,10 @@ impl Trouble {
                 "desk: {path:?} was made, but its folder could not be synced, so a power failure may take it away"
             ),
             Trouble::Store(error) => refused_store(rt, path, error),
-            other => other.of_document(rt, path),
-        }
-    }
-
-    /// Says the sentence of what goes wrong with a document on its way in or out.
-    fn of_document(self, rt: &HostRuntime, path: &str) -> io::Result<()> {
-        match self {
             Trouble::Name => eprintln!(rt;
                 "desk: the name of a document is 1 to 31 letters, digits and periods, a letter first"
             ),
-            Trouble::NoDocument => eprintln!(rt; "desk: there is no such document in {path:?}"),
-            Trouble::HostFile(fault) => refused_text(rt, fault),
-            Trouble::Unfit(unfit) => unfit_text(rt, unfit),
-            Trouble::Refused(code) => refused_document(rt, path, code),
-            _ => eprintln!(rt; "desk: the output could not be written"),
+            Trouble::Output => eprintln!(rt; "desk: the output could not be written"),
         }
     }
 }
@@ -151,17 +128,6 @@ fn refused_making(rt: &HostRuntime, path: &str, fault: HostFault) -> io::Result<
     }
 }
 
-/// Why the host refused the file that is to be a document.
-fn refused_text(rt: &HostRuntime, fault: HostFault) -> io::Result<()> {
-    match fault {
-        HostFault::Missing => eprintln!(rt;
-            "desk: there is no such file to import, so nothing was done"
-        ),
-        HostFault::NoMemory => no_memory(rt),
-        _ => eprintln!(rt; "desk: the file to import could not be read, so nothing was done"),
-    }
-}
-
 /// Why the store refused.
 fn refused_store(rt: &HostRuntime, path: &str, error: Error) -> io::Result<()> {
     match error {
@@ -174,30 +140,5 @@ fn refused_store(rt: &HostRuntime, path: &str, error: Error) -> io::Result<()> {
             "desk: the store {path:?} takes no more events, since its epochs are used up, so nothing was done"
         ),
         _ => eprintln!(rt; "desk: reading or writing {path:?} failed"),
-    }
-}
-
-/// Why a file of the host's is no document.
-fn unfit_text(rt: &HostRuntime, unfit: Unfit) -> io::Result<()> {
-    match unfit {
-        Unfit::TooLong => eprintln!(rt;
-            "desk: the file to import has more than 900 bytes, so nothing was done; Ctrl-O at the desk types it"
-        ),
-        Unfit::Strange { place, byte } => eprintln!(rt;
-            "desk: byte {place} (from 0) of the file to import is {byte}, which no document has, so nothing was done"
-        ),
-    }
-}
-
-/// Why the desktop refused a document.
-fn refused_document(rt: &HostRuntime, path: &str, code: u8) -> io::Result<()> {
-    match code {
-        FULL => eprintln!(rt;
-            "desk: {path:?} has no room for so many characters more, so nothing was done"
-        ),
-        TOO_MANY_FILES => eprintln!(rt;
-            "desk: {path:?} has 256 documents already, so nothing was done"
-        ),
-        _ => eprintln!(rt; "desk: the desktop refused the document ({code}), so nothing was done"),
     }
 }

@@ -10,7 +10,7 @@ use Rattle.std.proofs.lemmas.List.Sums.{prefix_len-le-length}
 use Rattle.std.proofs.lemmas.List.{map-append}
 use Rattle.event_bytes.specs.Bytes.{is_text_byte, carriage_return}
 use Rattle.host_documents.specs.HostText.{line_feed, fed, exported, returned, text_after, is_strange}
-use Rattle.host_documents.specs.HostText.{first_strange}
+use Rattle.host_documents.specs.HostText.{first_strange, question_mark, printed, printable}
 
 pub map_twice : {A : Type 0} (f : A → ℕ) (g : ℕ → ℕ) (xs : List A) → map g (map f xs) ≡ map (λ x. g (f x)) xs
 map_twice f g [] = refl
@@ -53,6 +53,10 @@ returned_text before b plain = by_case (b == line_feed) (before == carriage_retu
     by_case true true e = refl
     by_case true false e = refl
     by_case false after e = twice_not _ e
+
+mark_plain : not (is_strange question_mark) ≡ true
+unfolding is_text_byte
+mark_plain = refl
 
 -- a file without strange bytes comes to a text
 pub plain_text : (before : ℕ) (file : List ℕ) → list_all (λ b. not (is_strange b)) file ≡ true
@@ -128,27 +132,34 @@ imported_back before (b ∷ file) other are = let both = and_parts _ _ are in
     ∙ ap (λ front. front ++ exported (text_after b file)) (in_and_out before b other plain)
     ∙ ap (λ rest. b ∷ rest) (imported_back b file plain both.1)
 
--- ---- long files
+-- ---- what a terminal gets
 
--- a byte of a document stands for two of a file at most
-pub at_least_half : (before : ℕ) (file : List ℕ)
-    → length file ≤ 2 * length (text_after before file) + cond (before == carriage_return) 1 0
-at_least_half before [] = omega arith
-at_least_half before (b ∷ file) = by_case (at_least_half b file) (b == line_feed) refl (before == carriage_return)
+same_mark : (s : Bool) (n : ℕ) → s ≡ false → cond s question_mark n ≡ n
+same_mark true n is = absurd (both_ways _ is refl)
+same_mark false n is = refl
+
+-- a byte of a text, and a line feed, is not strange
+fed_plain : (b : ℕ) → is_text_byte b ≡ true → is_strange (fed b) ≡ false
+fed_plain b text = by_case (b == carriage_return) refl
   where
-    at_most_one : (t : Bool) → cond t 1 0 ≤ 1
-    at_most_one true = omega arith
-    at_most_one false = omega arith
+    by_case : (r : Bool) → (b == carriage_return) ≡ r → is_strange (cond r line_feed b) ≡ false
+    by_case true is = refl
+    by_case false is =
+        ap (λ feed. not feed && not (is_text_byte b)) (text_has_no_feed b text) ∙ ap not text
 
-    by_case : length file ≤ 2 * length (text_after b file) + cond (b == carriage_return) 1 0
-        → (feed : Bool) → (b == line_feed) ≡ feed → (after : Bool)
-        → suc (length file)
-        ≤ 2 * length (option_to_list (cond feed (cond after None (Some carriage_return)) (Some b)) ++ text_after b file)
-        + cond after 1 0
-    by_case rest true is true =
-        let none : (b == carriage_return) ≡ false = ap (λ n. n == carriage_return) (same_feed b is) in
-        let less : ◌≡◌ {A = ℕ} (cond (b == carriage_return) 1 0) 0 = ap (λ t. cond {A = ℕ} t 1 0) none in
-        omega (arith, less, rest)
-    by_case rest true is false = omega (arith, at_most_one (b == carriage_return), rest)
-    by_case rest false is true = omega (arith, at_most_one (b == carriage_return), rest)
-    by_case rest false is false = omega (arith, at_most_one (b == carriage_return), rest)
+pub printable_same : (text : List ℕ) → list_all is_text_byte text ≡ true → printable text ≡ exported text
+printable_same [] are = refl
+printable_same (b ∷ text) are = let both = and_parts _ _ are in
+    ap (λ c. c ∷ printable text) (same_mark _ (fed b) (fed_plain b both.0))
+    ∙ ap (λ rest. fed b ∷ rest) (printable_same text both.1)
+
+marked_plain : (b : ℕ) → not (is_strange (printed b)) ≡ true
+marked_plain b = by_case (is_strange b) refl
+  where
+    by_case : (s : Bool) → is_strange b ≡ s → not (is_strange (cond s question_mark b)) ≡ true
+    by_case true is = mark_plain
+    by_case false is = ap not is
+
+pub printable_plain : (text : List ℕ) → list_all (λ b. not (is_strange b)) (printable text) ≡ true
+printable_plain [] = refl
+printable_plain (b ∷ text) = and_from _ _ (marked_plain (fed b)) (printable_plain text)

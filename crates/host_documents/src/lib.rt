@@ -4,7 +4,9 @@
 mod exporting;
 mod importing;
 mod laws;
+mod places;
 
-pub use exporting::host_text;
-pub use importing::{Unfit, document};
-pub use laws::{long_files_are_too_long, texts_come_back};
+pub use exporting::{host_text, printable_text};
+pub use importing::{MOST_BYTES, Unfit, document};
+pub use laws::texts_come_back;
+pub use places::Place;

@@ -4,9 +4,17 @@
 
 ghost use Rattle.std.specs.Prelude.{◌≡◌, ◌≤◌, Ok, IfOk, length};
 
+mod locked_file;
+mod texts;
+
+pub use locked_file::LockedFile;
 use std::fs::{File, Metadata, OpenOptions, TryLockError};
 use std::io::{ErrorKind, Read};
 use std::{fs, io};
+pub use texts::{
+    files_in, is_folder, length_of, make_file, make_folder, read_input, read_whole, rename_over,
+    sync_file,
+};
 
 /// Why the host did not do what it was asked.
 #[derive(Clone, Copy, Debug, PartialEq, Eq)]
@@ -23,49 +31,53 @@ pub enum HostFault {
     NoMemory,
 }
 
-/// Opens the file and takes its lock for this program alone. The lock lasts as long as the file that is returned.
+/// Opens the file and takes its lock for this program alone. The lock lasts as long as the file that is returned, or
+/// the disk in it.
 ///
 /// Errors: `Missing`; `InUse`; `Refused` where the file can't be read and written, or has no locks.
-pub fn lock_alone(rt: &HostRuntime, path: &str) -> Result<File, HostFault> {
-    let file = asked(OpenOptions::new().read(true).write(true).open(rt, path))?;
-    locked(file.try_lock())?;
-    Ok(file)
+pub fn lock_alone(rt: &HostRuntime, path: &str) -> Result<LockedFile, HostFault> {
+    lock(asked(OpenOptions::new().read(true).write(true).open(rt, path))?)
 }
 
 /// As `lock_alone`, but makes the file where there is none, empty. A file that is there isn't changed.
-pub fn lock_or_make(rt: &HostRuntime, path: &str) -> Result<File, HostFault> {
-    let file = asked(
-        OpenOptions::new()
-            .read(true)
-            .write(true)
-            .create(true)
-            .open(rt, path),
-    )?;
-    locked(file.try_lock())?;
-    Ok(file)
+pub fn lock_or_make(rt: &HostRuntime, path: &str) -> Result<LockedFile, HostFault> {
+    let file = OpenOptions::new()
+        .read(true)
+        .write(true)
+        .create(true)
+        .open(rt, path);
+    lock(asked(file)?)
 }
 
 /// Makes a file, empty, and takes its lock as `lock_alone` does. What is there isn't touched, and no link is followed.
 ///
 /// Errors: `Taken` where there is something of that name, be it a link to nothing; `Missing` where there is no folder
 /// for it; `InUse`, `Refused` and `NoMemory`.
-pub fn lock_new(rt: &HostRuntime, path: &str) -> Result<File, HostFault> {
-    let file = asked(
-        OpenOptions::new()
-            .read(true)
-            .write(true)
-            .create_new(true)
-            .open(rt, path),
-    )?;
-    locked(file.try_lock())?;
-    Ok(file)
+pub fn lock_new(rt: &HostRuntime, path: &str) -> Result<LockedFile, HostFault> {
+    let file = OpenOptions::new()
+        .read(true)
+        .write(true)
+        .create_new(true)
+        .open(rt, path);
+    lock(asked(file)?)
 }
 
 /// As `lock_alone`, but for a program that only reads: several such programs may hold the lock together.
-pub fn lock_shared(rt: &HostRuntime, path: &str) -> Result<File, HostFault> {
+pub fn lock_shared(rt: &HostRuntime, path: &str) -> Result<LockedFile, HostFault> {
     let file = asked(OpenOptions::new().read(true).write(true).open(rt, path))?;
     locked(file.try_lock_shared())?;
-    Ok(file)
+    Ok(LockedFile::new(file))
+}
+
+/// Takes the file's lock for this program alone.
+fn lock(file: File) -> Result<LockedFile, HostFault> {
+    locked(file.try_lock())?;
+    Ok(LockedFile::new(file))
+}
+
+/// Takes all bytes of the file away.
+pub fn empty(file: &mut LockedFile) -> Result<(), HostFault> {
+    asked(file.cut())
 }
 
 /// Waits until the medium knows the file by its name, which is so when the folder that has it is synced. It fails where

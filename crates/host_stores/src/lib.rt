@@ -1,19 +1,29 @@
-//! Stores in files and in memory, as programs have them. The caller of a function that takes a path has locked that
-//! file (the crate `host_files`).
+//! Stores in files and in memory, as programs have them.
+//!
+//! A store whose file has to be locked stands in a `LockedFile`, whose lock lasts as long as the store: so a file is
+//! locked before it is opened, and until the store is gone.
 #![tactic(auto)]
 
-ghost use Rattle.std.specs.Prelude.{◌≡◌, IfOk, false};
+ghost use Rattle.std.specs.Prelude.{◌≡◌, IfErr, IfOk, false};
+ghost use Rattle.sector_disk.specs.Trail.{Leaves, now};
+ghost use Rattle.desktop_definitions.specs.Desktop.{empty_desktop};
+ghost use Rattle.store_layout.specs.Meaning.{Shows};
+ghost use Rattle.store_layout.specs.declared.layout.TheConstants.{LAYOUT};
+ghost use Rattle.desk_journal.specs.Opening.{IsOpened, IsNoStore};
 
 pub use desk_journal::{Error, Store};
+use host_files::{HostFault, LockedFile, empty};
 use screen_cells::Screen;
 use sector_disk::FILE_SECTORS;
 pub use sector_disk::{Disk, FileDisk, MemoryDisk};
 
-/// The store on a disk.
+/// The store on a disk. A disk that is refused is left as it is: it isn't formatted.
 ///
 /// Errors: those of `Store::open`.
 pub fn opened<D: Disk + Drop>(rt: &HostRuntime, disk: D) -> Result<Store<D>, Error>
-    ensures { IfOk result (λ store. store.must_reopen ≡ false) }
+    ensures usable { IfOk result (λ store. store.must_reopen ≡ false) }
+    ensures ok { IfOk result (λ store. IsOpened D.Disk disk store) }
+    ensures no_store { IfErr result (λ e. IsNoStore D.Disk disk e) }
 {
     match Store::open(rt.alloc(), disk) {
         Ok(store) => Ok(store),
@@ -24,14 +34,41 @@ pub fn opened<D: Disk + Drop>(rt: &HostRuntime, disk: D) -> Result<Store<D>, Err
 /// The disk with a new store, whose desktop is empty.
 ///
 /// Errors: those of `Store::format`.
-pub fn formatted<D: Disk + Drop>(disk: D) -> Result<D, Error> {
+pub fn formatted<D: Disk + Drop>(disk: D) -> Result<D, Error>
+    ensures { IfOk result (λ new. D.honest disk
+        → Leaves (now (D.trail new)) (Shows (D.size new) LAYOUT 1 0 empty_desktop)) }
+{
     match Store::format(disk) {
         Ok(disk) => Ok(disk),
         Err((error, _disk)) => Err(error),
     }
 }
 
-/// The store in a file.
+/// The store in a file that is locked.
+///
+/// Errors: those of `Store::open`.
+pub fn in_locked_file(
+    rt: &HostRuntime,
+    file: LockedFile,
+) -> Result<Store<FileDisk<LockedFile>>, Error>
+    ensures { IfOk result (λ store. store.must_reopen ≡ false) }
+{
+    opened(rt, FileDisk::new(file))
+}
+
+/// A disk of zeros in a file that is locked, of which nothing is left. Nothing is synced.
+///
+/// Error: `Fault` where the host refuses that, as for want of room; the file may then have any number of its sectors.
+pub fn emptied(file: LockedFile) -> Result<FileDisk<LockedFile>, Error> {
+    let mut file = file;
+    match empty(&mut file) {
+        Ok(()) => Ok(FileDisk::new(file).zeroed()?),
+        Err(HostFault::NoMemory) => Err(Error::NoMemory),
+        Err(_) => Err(Error::Fault),
+    }
+}
+
+/// The store in a file, of which the caller has the lock where it has to be locked.
 ///
 /// Errors: those of `Store::open`; `Fault`, also where the host has no such file that can be read and written.
 pub fn in_file(rt: &HostRuntime, path: &str) -> Result<Store<FileDisk>, Error>
@@ -49,11 +86,11 @@ pub fn new_in_memory(rt: &HostRuntime) -> Result<Store<MemoryDisk>, Error>
     opened(rt, formatted(MemoryDisk::new(rt.alloc(), FILE_SECTORS)?)?)
 }
 
-/// Paints the screen of the store in a file.
+/// Paints the screen of the store in a file that is locked.
 ///
-/// Errors: those of `in_file` and `Store::screen`.
-pub fn show(rt: &HostRuntime, path: &str, screen: &mut Screen) -> Result<(), Error> {
-    let mut store = in_file(rt, path)?;
+/// Errors: those of `in_locked_file` and `Store::screen`.
+pub fn show(rt: &HostRuntime, file: LockedFile, screen: &mut Screen) -> Result<(), Error> {
+    let mut store = in_locked_file(rt, file)?;
     store.screen(rt.alloc(), screen)?;
     Ok(())
 }

@@ -6,3 +6,4 @@ pub mod Moments
 pub mod ByLines
 pub mod Report
 pub mod Promised
+pub mod Files

@@ -4,8 +4,8 @@
 
 ghost use Rattle.std.specs.Prelude.{◌≡◌, false};
 
-use host_files::{HostFault, lock_alone, lock_or_make, lock_shared, sync_folder};
-use host_stores::{Disk, FileDisk, formatted, in_file, new_in_memory, show};
+use host_files::{HostFault, LockedFile, lock_alone, lock_or_make, lock_shared, sync_folder};
+use host_stores::{Disk, emptied, formatted, in_locked_file, new_in_memory, show};
 use oberon_arguments::{Order, Refusal, order_of, words};
 use oberon_main::{CountedReader, CountedWriter, Error, Store, check, play, refuse, status};
 use screen_cells::Screen;
@@ -56,13 +56,13 @@ fn play_in_memory(rt: &HostRuntime) -> Result<u8, Error> {
 
 /// Makes a new store in the file, and says so when the store and the file's name are durable.
 fn format_file(rt: &HostRuntime, path: &str) -> Result<u8, Error> {
-    let _lock = lock_or_make(rt, path).map_err(store_error)?;
-    make_store(rt, path)
+    let file = lock_or_make(rt, path).map_err(store_error)?;
+    make_store(rt, file, path)
 }
 
-/// The same, while the file is locked.
-fn make_store(rt: &HostRuntime, path: &str) -> Result<u8, Error> {
-    let _disk = formatted(FileDisk::create(rt, path)?)?;
+/// The same, in the file of that path, which is locked.
+fn make_store(rt: &HostRuntime, file: LockedFile, path: &str) -> Result<u8, Error> {
+    let _disk = formatted(emptied(file)?)?;
     sync_folder(rt, path).map_err(store_error)?;
     match send(&mut CountedWriter::new(rt.stdout()), b"ok\n") {
         Ok(()) => Ok(0),
@@ -80,8 +80,8 @@ fn store_error(fault: HostFault) -> Error {
 
 /// Plays the script on standard input over the store in the file.
 fn play_file(rt: &HostRuntime, path: &str) -> Result<u8, Error> {
-    let _lock = lock_alone(rt, path).map_err(store_error)?;
-    Ok(play_over(rt, in_file(rt, path)?))
+    let file = lock_alone(rt, path).map_err(store_error)?;
+    Ok(play_over(rt, in_locked_file(rt, file)?))
 }
 
 /// Plays the script on standard input over a store.
@@ -96,9 +96,9 @@ fn play_over<D: Disk + Drop>(rt: &HostRuntime, store: Store<D>) -> u8
 
 /// Prints the screen of the store in the file.
 fn print_file(rt: &HostRuntime, path: &str) -> Result<u8, Error> {
-    let _lock = lock_shared(rt, path).map_err(store_error)?;
+    let file = lock_shared(rt, path).map_err(store_error)?;
     let mut screen = Screen::new();
-    show(rt, path, &mut screen)?;
+    show(rt, file, &mut screen)?;
     match screen.print(&mut rt.stdout()) {
         Ok(()) => Ok(0),
         Err(_) => Ok(FAULT),
@@ -107,7 +107,7 @@ fn print_file(rt: &HostRuntime, path: &str) -> Result<u8, Error> {
 
 /// Says of the store in the file that it can be used.
 fn check_file(rt: &HostRuntime, path: &str) -> Result<u8, Error> {
-    let _lock = lock_shared(rt, path).map_err(store_error)?;
-    let store = in_file(rt, path)?;
+    let file = lock_shared(rt, path).map_err(store_error)?;
+    let store = in_locked_file(rt, file)?;
     Ok(status(&check(&mut CountedWriter::new(rt.stdout()), &store)))
 }

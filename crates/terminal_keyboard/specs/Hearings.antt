@@ -20,9 +20,10 @@ is_quiet [] = false
 is_quiet (Byte b ∷ more) = false
 is_quiet (Quiet ∷ more) = true
 
--- a carriage return or a line feed, with which a line ends, and the name of a host file that is typed
+-- a carriage return or a line feed, with which a line ends, and the name of a host file that is typed; and the bytes of
+-- Ctrl-Y and Ctrl-Z
 abbrev pub is_line_end : Heard → Bool
-is_line_end (Byte b) = (b == 13) || (b == 10)
+is_line_end (Byte b) = (b == 13) || (b == 10) || (b == 25) || (b == 26)
 is_line_end Quiet = false
 
 -- how much is heard to the end of the first line, and with it

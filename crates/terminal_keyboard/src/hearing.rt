@@ -8,6 +8,11 @@ ghost use Rattle.terminal_keyboard.specs.Hearings.{line_length as first_line};
 use std::marker::Model;
 use terminal_presses::Heard;
 
+/// The byte of Ctrl-Y.
+const CONTROL_Y: u8 = 25;
+/// The byte of Ctrl-Z.
+const CONTROL_Z: u8 = 26;
+
 /// How much is heard at one time at most.
 pub const MOST_HEARD: usize = 64;
 
@@ -120,7 +125,10 @@ fn is_line_end(heard: Heard) -> bool
     ensures { result ≡ ends_line heard }
 {
     match heard {
-        Heard::Byte(byte) => byte == b'\r' || byte == b'\n',
+        Heard::Byte(byte) => byte == b'\r'
+            || byte == b'\n'
+            || byte == CONTROL_Y
+            || byte == CONTROL_Z,
         Heard::Quiet => false,
     }
 }

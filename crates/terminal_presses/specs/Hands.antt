@@ -18,7 +18,7 @@ use Rattle.terminal_presses.specs.declared.spot.Spot.{Spot}
 use Rattle.terminal_presses.specs.declared.action.Click.{Click}
 use Rattle.terminal_presses.specs.declared.action.Click.TheVariants.{Mark, Keys}
 use Rattle.terminal_presses.specs.declared.action.Action.{Action}
-use Rattle.terminal_presses.specs.declared.action.Action.TheVariants.{Nothing, Post, Ring, LookAnew, Leave}
+use Rattle.terminal_presses.specs.declared.action.Action.TheVariants.{Nothing, Post, Ring, LookAnew, Leave, Undo, Redo}
 use Rattle.terminal_presses.specs.declared.action.Action.TheVariants.{Move, Step, Fit, FileFailed}
 use Rattle.terminal_presses.specs.declared.gesture.Gesture.{Gesture}
 use Rattle.terminal_presses.specs.declared.paste.Paste.{Paste}
@@ -42,7 +42,7 @@ asking name hand = record hand { paste = None; asked = Some name }
 
 -- ---- keys
 
--- what Ctrl comes to with C, J, L, Q, V and X; another letter rings
+-- what Ctrl comes to with C, J, L, Q, V, X, Y and Z; another letter rings
 unfoldable pub control : ℕ → Action
 control b =
     if b == 3 then Post (Key key.Copy) else
@@ -50,7 +50,9 @@ control b =
     (if b == 12 then LookAnew else
     (if b == 17 then Leave else
     (if b == 22 then Post (Key key.Paste) else
-    (if b == 24 then Post (Key key.Cut) else Ring)))))
+    (if b == 24 then Post (Key key.Cut) else
+    (if b == 25 then Redo else
+    (if b == 26 then Undo else Ring)))))))
 
 -- the next click is what it says by itself
 unfoldable pub escaped : Hand → Hand × Action

@@ -26,6 +26,10 @@ pub enum Action {
     LookAnew,
     /// The person leaves.
     Leave,
+    /// The last event is taken back.
+    Undo,
+    /// What was taken back last is done again.
+    Redo,
     /// The text of the host file of that name, which has at least one byte, is typed at the caret.
     TypeFile(HostName),
     /// Other rows of the display come into sight.

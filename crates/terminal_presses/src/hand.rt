@@ -33,6 +33,10 @@ const CONTROL_Q: u8 = 17;
 const CONTROL_V: u8 = 22;
 /// The byte of Ctrl-X.
 const CONTROL_X: u8 = 24;
+/// The byte of Ctrl-Y.
+const CONTROL_Y: u8 = 25;
+/// The byte of Ctrl-Z.
+const CONTROL_Z: u8 = 26;
 
 /// What was pressed so far, as far as later events depend on it.
 #[derive(Drop)]
@@ -445,6 +449,8 @@ fn control(byte: u8) -> Action
         CONTROL_Q => Action::Leave,
         CONTROL_V => Action::Post(Event::Key(Key::Paste)),
         CONTROL_X => Action::Post(Event::Key(Key::Cut)),
+        CONTROL_Y => Action::Redo,
+        CONTROL_Z => Action::Undo,
         _ => Action::Ring,
     }
 }

@@ -4,7 +4,9 @@
 use std::alloc::{AllocError, Global};
 use std::io::{self, ErrorKind, IsTerminal, Read};
 use std::test::Fail;
-use terminal_keyboard::{Keyboard, KeyboardEnd, MOST_HEARD, ScriptedKeyboard, TerminalInput};
+use terminal_keyboard::{
+    KeySource, Keyboard, KeyboardEnd, MOST_HEARD, ScriptedKeyboard, TerminalInput,
+};
 use terminal_presses::{
     Action, Arrow, Button, FunctionKey, Hand, Heard, MouseReport, Page, Parser, Press, Presses,
     Sight,
@@ -70,7 +72,7 @@ fn mouse(button: Button, is_down: bool, column: u16, row: u16) -> Press {
 
 #[test]
 fn bytes_press(rt: HostRuntime) -> Result<(), Fail> {
-    let table: [(&[u8], &[Press]); 13] = [
+    let table: [(&[u8], &[Press]); 15] = [
         (
             b"aZ ~",
             &[
@@ -122,8 +124,18 @@ fn bytes_press(rt: HostRuntime) -> Result<(), Fail> {
             ],
         ),
         (
-            b"\x1b[5~\x1b[\xff6~",
+            b"\x1b[5~\x1b[6\xff~",
             &[Press::Page(Page::Up), Press::Page(Page::Down)],
+        ),
+        // Alt with O and with [, and then a letter.
+        (
+            b"\x1bO\xffA\x1b[\xffB",
+            &[
+                Press::Unknown,
+                Press::Character(65),
+                Press::Unknown,
+                Press::Character(66),
+            ],
         ),
         (
             b"\x1b[<0;1;1M\x1b[<2;223;300m",
@@ -137,6 +149,10 @@ fn bytes_press(rt: HostRuntime) -> Result<(), Fail> {
         (
             b"\x1b[200~a\x1b[201~",
             &[Press::PasteBegins, Press::Character(97), Press::PasteEnds],
+        ),
+        (
+            b"\r\n\x1b[202~",
+            &[Press::Character(13), Press::Control(10), Press::FileFails],
         ),
         (b"\x1b[9\x1b[A", &[Press::Unknown, Press::Arrow(Arrow::Up)]),
     ];
@@ -159,7 +175,10 @@ fn letter(action: &Action) -> Option<u8> {
         Action::Move(Page::Up) => Some(b'U'),
         Action::Move(Page::Down) => Some(b'D'),
         Action::Step(_) => Some(b'S'),
+        Action::Undo => Some(b'Z'),
+        Action::Redo => Some(b'Y'),
         Action::Fit(_, _) => Some(b'Z'),
+        Action::FileFailed => Some(b'F'),
     }
 }
 
@@ -201,7 +220,7 @@ fn acted(alloc: Global, bytes: &[u8], sight: Sight) -> Result<Vec<u8>, AllocErro
 
 #[test]
 fn presses_make_events(rt: HostRuntime) -> Result<(), Fail> {
-    let table: [(&[u8], &[u8]); 20] = [
+    let table: [(&[u8], &[u8]); 24] = [
         (b"a", b"\x01\x00\x01a"),
         (b"\n", b"\x01\x00\x01\x0d"),
         (b"\x08\x03\x18\x16", b"\x02\x00\x02\x01\x02\x03\x02\x02"),
@@ -232,6 +251,15 @@ fn presses_make_events(rt: HostRuntime) -> Result<(), Fail> {
             b"\x04\x03\x00\x1f\x00\x1f",
         ),
         (b"\x1bOP\x1b[<0;3;32M\x1b[<0;1;1m", b"\x03\x02\x00"),
+        // A click that begins outside the display, and one on the line below after F2, which is for the next one then.
+        (b"\x1b[<0;81;1M\x1b[<0;1;1m", b""),
+        (
+            b"\x1b[12~\x1b[<0;1;33M\x1b[<0;1;33m\x1b[<0;1;1M\x1b[<0;1;1m",
+            b"\x04\x03\x00\x1f\x00\x1f",
+        ),
+        // A name that is pasted, and the size of the terminal amid a paste.
+        (b"\x0f\x1b[200~a.t\rx\x11\x1b[201~\r", b"RRTa.tx"),
+        (b"\x1b[200~a\x1b[8;24;80tb\x1b[201~", b"Z\x01\x00\x02ab"),
         // The name of a host file, one with no byte, one that is called off, and what rings meanwhile.
         (b"\x0fa.tx~\x08t\r", b"Ta.txt"),
         (b"\x1b[19~\r\x08", b"\x02\x00"),
@@ -363,7 +391,7 @@ fn add_heard(found: &mut Vec<u8>, heard: &[Heard]) -> Result<(), AllocError> {
 
 #[test]
 fn terminals_tell(rt: HostRuntime) -> Result<(), Fail> {
-    let table: [(&[Step], &[u8]); 3] = [
+    let table: [(&[Step], &[u8]); 4] = [
         (
             &[
                 Step::Nothing,
@@ -377,6 +405,7 @@ fn terminals_tell(rt: HostRuntime) -> Result<(), Fail> {
             b"\xffab\xffcC",
         ),
         (&[Step::Bytes(b"a"), Step::Broken], b"aF"),
+        (&[Step::Bytes(b"a\rb\nc")], b"a\rb\ncC"),
         (&[], b"C"),
     ];
     for (steps, wanted) in table {

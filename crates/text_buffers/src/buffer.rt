@@ -1,5 +1,6 @@
 //! The buffer.
-ghost use Rattle.std.specs.Prelude.{◌≡◌, ◌+◌, ◌^◌, ◌<◌, ◌≤◌, ◌∷◌, ◌++◌, [], length, IfOk};
+ghost use Rattle.std.specs.Prelude.{◌≡◌, ◌+◌, ◌^◌, ◌<◌, ◌≤◌, ◌∷◌, ◌++◌, [], length, IfOk, OnOk};
+ghost use Rattle.piece_ring.specs.Merging.{IsMergedAt};
 ghost use Rattle.piece_ring.specs.Flat.{flat, characters_of};
 ghost use Rattle.piece_ring.specs.Promises.{ChangesTo, HasRoomFor, IsCursorAt};
 
@@ -112,6 +113,7 @@ impl Buffer {
     pub fn append(&mut self, alloc: Global, ring: Ring) -> Result<(), NoMemory>
         requires fits { length (flat self.old) + length (flat ring.pieces) < 2 ^ 32 }
         ensures added { ChangesTo (flat self.old ++ flat ring.pieces) result (flat self.old) (flat self.new) }
+        ensures merged { OnOk result (IsMergedAt self.new (length (flat self.old))) }
     {
         let end = self.ring.len();
         match self.ring.splice(alloc, end, ring) {

@@ -9,13 +9,13 @@ loop-count-init g c = rw (c.new-parser.ensures, c.new-sitting.ensures, c.new-pai
 
 pub loop-count-preserved : goal.loop-count-preserved
 loop-count-preserved g c = come_more g.D.Disk c.sittings_survive.ensures.turns
-    c.sittings_survive.ensures.ends c.loop-count.invariant tt c.in_default.ensures.turns
+    c.sittings_survive.ensures.ends c.loop-count.invariant tt c.in_default.ensures.steps
 
 pub returns-in-Err-clause-sat : goal.returns-in-Err-clause-sat
 returns-in-Err-clause-sat g c = sat_to_end g.D.Disk c.sittings_survive.ensures.turns
-    c.sittings_survive.ensures.ends c.loop-count.invariant c.in-Err.end c.in-Err.ensures.turns
+    c.sittings_survive.ensures.ends c.loop-count.invariant c.in-Err.end c.in-Err.ensures.steps
 
 pub returns-clause-sat : goal.returns-clause-sat
 returns-clause-sat g c =
     let most : c.loop-count._count ≡ MOST_TURNS = omega arith in
-    sat_too_long g.D.Disk c.sittings_survive.ensures.turns c.sittings_survive.ensures.ends most c.loop-count.invariant
+    sat_too_long g.D.Disk c.sittings_survive.ensures.turns c.sittings_survive.ensures.ends c.loop-count.invariant most

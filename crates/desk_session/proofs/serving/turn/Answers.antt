@@ -2,8 +2,6 @@ use Rattle.std.proofs.Common.{◌∙◌, Err, ap, refl}
 use Rattle.std.proofs.lemmas.Result.{err_from_is_err_and}
 use Rattle.desk_session.proofs.Turning.{unshown_ends, deaf_ends, turned, broken_ends, left_stops, same_device}
 use Rattle.desk_session.proofs.Turning.{calm_presses, heard_so, not_of_keyboard, of_keyboard, store_no_keyboard}
-use Rattle.desk_session.specs.Endings.{EndsBy}
-use Rattle.std.specs.Prelude.{IfErr}
 use Rattle.desk_session.proofs.serving.turn.Goals as goal
 
 pub returns-in_err-show-clause-turns : goal.returns-in_err-show-clause-turns

@@ -1,4 +1,4 @@
-use Rattle.std.proofs.Common.{◌∙◌, ◌/◌, ap, sym, subst}
+use Rattle.std.proofs.Common.{◌∙◌, ◌/◌, ap, sym, subst, inl, inr}
 use Rattle.sector_disk.specs.declared.disk.TheConstants.{SECTOR_BYTES}
 use Rattle.sector_disk.specs.Trail.{Content}
 use Rattle.sector_disk.proofs.Touching.{still_all}
@@ -76,3 +76,17 @@ returns-clause-behind g c = λ honest s at.
     let reads = c.step.ensures.disk in
     subst (λ n. IsSettled n (g.D.Disk.trail c.add_record.new.disk) (and_then s c.args.event.now)) reads.as_large
     (c.in_ok-add_record.ensures.behind (reads.still honest) s (still_up g.D.Disk at reads honest))
+
+pub returns-in_err-reply-clause-broken : goal.returns-in_err-reply-clause-broken
+returns-in_err-reply-clause-broken g c = λ fault honest number kept.
+    inl (unrecorded g.D.Disk c.step.ensures.disk honest kept)
+
+pub returns-in_err-add_record-clause-broken : goal.returns-in_err-add_record-clause-broken
+returns-in_err-add_record-clause-broken g c = λ fault honest number kept.
+    let s = c.step.ensures.disk in
+    let live = c.in_ok-reply.ensures.live in
+    inr (shown_stays _ _ c.step.new.self (c.add_record.ensures.kept.moments (s.still honest))
+    (apart_record c.step.new.self.pages c.step.new.self.area c.args.slot c.args.k live.based c.requires.at.two
+    c.requires.at.index)
+    ∙ ap (λ (o : Outcome). o.desktop) (c.in_ok-reply.ensures.done honest)
+    ∙ ap (λ (o : Outcome). o.desktop) (in_newest _ c.args.event.now))

@@ -1,10 +1,10 @@
-use Rattle.std.proofs.Common.{subst}
+use Rattle.std.proofs.Common.{subst, inl}
 use Rattle.std.proofs.lemmas.Result.{err_from_is_err_and, IfOk-weaker}
 use Rattle.desk_journal.specs.Undoing.{IsAdded}
 use Rattle.desk_journal.proofs.Undoing.{added_behind}
-use Rattle.desk_journal.specs.Posting.{LeavesEither, IsPosted, IsStarved, HasRoom}
+use Rattle.desk_journal.specs.Posting.{LeavesEither, IsPosted, IsStarved, HasRoom, RecordsDone}
 use Rattle.desk_journal.proofs.Between.{checkpoints, done_first, no_need, put_posts, stopped_first}
-use Rattle.desk_journal.proofs.Storing.{renewed_then, renewed_starved}
+use Rattle.desk_journal.proofs.Storing.{renewed_then, renewed_starved, renewed_recorded}
 use Rattle.desk_journal.proofs.store.Store.post.Goals as goal
 use Rattle.desk_journal.proofs.store.Store.post.Goals.{then-needs+in_ok-checkpoint}
 use Rattle.desk_journal.proofs.store.Store.post.Goals.{else-needs}
@@ -64,3 +64,18 @@ returns-clause-added g c = IfOk-weaker c.put.result _ _ (λ reply added. elim c.
   | else-needs w ↦
       subst (λ mid. IsAdded g.D.Disk c.args.event.now mid c.put.new.self) w.self-is added
 ]) c.put.ensures.added
+
+pub returns-clause-recorded : goal.returns-clause-recorded
+returns-clause-recorded g c = λ fault. elim c.if-needs.branch [
+  | then-needs+in_ok-checkpoint w ↦
+      let first = w.checkpoint.ensures in
+      renewed_recorded g.D.Disk c.args.event.now c.args.self.now w.checkpoint.new.self c.put.new.self
+      first.any_moment w.in_ok-checkpoint.ensures.ok first.behaves.device
+      (subst (λ mid. RecordsDone g.D.Disk c.args.event.now mid c.put.new.self) w.self-is (c.put.ensures.recorded fault))
+  | else-needs w ↦
+      subst (λ mid. RecordsDone g.D.Disk c.args.event.now mid c.put.new.self) w.self-is (c.put.ensures.recorded fault)
+]
+
+pub returns-in_err-checkpoint-clause-recorded : goal.returns-in_err-checkpoint-clause-recorded
+returns-in_err-checkpoint-clause-recorded g c = λ fault usable honest.
+    inl (c.checkpoint.ensures.any_moment usable honest)

@@ -1,0 +1,121 @@
+//! How a store is.
+
+use crate::sentences::Stop;
+use desk_journal::{Error, Info, STORE_SECTORS};
+use desk_stores::{Trouble, looked_at};
+use desktop_definitions::MOST_WRITTEN;
+use host_files::length_of;
+use host_stores::{FileDisk, opened};
+use sector_disk::{FILE_SECTORS, SECTOR_BYTES};
+use std::io;
+use store_documents::{Examined, SlotState, examine};
+use store_layout::{JOURNAL_EVENTS, LAST_EPOCH};
+
+/// How many bytes the file of a store has.
+const WHOLE: u64 = FILE_SECTORS as u64 * SECTOR_BYTES as u64;
+
+/// Tells how the store in a file is: how long its file is, what its label and both slots say, and whether it opens. The
+/// file is locked beside other programs that look, and nothing is written.
+pub fn check(rt: &HostRuntime, path: &str) -> Result<(), Stop> {
+    let _lock = looked_at(rt, path)?;
+    let Ok(length) = length_of(rt, path) else {
+        return Err(faulty());
+    };
+    let Ok(mut disk) = FileDisk::open(rt, path) else {
+        return Err(faulty());
+    };
+    let Ok(found) = examine(&mut disk) else {
+        return Err(faulty());
+    };
+    printed(tell_file(rt, length, &found))?;
+    if !found.labelled {
+        return Err(Stop::Trouble(Trouble::Store(Error::NotAStore)));
+    }
+    let store = match opened(rt, disk) {
+        Ok(store) => store,
+        Err(error) => return Err(cannot_open(rt, path, error)),
+    };
+    let info = store.info()?;
+    printed(tell_info(rt, &info))?;
+    if length < WHOLE {
+        let _ = println!(rt;
+            "what is missing at the end of the file reads as zeros: make a copy by desk backup, and go on with that"
+        );
+    }
+    Ok(())
+}
+
+/// A disk that fails.
+fn faulty() -> Stop {
+    Stop::Trouble(Trouble::Store(Error::Fault))
+}
+
+/// Where the output fails that is to be told.
+fn printed(lines: io::Result<()>) -> Result<(), Stop> {
+    match lines {
+        Ok(()) => Ok(()),
+        Err(_) => Err(Stop::Trouble(Trouble::Output)),
+    }
+}
+
+/// Tells what is in the file.
+fn tell_file(rt: &HostRuntime, length: u64, found: &Examined) -> io::Result<()> {
+    if length < WHOLE {
+        println!(rt; "file: {length} bytes; it was cut short, since a store's file has {WHOLE}")?;
+    } else {
+        println!(rt; "file: {length} bytes, whole")?;
+    }
+    let label = if found.labelled {
+        "that of a store"
+    } else {
+        "not that of a store"
+    };
+    println!(rt; "label: {label}")?;
+    tell_slot(rt, 0, found.first)?;
+    tell_slot(rt, 1, found.second)
+}
+
+/// Tells what is in a slot.
+fn tell_slot(rt: &HostRuntime, slot: u32, state: SlotState) -> io::Result<()> {
+    match state {
+        SlotState::Closed => println!(rt; "slot {slot}: closed"),
+        SlotState::Open(head) => {
+            let version = head.version;
+            let epoch = head.epoch;
+            println!(rt; "slot {slot}: open, of layout {version}, epoch {epoch}")
+        }
+    }
+}
+
+/// Tells what an opening finds.
+fn tell_info(rt: &HostRuntime, info: &Info) -> io::Result<()> {
+    let epoch = info.epoch;
+    let layout = info.layout;
+    let events = info.events;
+    let written = info.written;
+    println!(rt;
+        "in use: epoch {epoch} of {LAST_EPOCH}, layout {layout}, {events} of {JOURNAL_EVENTS} events since its checkpoint"
+    )?;
+    println!(rt; "written: {written} of {MOST_WRITTEN} characters")?;
+    println!(rt; "the store opens")
+}
+
+/// Says what an opening says of damage.
+fn cannot_open(rt: &HostRuntime, path: &str, error: Error) -> Stop {
+    if let Error::Damaged(sector) = error {
+        let part = part_of(sector);
+        let _ = println!(rt;
+            "sector {sector}, {part}, is damaged: the store does not open; go on with a backup of it"
+        );
+    }
+    let _ = path;
+    Stop::Trouble(Trouble::Store(error))
+}
+
+/// What a sector of a store is.
+fn part_of(sector: u32) -> &'static str {
+    if sector >= STORE_SECTORS {
+        return "past the store";
+    }
+    "of the store"
+}

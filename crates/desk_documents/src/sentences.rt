@@ -1,0 +1,90 @@
+//! What is refused, in sentences.
+
+use desk_journal::Error;
+use desk_stores::Trouble;
+use event_bytes::Name;
+use host_files::HostFault;
+use std::alloc::{AllocError, AllocFailed};
+use std::str::from_utf8;
+use store_documents::ExportFault;
+
+/// Why an order was not done: what is still to be said, or that it has been said, with the status of the program.
+#[derive(Clone, Copy, Debug, PartialEq, Eq)]
+pub enum Stop {
+    Trouble(Trouble),
+    Said(u8),
+}
+
+impl From<Trouble> for Stop {
+    fn from(trouble: Trouble) -> Stop {
+        Stop::Trouble(trouble)
+    }
+}
+
+impl From<Error> for Stop {
+    fn from(error: Error) -> Stop {
+        Stop::Trouble(Trouble::Store(error))
+    }
+}
+
+impl From<AllocError> for Stop {
+    fn from(_refused: AllocError) -> Stop {
+        Stop::Trouble(Trouble::Memory)
+    }
+}
+
+impl<T: Drop> From<AllocFailed<T>> for Stop {
+    fn from(_refused: AllocFailed<T>) -> Stop {
+        Stop::Trouble(Trouble::Memory)
+    }
+}
+
+impl Stop {
+    /// Says what is still to be said of the store at this path, and returns the status of the program.
+    pub fn say(self, rt: &HostRuntime, path: &str) -> u8 {
+        match self {
+            Stop::Trouble(trouble) => trouble.say(rt, path),
+            Stop::Said(status) => status,
+        }
+    }
+}
+
+/// The status where a document is refused.
+pub(crate) const REFUSED: Stop = Stop::Said(1);
+
+/// The status where the host refuses a file.
+pub(crate) const HOST: Stop = Stop::Said(4);
+
+/// Says why the host didn't do with a file what it was asked.
+pub(crate) fn refused_file(rt: &HostRuntime, file: &str, fault: HostFault) -> Stop {
+    if matches!(fault, HostFault::NoMemory) {
+        return Stop::Trouble(Trouble::Memory);
+    }
+    let _ = match fault {
+        HostFault::Missing => eprintln!(rt; "desk: there is no file {file:?}, so nothing was done"),
+        _ => eprintln!(rt; "desk: the file {file:?} could not be read, so nothing was done"),
+    };
+    HOST
+}
+
+/// Says why the host made no folder.
+pub(crate) fn refused_folder(rt: &HostRuntime, folder: &str, fault: HostFault) -> Stop {
+    if matches!(fault, HostFault::NoMemory) {
+        return Stop::Trouble(Trouble::Memory);
+    }
+    let _ = eprintln!(rt; "desk: the folder {folder:?} could not be made, so nothing was done");
+    HOST
+}
+
+/// Why a document did not come out.
+pub(crate) fn cut_off(fault: ExportFault) -> Stop {
+    match fault {
+        ExportFault::Store(error) => Stop::Trouble(Trouble::Store(error)),
+        ExportFault::Output => Stop::Trouble(Trouble::Output),
+    }
+}
+
+/// The name of a document as text. A name has nothing but ASCII.
+pub(crate) fn word_of(name: &Name) -> &str {
+    from_utf8(name.as_bytes()).unwrap_or("?")
+}

@@ -1,0 +1,195 @@
+-- What taking back and doing again come to.
+use Rattle.std.proofs.Common.{◌≡◌, ◌≢◌, inl, inr, ◌-◌, ℕ, List, [], length, false, refl, sym, ap, ◌∙◌, arith}
+use Rattle.std.proofs.Common.{Option, Some, None, subst}
+use Rattle.std.specs.Prelude.{slice_get, get_or, MatchOption, ◌+◌, ◌<◌, ◌∷◌}
+use Rattle.std.proofs.lemmas.Option.{slice_get-get_or, slice_get_past}
+use Rattle.std.specs.Prelude.{Result, Ok, Err, OnOk, IfErr}
+use Rattle.std.proofs.lemmas.Bool.{false≢true}
+use Rattle.sector_disk.specs.declared.disk.Disk.{Ghosts}
+use Rattle.sector_disk.specs.Faults.{FailsAs}
+use Rattle.sector_disk.specs.Trail.{now, LeavesOnly}
+use Rattle.sector_disk.proofs.Touching.{read_is_an_image, weakened}
+use Rattle.event_bytes.specs.declared.event.Event.{Event}
+use Rattle.store_layout.specs.Meaning.{MeansEither, cut_to, desktop_of}
+use Rattle.desk_journal.specs.Device.{IsSameDevice}
+use Rattle.desk_journal.specs.Errors.{Error, NoMemory, Fault, MustReopen, OfLook}
+use Rattle.desk_journal.specs.Posting.{IsUnusable}
+use Rattle.desk_journal.specs.Undoing.{IsTakenBack, LeavesUndone, OfUndo, left_of}
+use Rattle.desk_journal.specs.View.{StoreView, IsDurable}
+use Rattle.desk_journal.proofs.Passing.{at_start, shows_means}
+use Rattle.desk_sitting.specs.declared.saying.Saying.TheVariants.{NothingAgain}
+use Rattle.desk_sitting.specs.declared.sitting.Sitting.{Sitting}
+use Rattle.desk_sitting.specs.declared.sitting.Travel.TheVariants.{Back, Again}
+use Rattle.desk_sitting.specs.Again.{AgainView, next_of, rest_at}
+use Rattle.desk_sitting.specs.declared.again.Place.{Place}
+use Rattle.desk_sitting.specs.Doing.{IsUndone, OfPresses, Takes, seat_of}
+use Rattle.desk_sitting.specs.Sittings.{posted, refused}
+use Rattle.desk_sitting.specs.Travels.{Travelled, Travels, did_again, goes_again, place_of, settled, took_back}
+use Rattle.desk_sitting.specs.Travels.{back, nothing, again}
+
+-- an error of an undo over an honest disk is one of these
+not_look : (error : Error) → OfLook error → error ≢ NoMemory → error ≢ Fault → error ≢ MustReopen → ⊥
+not_look error (inl memory) no_memory no_fault no_reopen = no_memory memory
+not_look error (inr (inl fault)) no_memory no_fault no_reopen = no_fault fault
+not_look error (inr (inr reopen)) no_memory no_fault no_reopen = no_reopen reopen
+
+-- what is taken off a list is its last element
+pub popped : (n len : ℕ) (P : Type 0) (events : List Event) (found : Option Event) → len ≡ length events
+    → ((e : Event) → 0 < len → found ≡ Some (get_or events (len - 1) e))
+    → MatchOption found P (λ _. n + 1 ≡ len) → found ≡ slice_get events (length events - 1)
+popped n len P [] None same value cases = sym (slice_get_past [] (length {A = Event} [] - 1) (omega arith))
+popped n len P [] (Some e) same value cases = absurd (omega (arith, cases, same))
+popped n len P (event ∷ more) found same value cases =
+    let all = event ∷ more in
+    value event (omega (arith, same))
+    ∙ ap (λ m. Some (get_or all (m - 1) event)) same
+    ∙ sym (slice_get-get_or all (length all - 1) event (omega arith))
+
+module _ {D : Type 0} (d : Ghosts D) where
+  -- a crash leaves the desktop before the events were taken back or the one after it
+  undone_either : (count : ℕ) (events : List Event) (old new : StoreView D) → IsTakenBack d count events old new
+      → LeavesUndone d count old new → old.must_reopen ≡ false → d.honest old.disk → IsDurable d old
+      → LeavesOnly (d.trail old.disk) (d.trail new.disk) (MeansEither (d.size old.disk) old.desktop new.desktop)
+  undone_either count events old new taken moments usable honest durable =
+      let shows = durable honest (now (d.trail old.disk)).reads (read_is_an_image (now (d.trail old.disk))) in
+      let s = shows.standing in
+      let w = taken.back honest s shows.stands in
+      let here : left_of d count old ≡ length s.events - length events =
+      omega (arith, shows.events, taken.as_many, taken.fewer) in
+      weakened (moments usable honest s shows.stands) (λ c either. elim either [
+        | inl cut ↦ inr (cut_to (left_of d count old) s, cut, ap (λ n. desktop_of (cut_to n s)) here ∙ sym w.desktop)
+        | inr all ↦ inl (s, all, shows.is)
+      ])
+
+  -- nothing was written
+  pub stays_there : {T : Type 0} (value : T) {s s' : Sitting} (store : StoreView D) → store.must_reopen ≡ false
+      → Travelled d s s' store store → Travels d (Ok value) s s' store store
+  stays_there value store usable what = record {
+    done = λ honest durable. record {
+      what = what;
+      any_moment = at_start (d.trail store.disk) _ (λ c image. inl
+          (shows_means (d.size store.disk) store.epoch store.events store.desktop c (durable honest c image)));
+      durable = durable;
+    };
+    stuck = tt;
+    usable = usable;
+    faults = record { rose = λ wrong. absurd (cc wrong); calm = λ other. refl; errors = tt };
+    device = record { as_large = refl; still = λ honest. honest; already = λ honest. honest };
+  }
+
+  module _ {s s' : Sitting} {old new : StoreView D} (asked : s.travels ≡ Some Back) (usable : old.must_reopen ≡ false)
+      (moments : LeavesUndone d 1 old new) (device : IsSameDevice d old.disk new.disk) where
+    -- the last event was taken back
+    pub goes_back : {T U : Type 0} (value : T) (x : U) (events : List Event) → IsTakenBack d 1 events old new
+        → FailsAs {T = U} Fault OfUndo (Ok x) (d.failures old.disk) (d.failures new.disk)
+        → s' ≡ took_back (slice_get events (length events - 1)) (place_of old) (place_of new) (settled s)
+        → Travels d (Ok value) s s' old new
+    goes_back value x events taken faults is = record {
+      done = λ honest durable. record {
+        what = back events asked taken is;
+        any_moment = undone_either 1 events old new taken moments usable honest durable;
+        durable = taken.durable;
+      };
+      stuck = tt;
+      usable = taken.usable;
+      faults = record {
+        rose = λ wrong. absurd (cc wrong);
+        calm = λ other. faults.calm (λ wrong. absurd (cc wrong));
+        errors = tt;
+      };
+      device = device;
+    }
+
+    -- it wasn't
+    pub goes_not : {U : Type 0} (error : Error) (result : Result Unit Error)
+        → (error ≢ Fault → error ≢ MustReopen → new.must_reopen ≡ false) → (d.honest old.disk → OfLook error)
+        → IsUnusable {T = U} (Err error) old new
+        → FailsAs {T = U} Fault OfUndo (Err error) (d.failures old.disk) (d.failures new.disk)
+        → OnOk result ((error ≢ NoMemory) × (error ≢ Fault))
+        → IfErr result (λ e. (e ≡ error) × OfPresses error) → Travels d result s s' old new
+    goes_not error (Ok value) in_use stops reopen faults stays passed =
+        let open_still : error ≢ MustReopen =
+        λ is. false≢true (sym usable ∙ reopen.only (ap (λ e. Err e) is)) in
+        record {
+          done = λ honest durable. absurd (not_look error (stops honest) stays.0 stays.1 open_still);
+          stuck = tt;
+          usable = in_use stays.1 open_still;
+          faults = record {
+            rose = λ wrong. absurd (cc wrong);
+            calm = λ other. faults.calm (λ fault. stays.1 (cc fault));
+            errors = tt;
+          };
+          device = device;
+        }
+    goes_not error (Err e) in_use stops reopen faults stays passed = record {
+      done = tt;
+      stuck = λ honest durable. back asked moments;
+      usable = tt;
+      faults = record {
+        rose = λ fault. faults.rose (cc (passed.0, fault));
+        calm = λ fine. faults.calm (λ fault. fine (cc (passed.0, fault)));
+        errors = subst OfPresses (sym passed.0) passed.1;
+      };
+      device = device;
+    }
+
+  -- nothing can be done again
+  pub nothing_again : {T : Type 0} (value : T) {s s' : Sitting} (store : StoreView D) (from : Place)
+      (rest : AgainView) (found : Option Event) → s.travels ≡ Some Again → store.must_reopen ≡ false
+      → from ≡ place_of store → found ≡ next_of from s.again → found ≡ None → rest ≡ rest_at from s.again
+      → s' ≡ refused NothingAgain (record s { travels = None; again = rest }) → Travels d (Ok value) s s' store store
+  nothing_again value {s = s} store from rest found asked usable at next none_left left is =
+      stays_there value store usable (nothing asked
+      (ap (λ p. next_of p s.again) (sym at) ∙ sym next ∙ none_left)
+      (is ∙ ap (λ a. refused NothingAgain (record s { travels = None; again = a })) (left ∙ ap (λ p. rest_at p s.again) at))
+      refl)
+
+  module _ (s mid : Sitting) (old new : StoreView D) (asked : s.travels ≡ Some Again) (event : Event) (from : Place)
+      (rest : AgainView) (found : Option Event) (at : from ≡ place_of old) (next : found ≡ next_of from s.again)
+      (is_event : found ≡ Some event) (left : rest ≡ rest_at from s.again) where
+    there : next_of (place_of old) s.again ≡ Some event
+    there = ap (λ p. next_of p s.again) (sym at) ∙ sym next ∙ is_event
+
+    -- the sitting before it
+    same : record s { travels = None; again = rest } ≡ goes_again (place_of old) s
+    same = ap (λ a. record s { travels = None; again = a }) (left ∙ ap (λ p. rest_at p s.again) at)
+
+    -- the event is done again
+    pub goes_on : {T U : Type 0} (value : T) (x : U) {s' : Sitting} (to : Place) → to ≡ place_of new
+        → Takes d {T = U} (posted event (seat_of (record s { travels = None; again = rest }) old)) (Ok x) mid old new
+        → s' ≡ did_again event from to mid → Travels d (Ok value) s s' old new
+    goes_on value x to come takes is = record {
+      done = λ honest durable.
+          let done = takes.done honest durable in
+          record {
+            what = again event mid asked there (done.seat ∙ ap (λ t. posted event (seat_of t old)) same)
+                (is ∙ ap (λ p. did_again event p to mid) at ∙ ap (λ p. did_again event (place_of old) p mid) come);
+            any_moment = done.any_moment;
+            durable = done.durable;
+          };
+      stuck = tt;
+      usable = takes.usable;
+      faults = record {
+        rose = λ wrong. absurd (cc wrong);
+        calm = λ other. takes.faults.calm (λ wrong. absurd (cc wrong));
+        errors = tt;
+      };
+      device = takes.device;
+    }
+
+    -- it fails
+    pub goes_wrong : {T U : Type 0} (result : Result T Error) (error : Error) → result ≡ Err error
+        → Takes d {T = U} (posted event (seat_of (record s { travels = None; again = rest }) old)) (Err error) mid old new
+        → Travels d result s mid old new
+    goes_wrong {T = T} result error is takes = subst (λ r. Travels d r s mid old new) (sym is) (record {
+      done = tt;
+      stuck = λ honest durable. again event asked there
+          (subst (λ t. IsUndone d error (posted event (seat_of t old)) old new) same (takes.undone honest durable));
+      usable = tt;
+      faults = record {
+        rose = λ fault. takes.faults.rose (cc fault);
+        calm = λ fine. takes.faults.calm (λ fault. fine (cc fault));
+        errors = takes.faults.errors;
+      };
+      device = takes.device;
+    })

@@ -1,0 +1,13 @@
+//! A disk in memory that spells its calls, for a host that repeats them on a medium of its own.
+//!
+//! What is spelled are the writes and syncs that succeeded since it was last told to forget, in order. A host that has
+//! repeated a front of them has a medium as the disk was at that moment, and one that has repeated all of them has the
+//! disk as it is (`repeating_law`). So whatever is promised of what a crash leaves of this disk at any of its moments
+//! holds of a medium on which its calls are repeated, each after the one before.
+#![tactic(auto)]
+
+mod disk;
+mod laws;
+
+pub use disk::{RecordedDisk, SYNC_NUMBER};
+pub use laws::repeating_law;

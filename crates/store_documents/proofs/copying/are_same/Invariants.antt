@@ -1,0 +1,10 @@
+use Rattle.sector_disk.specs.Confined.{IsConfined}
+use Rattle.sector_disk.specs.Trail.{now, Nowhere}
+use Rattle.store_documents.specs.Copying.{HaveSame}
+use Rattle.store_documents.proofs.copying.are_same.Given as goal
+
+abbrev pub invariant-loop-n : goal.invariant-loop-n
+invariant-loop-n g l = (IsConfined g.D.Disk.size g.D.Disk.honest g.D.Disk.trail Nowhere l.fn.first l.first)
+    × (IsConfined g.E.Disk.size g.E.Disk.honest g.E.Disk.trail Nowhere l.fn.second l.second)
+    × (g.D.Disk.honest l.fn.first → g.E.Disk.honest l.fn.second
+    → HaveSame l.n (now (g.D.Disk.trail l.fn.first)).reads (now (g.E.Disk.trail l.fn.second)).reads)

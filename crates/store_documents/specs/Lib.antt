@@ -1,0 +1,4 @@
+pub mod Standings
+pub mod Exporting
+pub mod Examining
+pub mod Copying
