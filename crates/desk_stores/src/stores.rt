@@ -36,12 +36,14 @@ pub fn opened(rt: &HostRuntime, path: &str) -> Result<Store<FileDisk>, Trouble>
     }
 }
 
-/// A new store on a disk, whose desktop has a text with all commands.
+/// A new store on a disk, whose desktop has a text with all commands. Its journal is empty, so that nobody takes that
+/// desktop back.
 pub(crate) fn new_store<D: Disk + Drop>(rt: &HostRuntime, disk: D) -> Result<Store<D>, Error>
     ensures { IfOk result (λ store. store.must_reopen ≡ false) }
 {
     let mut store = opened_on(rt, formatted(disk)?)?;
     furnish(rt.alloc(), &mut store)?;
+    store.checkpoint()?;
     Ok(store)
 }
 
